@@ -7,5 +7,6 @@ pub mod Last
 pub mod Pool
 pub mod Calls
 pub mod Slots
+pub mod Stored
 pub mod Target
 pub mod Within

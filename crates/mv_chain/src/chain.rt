@@ -10,7 +10,7 @@ use crate::look::Look;
 use crate::pool::Pool;
 use crate::pruning::{clear_in, prune_in};
 use crate::slots::{Slots, is_idle_at, put_in, timestamp_at, value_at};
-use crate::version::{Version, value_bytes};
+use crate::version::{ValueBytes, Version};
 use std::alloc::AllocError;
 
 /// The versions of one key, ascending by timestamp, each with one read mark. They stand in the pool that the chain was
@@ -48,7 +48,7 @@ impl Chain {
         let mut slots = Slots::new(pool.alloc);
         let base = Version {
             timestamp: 0,
-            value: None,
+            value: ValueBytes::new(None),
             pending: false,
             mark: 0,
         };
@@ -160,18 +160,18 @@ impl Chain {
         &mut self,
         pool: &mut Pool,
         look: &Look,
-        value: Option<Vec<u8>>,
+        value: ValueBytes,
     ) -> Result<(), AllocError>
         ensures versions { OnOk result
-            (LeavesLooked (λ ts. installed ts (bytes_of value)) look.now pool.old self.old pool.new self.new) }
+            (LeavesLooked (λ ts. installed ts value) look.now pool.old self.old pool.new self.new) }
         ensures kept { IfLooked look.now pool.old self.old (λ ts. IsKept pool.new self.new) }
-        ensures stands { OnOk result (AddsLooked look.now (bytes_of value) pool.old self.old pool.new self.new) }
+        ensures stands { OnOk result (AddsLooked look.now value pool.old self.old pool.new self.new) }
         ensures err { OnErr result (Leaves (λ versions. versions) pool.old self.old pool.new self.new) }
         ensures others { LeavesOthers pool.old self.old pool.new self.new }
         ensures count { IsKept pool.old self.old → Counts pool.old self.old pool.new self.new }
-        ensures within { (n : ℕ) → IsWithin n pool.old → IsShort n (bytes_of value) → IsWithin n pool.new }
+        ensures within { (n : ℕ) → IsWithin n pool.old → IsShort n value → IsWithin n pool.new }
     {
-        install_in(pool, &mut self.slots, look, value_bytes(value))
+        install_in(pool, &mut self.slots, look, value)
     }
 
     /// Adds a branch's write, or replaces its own: `None` deletes the key. Where the write is late, or its
@@ -195,7 +195,7 @@ impl Chain {
         ensures within { (n : ℕ) → IsWithin n pool.old → IsShort n (bytes_of value) → IsWithin n pool.new }
     {
         let look = self.look(pool, ts);
-        self.install_at(pool, &look, value)
+        self.install_at(pool, &look, ValueBytes::new(value))
     }
 
     /// Decides the fate of a branch's write, also of one below the low water: it stays, or it goes with its

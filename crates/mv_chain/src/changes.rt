@@ -72,7 +72,7 @@ pub(crate) fn install_in(
     pool: &mut Pool,
     slots: &mut Slots,
     look: &Look,
-    value: Option<ValueBytes>,
+    value: ValueBytes,
 ) -> Result<(), AllocError>
     ensures versions { OnOk result
         (LeavesLookedAt (λ ts. installed ts value) look.now pool.old slots.old.items pool.new slots.new.items) }

@@ -15,7 +15,8 @@
 //!
 //! - `chain`: `Chain`, with every call on it
 //! - `look`: `Look`, what a search found; `found`: `Found`, the source of a read; `fate`: `Fate`, how a branch ended
-//! - `pool`: `Pool`; `version`: `Version`, what one branch left at a key, and `ValueBytes`, its bytes
+//! - `pool`: `Pool`; `version`: `Version`, what one branch left at a key, and `ValueBytes`, its bytes, its
+//!   own or others' (`SharedBytes`)
 //! - `finding`: the search; `changes`: how a read is marked, a write installed and settled; `pruning`: how versions are
 //!   dropped; `slots`: the one version at a slot of the pool, and `Slots`, those of a chain
 //! - `laws`: `others_stay`, that other chains stay; `idle_stands`, when a key may be forgotten; `worked_histories`,
@@ -23,7 +24,7 @@
 //!
 //! The definitions, in an order to read: `Accesses`, what a read sees and when a write is late; `Chain`, the versions,
 //! what changes them and `StandsFor`; `Look`; `Pool`; `Calls`, what a call leaves; `Last`, what is last committed;
-//! `Idle`, `Within`; `Rows`, worked rows. `Target` and `Slots` are of the private steps.
+//! `Idle`, `Within`; `Rows`, worked rows. `Stored`, `Target` and `Slots` are of the private steps.
 #![tactic(auto)]
 
 mod chain;

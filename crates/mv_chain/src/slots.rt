@@ -54,7 +54,7 @@ pub(crate) fn is_idle_at(pool: &Pool, slot: usize, low: u64) -> bool
     match pool.slab.get(slot) {
         Some(version) => {
             version.timestamp == 0
-                && version.value.is_none()
+                && version.value.is_absent()
                 && !version.pending
                 && version.mark <= low
         }
@@ -67,10 +67,7 @@ pub(crate) fn value_at(pool: &Pool, slot: usize) -> Option<&[u8]>
     ensures { option_map (λ v. v.now) result ≡ (version_at pool.now slot).value }
 {
     match pool.slab.get(slot) {
-        Some(version) => match &version.value {
-            Some(content) => Some(content.as_slice()),
-            None => None,
-        },
+        Some(version) => version.value.as_slice(),
         None => None,
     }
 }
@@ -87,7 +84,7 @@ pub(crate) fn raise(pool: &mut Pool, slot: usize, from: u64, reader: u64)
 }
 
 /// Replaces the value of a version.
-pub(crate) fn replace(pool: &mut Pool, slot: usize, value: Option<ValueBytes>)
+pub(crate) fn replace(pool: &mut Pool, slot: usize, value: ValueBytes)
     ensures { ChangesAt (λ (v : Version). record v { value = value }) slot pool.old pool.new }
 {
     if let Some(version) = pool.slab.get_mut(slot) {

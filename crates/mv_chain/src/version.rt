@@ -1,37 +1,100 @@
-ghost use Rattle.std.specs.Prelude.{◌≡◌, option_map};
+ghost use Rattle.std.specs.Prelude.{◌≡◌, take, drop, Some, IfSome, option_map};
+ghost use Rattle.mv_chain.specs.Stored.{is_deleted};
 
 use std::marker::Model;
+use xa_shared::SharedBytes;
 
-/// The bytes of a value, which contracts see as a list.
+/// Where the bytes of a value are.
+#[derive(Debug, Drop)]
+enum Stored {
+    /// Nowhere: the branch deleted the key.
+    Absent,
+    /// Here.
+    Own(Vec<u8>),
+    /// In others, of which they are so many from this one on.
+    Within {
+        bytes: SharedBytes,
+        start: u32,
+        len: u32,
+    },
+}
+
+/// What a key has, which contracts see as the bytes of a value, or as none where the key is absent.
 #[derive(Debug, Drop)]
 pub struct ValueBytes {
-    bytes: Vec<u8>,
+    stored: Stored,
 }
 
 impl Model for ValueBytes {
-    ghost use Rattle.std.specs.Prelude.{List, ℕ};
+    ghost use Rattle.mv_chain.specs.Stored.{stored_bytes};
+    ghost use Rattle.std.specs.Prelude.{List, ℕ, Option};
 
-    ghost Value = { List ℕ };
+    ghost Value = { Option (List ℕ) };
 
-    ghost view = { λ c. c.bytes.items };
+    ghost view = { λ v. stored_bytes v.stored };
 }
 
 impl ValueBytes {
-    pub(crate) fn as_slice(&self) -> &[u8]
-        ensures { result.now ≡ self.now }
+    /// The bytes of a vector, which are moved. Takes no memory.
+    pub fn new(value: Option<Vec<u8>>) -> ValueBytes
+        ensures { result ≡ option_map (λ v. v.items) value }
     {
-        self.bytes.as_slice()
+        let stored = match value {
+            Some(bytes) => Stored::Own(bytes),
+            None => Stored::Absent,
+        };
+        ValueBytes { stored }
+    }
+
+    /// Bytes that stand in these from an index on, where they are left. None where they don't stand there, or there are
+    /// none. Takes no memory.
+    pub fn within(shared: &SharedBytes, start: usize, bytes: &[u8]) -> Option<ValueBytes>
+        ensures { IfSome result (λ v. v ≡ Some bytes.now) }
+    {
+        let first = u32::try_from(start).ok()?;
+        let len = u32::try_from(bytes.len()).ok()?;
+        if bytes.is_empty() || part(shared.as_slice(), start, bytes.len()) != bytes {
+            return None;
+        }
+        Some(ValueBytes {
+            stored: Stored::Within {
+                bytes: shared.another().ok()?,
+                start: first,
+                len,
+            },
+        })
+    }
+
+    /// Whether there are none.
+    pub(crate) fn is_absent(&self) -> bool
+        ensures { result ≡ is_deleted self.now }
+    {
+        match &self.stored {
+            Stored::Absent => true,
+            Stored::Own(_) | Stored::Within { .. } => false,
+        }
+    }
+
+    /// The bytes.
+    pub(crate) fn as_slice(&self) -> Option<&[u8]>
+        ensures { option_map (λ v. v.now) result ≡ self.now }
+    {
+        match &self.stored {
+            Stored::Absent => None,
+            Stored::Own(bytes) => Some(bytes.as_slice()),
+            Stored::Within { bytes, start, len } => {
+                Some(part(bytes.as_slice(), *start as usize, *len as usize))
+            }
+        }
     }
 }
 
-/// The bytes of a value, or of none where the key is absent.
-pub(crate) fn value_bytes(value: Option<Vec<u8>>) -> Option<ValueBytes>
-    ensures { result ≡ option_map (λ v. v.items) value }
+/// So many bytes from an index on, or as many as there are.
+fn part(bytes: &[u8], start: usize, len: usize) -> &[u8]
+    ensures { result.now ≡ take len (drop start bytes.now) }
 {
-    match value {
-        Some(bytes) => Some(ValueBytes { bytes }),
-        None => None,
-    }
+    let from = &bytes[start.min(bytes.len())..];
+    &from[..len.min(from.len())]
 }
 
 /// What one branch left at a key.
@@ -39,8 +102,8 @@ pub(crate) fn value_bytes(value: Option<Vec<u8>>) -> Option<ValueBytes>
 pub struct Version {
     /// The branch's timestamp.
     pub timestamp: u64,
-    /// What the key has, or `None` where the branch deleted it.
-    pub value: Option<ValueBytes>,
+    /// What the key has, or none where the branch deleted it.
+    pub value: ValueBytes,
     /// Whether the branch is still undecided.
     pub pending: bool,
     /// The greatest timestamp that has read this version, or 0.

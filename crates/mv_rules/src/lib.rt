@@ -6,7 +6,8 @@
 //! says which histories a [`Records`] stands for, and each call's clauses hold for every one of them.
 //!
 //! - `records`: `Records`, with its calls: get, put, settle, and the low water, which gives back what no read will see;
-//!   `rebuilding`: how they are built anew of what lasted; `committed`: what of them lasts
+//!   `rebuilding`: how they are built anew of what lasted, `place`: where a value stands in its record's body;
+//!   `committed`: what of them lasts
 //! - `answers`: `Got` and `Put`, what a get and a put answer
 //! - `own`: `Own`, a key of a branch, and the notes of what each branch has written and read; `own_key`: `OwnKey`, the
 //!   copy of a key there; `writes`: what a branch leaves, key by key
@@ -21,6 +22,7 @@ mod committed;
 mod laws;
 mod own;
 mod own_key;
+mod place;
 mod rebuilding;
 mod records;
 mod steps;

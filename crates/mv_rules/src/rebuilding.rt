@@ -1,23 +1,23 @@
-ghost use Rattle.std.specs.Prelude.{◌≡◌, ℕ, ◌+◌, [], ◌∷◌, Some, false, IsSome, IfOk, OnOk};
+ghost use Rattle.std.specs.Prelude.{◌≡◌, ℕ, ◌+◌, [], ◌∷◌, Some, None, false, length, IsSome, IfOk, OnOk};
 ghost use Rattle.slab.specs.Slab.{get as chain_in};
 ghost use Rattle.mv_chain.specs.Accesses.{wrote, is_late};
-ghost use Rattle.mv_chain.specs.Calls.{bytes_of};
 ghost use Rattle.mv_chain.specs.Chain.{fresh};
 ghost use Rattle.mv_chain.specs.Within.{IsShort};
 
 use crate::own::Own;
 use crate::own_key::OwnKey;
+use crate::place::Place;
 use crate::records::Records;
 use crate::steps::add;
-use crate::writes::taken;
-use mv_chain::Fate;
+use mv_chain::{Fate, ValueBytes};
 use std::alloc::AllocError;
 use xa_codes::Write;
+use xa_shared::SharedBytes;
 
 /// How records are built anew of what lasted.
 impl Records {
     ghost use Rattle.mv_rules.specs.Calls.{IfStood, IfUnindexed, IfUnsettled};
-    ghost use Rattle.mv_rules.specs.Noted.{Puts, Restores};
+    ghost use Rattle.mv_rules.specs.Noted.{Puts, PutsAll, Restores};
     ghost use Rattle.mv_rules.specs.Records.{StandsFor, index_of, own_of};
     ghost use Rattle.mv_rules.specs.Restoring.{with_branch, IsRestorable};
     ghost use Rattle.mv_rules.specs.Tidy.{KeepsBut};
@@ -42,12 +42,12 @@ impl Records {
     }
 
     /// Adds a branch's write, however many keys it has written.
-    fn put_back(&mut self, ts: u64, key: &[u8], value: Option<Vec<u8>>) -> Result<(), AllocError>
+    fn put_back(&mut self, ts: u64, key: &[u8], value: ValueBytes) -> Result<(), AllocError>
         ensures stands { OnOk result (IfUnsettled ts self.old (λ h. is_late key.now ts h.reads ≡ false
-            → StandsFor (record h { writes = wrote ts key.now (bytes_of value) ∷ h.writes }) self.new)) }
+            → StandsFor (record h { writes = wrote ts key.now value ∷ h.writes }) self.new)) }
         ensures puts { OnOk result
-            (IfUnsettled ts self.old (λ h. Puts ts key.now (bytes_of value) self.old self.new)) }
-        ensures within { (n : ℕ) → IsWithin n self.old → IsShort n (bytes_of value) → IsWithin n self.new }
+            (IfUnsettled ts self.old (λ h. Puts ts key.now value self.old self.new)) }
+        ensures within { (n : ℕ) → IsWithin n self.old → IsShort n value → IsWithin n self.new }
         ensures keys { (n : ℕ) → AreKeys n (own_of ts self.old) → IsKey key.now
             → AreKeys (n + 1) (own_of ts self.new) }
         ensures others { KeepsOwnBut ts self.old self.new }
@@ -73,9 +73,32 @@ impl Records {
         )
     }
 
+    /// Adds a branch's writes, undecided. They are let go by the caller, so that what takes memory here isn't strewn
+    /// among what they leave.
+    fn put_all(
+        &mut self,
+        ts: u64,
+        writes: &[Write],
+        body: Option<&SharedBytes>,
+    ) -> Result<(), AllocError>
+        ensures stands { OnOk result (IfStood self.old (λ h. IsRestorable ts h
+            → StandsFor (record h { writes = with_branch ts None writes.now h.writes }) self.new)) }
+        ensures puts { OnOk result (IfStood self.old (λ h. IsRestorable ts h → PutsAll ts writes.now self.old self.new)) }
+        ensures within { (n : ℕ) → IsWithin n self.old → AreShort n writes.now → IsWithin n self.new }
+        ensures keys { OnOk result (own_of ts self.old ≡ [] → HaveKeys writes.now
+            → AreKeys (length writes.now) (own_of ts self.new)) }
+        ensures others { KeepsOwnBut ts self.old self.new }
+    {
+        let mut place = Place::of_last(body, writes);
+        for write in writes {
+            self.put_back(ts, write.key.as_slice(), place.left(self.alloc, write)?)?;
+        }
+        Ok(())
+    }
+
     /// Adds the writes of a branch that lasted, as the log was read, and decides its fate where that is known:
-    /// `None` leaves it undecided. Values are taken over and not copied. Nobody may have read, and each branch is added
-    /// once.
+    /// `None` leaves it undecided. Values that stand in the record's body, of which
+    /// the writes are the end, are left there, and others copied. Nobody may have read, and each branch is added once.
     ///
     /// # Errors
     /// Want of memory. Some of the writes are then missing, and the records stand for nothing: drop them.
@@ -84,6 +107,7 @@ impl Records {
         ts: u64,
         writes: Vec<Write>,
         fate: Option<Fate>,
+        body: Option<&SharedBytes>,
     ) -> Result<(), AllocError>
         ensures stands { OnOk result (IfStood self.old (λ h. IsRestorable ts h
             → StandsFor (record h { writes = with_branch ts fate writes.items h.writes }) self.new)) }
@@ -95,13 +119,11 @@ impl Records {
         ensures others { KeepsOwnBut ts self.old self.new }
         ensures decided { OnOk result (IsSome fate → own_of ts self.new ≡ []) }
     {
-        for write in writes {
-            let Write { key, value } = write;
-            self.put_back(ts, key.as_slice(), taken(value))?;
-        }
-        if let Some(decided) = fate {
-            self.settle(ts, decided);
-        }
+        self.put_all(ts, &writes, body)?;
+        let Some(decided) = fate else {
+            return Ok(());
+        };
+        self.settle(ts, decided);
         Ok(())
     }
 }

@@ -12,7 +12,7 @@ use crate::own_key::OwnKey;
 use crate::steps::{add, read, settle_all};
 use crate::verdict::{Verdict, judge};
 use crate::writes::{collect, listed};
-use mv_chain::{Chain, Fate, Pool};
+use mv_chain::{Chain, Fate, Pool, ValueBytes};
 use slab::Slab;
 use std::alloc::{AllocError, Global};
 use std::collections::BTreeMap;
@@ -166,16 +166,16 @@ impl Records {
     }
 
     /// Adds a branch's write of the key, whose chain stands at `i`.
-    fn put_at(&mut self, i: usize, ts: u64, key: &[u8], value: Option<Vec<u8>>) -> Put
+    fn put_at(&mut self, i: usize, ts: u64, key: &[u8], value: ValueBytes) -> Put
         requires there { IsSome (chain_in self.old.chains i) }
         ensures answer { IfIndexed key.now i self.old
             (λ h. IsUnsettled ts h.low h.writes → AnswersPut result ts key.now h) }
         ensures stands { IfIndexed key.now i self.old
-            (λ h. IsUnsettled ts h.low h.writes → StandsFor (after_put result ts key.now (bytes_of value) h) self.new) }
+            (λ h. IsUnsettled ts h.low h.writes → StandsFor (after_put result ts key.now value h) self.new) }
         ensures same { result ≢ Put.Done → IfIndexed key.now i self.old (λ h. KeepsAll self.old self.new) }
         ensures puts { result ≡ Put.Done → IfIndexed key.now i self.old
-            (λ h. IsUnsettled ts h.low h.writes → Puts ts key.now (bytes_of value) self.old self.new) }
-        ensures within { (n : ℕ) → IsWithin n self.old → IsShort n (bytes_of value) → IsWithin n self.new }
+            (λ h. IsUnsettled ts h.low h.writes → Puts ts key.now value self.old self.new) }
+        ensures within { (n : ℕ) → IsWithin n self.old → IsShort n value → IsWithin n self.new }
         ensures keys { HasKeys self.old → IsKey key.now → HasKeys self.new }
     {
         let count = count(&self.notes, ts);
@@ -211,16 +211,15 @@ impl Records {
         }
     }
 
-    /// Adds a branch's write, or replaces its own: `None` deletes the key. A branch writes at most `MOST_WRITES` keys.
-    /// Limit, Late and want of memory change nothing.
-    pub fn put(&mut self, ts: u64, key: &[u8], value: Option<Vec<u8>>) -> Put
+    /// As `put`.
+    fn put_value(&mut self, ts: u64, key: &[u8], value: ValueBytes) -> Put
         ensures answer { IfUnsettled ts self.old (AnswersPut result ts key.now) }
         ensures stands { IfUnsettled ts self.old
-            (λ h. StandsFor (after_put result ts key.now (bytes_of value) h) self.new) }
+            (λ h. StandsFor (after_put result ts key.now value h) self.new) }
         ensures same { result ≢ Put.Done → IfUnsettled ts self.old (λ h. KeepsAll self.old self.new) }
         ensures puts { result ≡ Put.Done
-            → IfUnsettled ts self.old (λ h. Puts ts key.now (bytes_of value) self.old self.new) }
-        ensures within { (n : ℕ) → IsWithin n self.old → IsShort n (bytes_of value) → IsWithin n self.new }
+            → IfUnsettled ts self.old (λ h. Puts ts key.now value self.old self.new) }
+        ensures within { (n : ℕ) → IsWithin n self.old → IsShort n value → IsWithin n self.new }
         ensures keys { HasKeys self.old → IsKey key.now → HasKeys self.new }
     {
         if let Some(i) = self.find(key) {
@@ -235,6 +234,21 @@ impl Records {
         }
         self.forget(key, 0);
         answer
+    }
+
+    /// Adds a branch's write, or replaces its own: `None` deletes the key. A branch writes at most `MOST_WRITES` keys.
+    /// Limit, Late and want of memory change nothing.
+    pub fn put(&mut self, ts: u64, key: &[u8], value: Option<Vec<u8>>) -> Put
+        ensures answer { IfUnsettled ts self.old (AnswersPut result ts key.now) }
+        ensures stands { IfUnsettled ts self.old
+            (λ h. StandsFor (after_put result ts key.now (bytes_of value) h) self.new) }
+        ensures same { result ≢ Put.Done → IfUnsettled ts self.old (λ h. KeepsAll self.old self.new) }
+        ensures puts { result ≡ Put.Done
+            → IfUnsettled ts self.old (λ h. Puts ts key.now (bytes_of value) self.old self.new) }
+        ensures within { (n : ℕ) → IsWithin n self.old → IsShort n (bytes_of value) → IsWithin n self.new }
+        ensures keys { HasKeys self.old → IsKey key.now → HasKeys self.new }
+    {
+        self.put_value(ts, key, ValueBytes::new(value))
     }
 
     /// Decides the fate of a branch, also of one below the low water: its writes stay, or go. Takes no memory.

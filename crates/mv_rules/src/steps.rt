@@ -1,5 +1,5 @@
 ghost use Rattle.std.specs.Prelude.{◌≡◌, ◌≢◌, ℕ, [], ◌∷◌, ◌++◌, false, true, OnOk, OnErr};
-ghost use Rattle.mv_chain.specs.Calls.{sees, bytes_of, IfLooked, Leaves, LeavesLooked};
+ghost use Rattle.mv_chain.specs.Calls.{sees, IfLooked, Leaves, LeavesLooked};
 ghost use Rattle.mv_chain.specs.Chain.{marked_at, installed};
 ghost use Rattle.mv_chain.specs.Pool.{versions_of, IsKept, LeavesOthers};
 ghost use Rattle.mv_chain.specs.Within.{IsShort, IsWithin, KeepsWithin};
@@ -14,7 +14,7 @@ ghost use Rattle.mv_rules.specs.Within.{IsShortAnswer};
 use crate::answers::Got;
 use crate::own::{Notes, Own, note, note_read, unnote};
 use crate::own_key::OwnKey;
-use mv_chain::{Chain, Fate, Look, Pool};
+use mv_chain::{Chain, Fate, Look, Pool, ValueBytes};
 use slab::Slab;
 use std::alloc::{AllocError, Global};
 use std::collections::BTreeMap;
@@ -91,12 +91,12 @@ pub(crate) fn add(
     notes: &mut BTreeMap<u64, Notes>,
     look: &Look,
     own: Own,
-    value: Option<Vec<u8>>,
+    value: ValueBytes,
 ) -> Result<(), AllocError>
     ensures ok { OnOk result (IfLooked look.now pool.old chain.old
-        (λ ts. IsWritten ts (bytes_of value) (versions_of pool.old chain.old) (versions_of pool.new chain.new))) }
+        (λ ts. IsWritten ts value (versions_of pool.old chain.old) (versions_of pool.new chain.new))) }
     ensures versions { OnOk result
-        (LeavesLooked (λ ts. installed ts (bytes_of value)) look.now pool.old chain.old pool.new chain.new) }
+        (LeavesLooked (λ ts. installed ts value) look.now pool.old chain.old pool.new chain.new) }
     ensures lists { OnOk result (AddsWritten look.now.at own notes.old notes.new) }
     ensures noted { OnOk result
         (OwnBecomes look.now.at (own_in look.now.at notes.old ++ own ∷ []) notes.old notes.new) }
@@ -104,7 +104,7 @@ pub(crate) fn add(
     ensures unnoted { OnErr result (OwnStays notes.old notes.new) }
     ensures kept { IfLooked look.now pool.old chain.old (λ ts. IsKept pool.new chain.new) }
     ensures others { LeavesOthers pool.old chain.old pool.new chain.new }
-    ensures within { (n : ℕ) → IsWithin n pool.old → IsShort n (bytes_of value) → IsWithin n pool.new }
+    ensures within { (n : ℕ) → IsWithin n pool.old → IsShort n value → IsWithin n pool.new }
 {
     note(alloc, notes, look.at, own)?;
     match chain.install_at(pool, look, value) {

@@ -2,7 +2,7 @@
 use Rattle.std.proofs.Common.{◌≡◌, ℕ, zero, suc, ◌+◌, ◌-◌, ◌≤◌, ◌<◌, List, [], ◌∷◌, ◌++◌, length, take, drop, replicate, get_or, refl, sym, ◌∙◌, ap, subst, arith, append_assoc, length-append, length-drop, ⊎_elim, inl, inr, Vec, Global}
 use Rattle.std.specs.List.{AllByRecursion}
 use Rattle.std.proofs.Math.Seq.{drop-append-add}
-use Rattle.std.proofs.lemmas.List.{append-nil, drop-append-le, drop-drop, length-take-le, take_more, take-map, map-append, take_all, length-take, length-map, get_or-take, take_at, replicate-append-replicate}
+use Rattle.std.proofs.lemmas.List.{append-nil, drop-append-le, drop-drop, length-take-le, take_more, take-map, map-append, take_all, length-take, get_or-take, take_at, replicate-append-replicate}
 use Rattle.xa_disk.specs.Disk.{put, Torn, Passes}
 use Rattle.xa_log.specs.declared.format.Format.{Format}
 use Rattle.xa_log.specs.Buffer.{EachFits}
@@ -114,18 +114,30 @@ body_ok P (b ∷ bodies) zero v lt is all = subst (λ (x : Vec ℕ Global). P x.
 body_ok P (b ∷ bodies) (suc i) v lt is all = body_ok P bodies i v (omega arith) is all.1
 body_ok P [] i v lt is all = absurd (omega arith)
 
+-- The same of bodies that several have.
+
+next_of : (bodies : List (List ℕ)) (i : ℕ) (v : List ℕ) → i < length bodies → v ≡ get_or bodies i v
+    → take (i + 1) bodies ≡ take i bodies ++ v ∷ []
+next_of bodies i v lt is = take_more bodies i v lt ∙ ap (λ (x : List ℕ). take i bodies ++ x ∷ []) (sym is)
+
+ok_at : (P : List ℕ → Type 0) (bodies : List (List ℕ)) (i : ℕ) (v : List ℕ) → i < length bodies → v ≡ get_or bodies i v
+    → AllByRecursion P bodies → P v
+ok_at P (b ∷ bodies) zero v lt is all = subst (λ (x : List ℕ). P x) (sym is) all.0
+ok_at P (b ∷ bodies) (suc i) v lt is all = ok_at P bodies i v (omega arith) is all.1
+ok_at P [] i v lt is all = absurd (omega arith)
+
 -- a body of those that fit fits
-pub room_in : (room : ℕ) (bodies : List (Vec ℕ Global)) (n i : ℕ) (v : Vec ℕ Global) (body : List ℕ) → i < length (take n bodies) → v ≡ get_or (take n bodies) i v → body ≡ v.items
-    → EachFits room (bodies_of bodies) → 41 + length body ≤ room
+pub room_in : (room : ℕ) (bodies : List (List ℕ)) (n i : ℕ) (v : List ℕ) (body : List ℕ) → i < length (take n bodies) → v ≡ get_or (take n bodies) i v → body ≡ v
+    → EachFits room bodies → 41 + length body ≤ room
 room_in room bodies n i v body lt is same all =
     let few : i < n = omega (arith, lt, length-take n bodies) in
     subst (λ (b : List ℕ). 41 + length b ≤ room) (sym same)
-    (body_ok (λ b. 41 + length b ≤ room) bodies i v (omega (arith, lt, length-take n bodies)) (is ∙ get_or-take n bodies i v few) all)
+    (ok_at (λ b. 41 + length b ≤ room) bodies i v (omega (arith, lt, length-take n bodies)) (is ∙ get_or-take n bodies i v few) all)
 
-pub room_last : (room : ℕ) (bodies : List (Vec ℕ Global)) (v : Vec ℕ Global) (body : List ℕ) → 1 ≤ length bodies → v ≡ get_or bodies (length bodies - 1) v → body ≡ v.items
-    → EachFits room (bodies_of bodies) → 41 + length body ≤ room
+pub room_last : (room : ℕ) (bodies : List (List ℕ)) (v : List ℕ) (body : List ℕ) → 1 ≤ length bodies → v ≡ get_or bodies (length bodies - 1) v → body ≡ v
+    → EachFits room bodies → 41 + length body ≤ room
 room_last room bodies v body some is same all =
-    subst (λ (b : List ℕ). 41 + length b ≤ room) (sym same) (body_ok (λ b. 41 + length b ≤ room) bodies (length bodies - 1) v (omega (arith, some)) is all)
+    subst (λ (b : List ℕ). 41 + length b ≤ room) (sym same) (ok_at (λ b. 41 + length b ≤ room) bodies (length bodies - 1) v (omega (arith, some)) is all)
 
 -- where one record more fits
 pub record Next (format : Format) (bodies : List (List ℕ)) (done : List (List ℕ)) (body : List ℕ) (at : ℕ) : Type 0 where
@@ -160,25 +172,25 @@ pub record Item (format : Format) (bodies : List (List ℕ)) (i : ℕ) (body : L
   pub ok : IsBody format body
   pub offset : Next format bodies (take i bodies) body at
 
-pub item : (format : Format) (bodies : List (Vec ℕ Global)) (i : ℕ) (v : Vec ℕ Global) (body : List ℕ) (at : ℕ) → i < length bodies
-    → v ≡ get_or bodies i v → body ≡ v.items → AllByRecursion (IsBody format) (bodies_of bodies) → at ≡ length (text format (take i (bodies_of bodies)))
-    → Item format (bodies_of bodies) i body at
+pub item : (format : Format) (bodies : List (List ℕ)) (i : ℕ) (v : List ℕ) (body : List ℕ) (at : ℕ) → i < length bodies
+    → v ≡ get_or bodies i v → body ≡ v → AllByRecursion (IsBody format) bodies → at ≡ length (text format (take i bodies))
+    → Item format bodies i body at
 item format bodies i v body at lt is same all here =
-    let n : take (i + 1) (bodies_of bodies) ≡ take i (bodies_of bodies) ++ body ∷ [] =
-    next_body bodies i v lt is ∙ ap (λ (l : List ℕ). take i (bodies_of bodies) ++ l ∷ []) (sym same) in
-    record { is = n; ok = subst (IsBody format) (sym same) (body_ok (IsBody format) bodies i v lt is all); offset = next format (bodies_of bodies) i body at n here }
+    let n : take (i + 1) bodies ≡ take i bodies ++ body ∷ [] =
+    next_of bodies i v lt is ∙ ap (λ (l : List ℕ). take i bodies ++ l ∷ []) (sym same) in
+    record { is = n; ok = subst (IsBody format) (sym same) (ok_at (IsBody format) bodies i v lt is all); offset = next format bodies i body at n here }
 
-pub item_in : (format : Format) (bodies : List (Vec ℕ Global)) (n i : ℕ) (v : Vec ℕ Global) (body : List ℕ) (at : ℕ) → i < length (take n bodies)
-    → v ≡ get_or (take n bodies) i v → body ≡ v.items → AllByRecursion (IsBody format) (bodies_of bodies)
-    → at ≡ length (text format (take i (bodies_of bodies))) → Item format (bodies_of bodies) i body at
+pub item_in : (format : Format) (bodies : List (List ℕ)) (n i : ℕ) (v : List ℕ) (body : List ℕ) (at : ℕ) → i < length (take n bodies)
+    → v ≡ get_or (take n bodies) i v → body ≡ v → AllByRecursion (IsBody format) bodies
+    → at ≡ length (text format (take i bodies)) → Item format bodies i body at
 item_in format bodies n i v body at lt is same all here =
     let few : i < n = omega (arith, lt, length-take n bodies) in
     item format bodies i v body at (omega (arith, lt, length-take n bodies)) (is ∙ get_or-take n bodies i v few) same all here
 
-pub item_last : (format : Format) (bodies : List (Vec ℕ Global)) (i : ℕ) (v : Vec ℕ Global) (body : List ℕ) (at : ℕ) → 1 ≤ length bodies
+pub item_last : (format : Format) (bodies : List (List ℕ)) (i : ℕ) (v : List ℕ) (body : List ℕ) (at : ℕ) → 1 ≤ length bodies
     → length (take (length bodies - 1) bodies) ≤ i → i ≤ length (take (length bodies - 1) bodies) → v ≡ get_or bodies (length bodies - 1) v
-    → body ≡ v.items
-    → AllByRecursion (IsBody format) (bodies_of bodies) → at ≡ length (text format (take i (bodies_of bodies))) → Item format (bodies_of bodies) i body at
+    → body ≡ v
+    → AllByRecursion (IsBody format) bodies → at ≡ length (text format (take i bodies)) → Item format bodies i body at
 item_last format bodies i v body at some low high is same all here =
     let n : length bodies - 1 ≡ i = omega (arith, low, high, length-take (length bodies - 1) bodies) in
     item format bodies i v body at (omega (arith, n, some)) (is ∙ ap (λ (k : ℕ). get_or bodies k v) n) same all here
@@ -225,23 +237,23 @@ pub end_step : (format : Format) (bodies : List (List ℕ)) (i : ℕ) (body : Li
 end_step format bodies i body at it = it.offset.more ∙ ap (λ (l : List (List ℕ)). length (text format l)) (sym it.is)
 
 -- the last of them
-pub last_all : (bodies : List (Vec ℕ Global)) (i : ℕ) → 1 ≤ length bodies → length (take (length bodies - 1) bodies) ≤ i
-    → i ≤ length (take (length bodies - 1) bodies) → take (i + 1) (bodies_of bodies) ≡ bodies_of bodies
-last_all bodies i some low high = take_all (i + 1) (bodies_of bodies)
-    (omega (arith, low, some, length-take (length bodies - 1) bodies, length-map bodies (λ (b : Vec ℕ Global). b.items)))
+pub last_all : (bodies : List (List ℕ)) (i : ℕ) → 1 ≤ length bodies → length (take (length bodies - 1) bodies) ≤ i
+    → i ≤ length (take (length bodies - 1) bodies) → take (i + 1) bodies ≡ bodies
+last_all bodies i some low high = take_all (i + 1) bodies
+    (omega (arith, low, some, length-take (length bodies - 1) bodies))
 
-pub first_len : (bodies : List (Vec ℕ Global)) (v : Vec ℕ Global) → 1 ≤ length bodies → v ≡ get_or bodies 0 v
-    → first_length (bodies_of bodies) ≡ length v.items
+pub first_len : (bodies : List (List ℕ)) (v : List ℕ) → 1 ≤ length bodies → v ≡ get_or bodies 0 v
+    → first_length bodies ≡ length v
 first_len [] v some is = absurd (omega arith)
-first_len (b ∷ bodies) v some is = ap (λ (x : Vec ℕ Global). length x.items) (sym is)
+first_len (b ∷ bodies) v some is = ap (λ (x : List ℕ). length x) (sym is)
 
 -- one body less that fits
-pub longer : (format : Format) (bodies : List (Vec ℕ Global)) (i : ℕ) (v : Vec ℕ Global) → i < length bodies → v ≡ get_or bodies i v
-    → Next format (bodies_of bodies) (take i (bodies_of bodies)) v.items
-    (length (text format (take i (bodies_of bodies)))) ×
-    (length (text format (take (i + 1) (bodies_of bodies))) ≡ length (text format (take i (bodies_of bodies))) + (36 + length v.items))
+pub longer : (format : Format) (bodies : List (List ℕ)) (i : ℕ) (v : List ℕ) → i < length bodies → v ≡ get_or bodies i v
+    → Next format bodies (take i bodies) v
+    (length (text format (take i bodies))) ×
+    (length (text format (take (i + 1) bodies)) ≡ length (text format (take i bodies)) + (36 + length v))
 longer format bodies i v lt is =
-    let n = next_body bodies i v lt is in
-    let it : Next format (bodies_of bodies) (take i (bodies_of bodies)) v.items (length (text format (take i (bodies_of bodies)))) =
-    next format (bodies_of bodies) i v.items (length (text format (take i (bodies_of bodies)))) n refl in
+    let n = next_of bodies i v lt is in
+    let it : Next format bodies (take i bodies) v (length (text format (take i bodies))) =
+    next format bodies i v (length (text format (take i bodies))) n refl in
     (it, ap (λ (l : List (List ℕ)). length (text format l)) n ∙ sym it.more)

@@ -7,7 +7,6 @@ ghost use Rattle.xa_disk.specs.Time.{TimePasses, LeavesOnly};
 ghost use Rattle.xa_disk.specs.Counts.{with_write};
 ghost use Rattle.xa_log.specs.declared.format.Format.{Format};
 ghost use Rattle.xa_log.specs.Chain.{start, preamble, last, digest, text, behind_text, IsBody};
-ghost use Rattle.xa_log.specs.Reading.{bodies_of};
 ghost use Rattle.xa_log.specs.Answers.{PutBecame, FailedPut, HasCause};
 ghost use Rattle.xa_log.specs.Buffer.{EachFits};
 ghost use Rattle.xa_log.specs.Calls.{PutCalls, RecordsCalls, AppendCalls, CheckpointCalls};
@@ -19,6 +18,7 @@ use crate::format::{Format, PREAMBLE_BYTES};
 use crate::record::{clear, encode};
 use xa_disk::{Disk, DiskFault};
 use xa_limits::{AROUND_BODY, AROUND_CLOSED, DIGEST_BYTES, FIRST_OFFSET, LENGTH_BYTES, MOST_BODY};
+use xa_shared::SharedBytes;
 
 /// Bytes of zeros that a checkpoint writes behind its last record, where the limit leaves room: the closing length, and
 /// the first byte of what would be a body. What stood there before, of an earlier checkpoint that was refused, chains
@@ -97,28 +97,28 @@ pub(crate) fn put_records<D: Disk>(
     disk: &mut D,
     format: Format,
     buffer: &mut [u8],
-    bodies: &[Vec<u8>],
+    bodies: &[SharedBytes],
     more: usize,
 ) -> Result<[u8; DIGEST_BYTES], DiskFault>
-    requires room { EachFits (length buffer.old) (bodies_of bodies.now) }
+    requires room { EachFits (length buffer.old) bodies.now }
     requires some { 1 ≤ length bodies.now }
-    requires sizes { AllByRecursion (IsBody format) (bodies_of bodies.now) }
+    requires sizes { AllByRecursion (IsBody format) bodies.now }
     requires few { LENGTH_BYTES + more ≤ CLEARED_BYTES }
-    requires fits { PREAMBLE_BYTES + (records_bytes format (bodies_of bodies.now) + more) < 2 ^ 64 }
-    ensures digest { IfOk result (λ d. d ≡ last (start format) (bodies_of bodies.now)) }
+    requires fits { PREAMBLE_BYTES + (records_bytes format bodies.now + more) < 2 ^ 64 }
+    ensures digest { IfOk result (λ d. d ≡ last (start format) bodies.now) }
     ensures written { D.honest → PREAMBLE_BYTES ≤ length (D.seen disk.old)
         → OnOk result
         (D.seen disk.new
-        ≡ put (D.seen disk.old) PREAMBLE_BYTES (behind_front format (bodies_of bodies.now) ++ replicate more 0)) }
+        ≡ put (D.seen disk.old) PREAMBLE_BYTES (behind_front format bodies.now ++ replicate more 0)) }
     ensures durable { D.honest → OnOk result (Only (D.seen disk.new) (D.may_leave disk.new)) }
     ensures torn { D.honest
-        → Torn PREAMBLE_BYTES (records_bytes format (bodies_of bodies.now) + more) (D.seen disk.old) (D.seen disk.new) }
+        → Torn PREAMBLE_BYTES (records_bytes format bodies.now + more) (D.seen disk.old) (D.seen disk.new) }
     // Whichever image is left: nothing.
-    ensures any_moment { D.honest → (most : ℕ) → PREAMBLE_BYTES + (records_bytes format (bodies_of bodies.now) + more) ≤ most
+    ensures any_moment { D.honest → (most : ℕ) → PREAMBLE_BYTES + (records_bytes format bodies.now + more) ≤ most
         → LeavesNone most format (D.seen disk.old) → Only (D.seen disk.old) (D.may_leave disk.old)
         → LeavesOnly D.Disk disk.old disk.new (LeavesNone most format) }
     ensures time { D.honest
-        → TimePasses D.Disk (Torn PREAMBLE_BYTES (records_bytes format (bodies_of bodies.now) + more)) disk.old disk.new }
+        → TimePasses D.Disk (Torn PREAMBLE_BYTES (records_bytes format bodies.now + more)) disk.old disk.new }
     ensures count { CountsFault result (D.failures disk.old) (D.failures disk.new) }
     ensures calls { RecordsCalls result (length bodies.now) (D.counts disk.old) (D.counts disk.new) }
 {
@@ -126,7 +126,7 @@ pub(crate) fn put_records<D: Disk>(
     let mut end = FIRST_OFFSET;
     let mut digest = format.first_digest();
     for body in &bodies[..most] {
-        digest = put_record(disk, end, &digest, buffer, body, 0)?;
+        digest = put_record(disk, end, &digest, buffer, body.as_slice(), 0)?;
         end += AROUND_BODY as u64 + body.len() as u64;
     }
     let digest = put_record(
@@ -134,7 +134,7 @@ pub(crate) fn put_records<D: Disk>(
         end,
         &digest,
         buffer,
-        &bodies[most],
+        bodies[most].as_slice(),
         LENGTH_BYTES + more,
     )?;
     disk.sync()?;
@@ -167,28 +167,28 @@ pub(crate) fn checkpoint_on<D: Disk>(
     disk: &mut D,
     format: Format,
     buffer: &mut [u8],
-    bodies: &[Vec<u8>],
+    bodies: &[SharedBytes],
     more: usize,
 ) -> (Appended, [u8; DIGEST_BYTES])
-    requires room { EachFits (length buffer.old) (bodies_of bodies.now) }
+    requires room { EachFits (length buffer.old) bodies.now }
     requires some { 1 ≤ length bodies.now }
-    requires sizes { AllByRecursion (IsBody format) (bodies_of bodies.now) }
+    requires sizes { AllByRecursion (IsBody format) bodies.now }
     requires few { LENGTH_BYTES + more ≤ CLEARED_BYTES }
-    requires fits { PREAMBLE_BYTES + (records_bytes format (bodies_of bodies.now) + more) < 2 ^ 64 }
-    ensures digest { result.0 ≡ Appended.Kept → result.1 ≡ last (start format) (bodies_of bodies.now) }
+    requires fits { PREAMBLE_BYTES + (records_bytes format bodies.now + more) < 2 ^ 64 }
+    ensures digest { result.0 ≡ Appended.Kept → result.1 ≡ last (start format) bodies.now }
     ensures answer { D.honest → (most : ℕ) (stood : List (List ℕ))
-        → PREAMBLE_BYTES + (records_bytes format (bodies_of bodies.now) + more) ≤ most
+        → PREAMBLE_BYTES + (records_bytes format bodies.now + more) ≤ most
         → IsOther D.Disk most stood disk.old
-        → Checkpointed D.Disk result.0 most format stood (bodies_of bodies.now) disk.old disk.new }
+        → Checkpointed D.Disk result.0 most format stood bodies.now disk.old disk.new }
     ensures any_moment { D.honest → (most : ℕ) (stood : List (List ℕ))
-        → PREAMBLE_BYTES + (records_bytes format (bodies_of bodies.now) + more) ≤ most
+        → PREAMBLE_BYTES + (records_bytes format bodies.now + more) ≤ most
         → IsOther D.Disk most stood disk.old
-        → LeavesOnly D.Disk disk.old disk.new (LeavesAny most format stood (bodies_of bodies.now)) }
+        → LeavesOnly D.Disk disk.old disk.new (LeavesAny most format stood bodies.now) }
     ensures grows { D.honest → length (D.seen disk.old) ≤ length (D.seen disk.new) }
     ensures reaches { D.honest → result.0 ≡ Appended.Kept
-        → PREAMBLE_BYTES + (records_bytes format (bodies_of bodies.now) + more) ≤ length (D.seen disk.new) }
+        → PREAMBLE_BYTES + (records_bytes format bodies.now + more) ≤ length (D.seen disk.new) }
     ensures cleared { D.honest → result.0 ≡ Appended.Kept
-        → take (LENGTH_BYTES + more) (behind_text format (bodies_of bodies.now) (D.seen disk.new))
+        → take (LENGTH_BYTES + more) (behind_text format bodies.now (D.seen disk.new))
         ≡ replicate (LENGTH_BYTES + more) 0 }
     ensures cause { HasCause result.0 (D.failures disk.old) (D.failures disk.new) }
     ensures calls { CheckpointCalls result.0 (length bodies.now) (D.counts disk.old) (D.counts disk.new) }
@@ -209,11 +209,11 @@ pub(crate) fn checkpoint_on<D: Disk>(
 
 /// Where a log of these bodies ends in a format that takes each of them, if it fits into so many bytes with its closing
 /// length.
-pub fn end_of(format: Format, bodies: &[Vec<u8>], most: u64) -> Option<u64>
-    requires sizes { AllByRecursion (IsBody format) (bodies_of bodies.now) }
+pub fn end_of(format: Format, bodies: &[SharedBytes], most: u64) -> Option<u64>
+    requires sizes { AllByRecursion (IsBody format) bodies.now }
     ensures some { IfSome result
-        (λ end. (end ≡ length (text format (bodies_of bodies.now))) × (end + LENGTH_BYTES ≤ most)) }
-    ensures none { IfNone result (most < length (text format (bodies_of bodies.now)) + LENGTH_BYTES) }
+        (λ end. (end ≡ length (text format bodies.now)) × (end + LENGTH_BYTES ≤ most)) }
+    ensures none { IfNone result (most < length (text format bodies.now) + LENGTH_BYTES) }
 {
     let mut left = most.checked_sub(format.preamble().len() as u64)?;
     for body in bodies {

@@ -5,6 +5,7 @@ ghost use Rattle.xa_log.specs.Reading.{bodies_of};
 
 use crate::looking::number_of;
 use xa_limits::FIRST_OFFSET;
+use xa_shared::SharedBytes;
 
 /// The generation of a log of these bodies: the number in the bytes from `NUMBER_OFFSET` up to `NUMBER_END` of the first
 /// one, 0 in a shorter one or where there is none.
@@ -15,6 +16,16 @@ pub fn generation_of_bodies(bodies: &[Vec<u8>]) -> usize
         return 0;
     }
     number_of(&bodies[0])
+}
+
+/// That of a log which a checkpoint begins with these bodies.
+pub fn generation_of_snapshot(bodies: &[SharedBytes]) -> usize
+    ensures { result ≡ generation bodies.now }
+{
+    if bodies.is_empty() {
+        return 0;
+    }
+    number_of(bodies[0].as_slice())
 }
 
 // That of a log of this generation that ends here, with one body more: the first body's number is the log's.

@@ -53,7 +53,7 @@ pub use appending::Appended;
 pub use checkpointing::{CLEARED_BYTES, end_of};
 pub use fault::OpenFault;
 pub use format::{Format, PREAMBLE_BYTES};
-pub use generation::generation_of_bodies;
+pub use generation::{generation_of_bodies, generation_of_snapshot};
 pub use group::Group;
 pub use laws::{
     memory_without_chance, memory_without_chance_beside, no_stale_record, opened_is_pair,

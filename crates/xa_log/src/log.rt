@@ -7,7 +7,6 @@ ghost use Rattle.xa_log.specs.Calls.{CheckpointCalls};
 ghost use Rattle.xa_log.specs.Chain.{newest, format_number, most_body, text, IsBody};
 ghost use Rattle.xa_log.specs.Checkpoint.{IsOther, IsQuiet, IsCleared, LeavesAny};
 ghost use Rattle.xa_log.specs.Pair.{generation};
-ghost use Rattle.xa_log.specs.Reading.{bodies_of};
 ghost use Rattle.xa_log.specs.Answers.{HasCause};
 ghost use Rattle.xa_log.specs.declared.ahead.TheConstants.{READY_BYTES};
 ghost use Rattle.xa_log.specs.declared.window.TheConstants.{WINDOW};
@@ -16,11 +15,12 @@ ghost use Rattle.xa_limits.specs.declared.TheConstants.{AROUND_CLOSED, MOST_BODY
 use crate::appending::Appended;
 use crate::checkpointing::{checkpoint_on, end_of, zeros_behind};
 use crate::format::Format;
-use crate::generation::generation_of_bodies;
+use crate::generation::generation_of_snapshot;
 use crate::group::Group;
 use std::mem;
 use xa_disk::Disk;
 use xa_limits::{DIGEST_BYTES, LENGTH_BYTES};
+use xa_shared::SharedBytes;
 
 /// A log on two disks: the current file has its records, with bodies of at least a byte and no more than its format
 /// takes, at most `log_bytes` bytes in all; the other one is where a checkpoint goes.
@@ -137,36 +137,36 @@ impl<D: Disk> Log<D> {
     /// write and a sync, a write a record and a sync, a write and a sync. Takes no memory, as an append does. After
     /// `Lost`, its own or an append's, every checkpoint answers so, and asks nothing of the disks, until a rescan
     /// succeeds.
-    pub fn checkpoint(&mut self, bodies: &[Vec<u8>]) -> Appended
+    pub fn checkpoint(&mut self, bodies: &[SharedBytes]) -> Appended
         requires some { 1 ≤ length bodies.now }
-        requires sizes { AllByRecursion (IsBody newest) (bodies_of bodies.now) }
-        requires holds { HoldsEach self.old (bodies_of bodies.now) }
-        requires above { self.old.generation < generation (bodies_of bodies.now) }
+        requires sizes { AllByRecursion (IsBody newest) bodies.now }
+        requires holds { HoldsEach self.old bodies.now }
+        requires above { self.old.generation < generation bodies.now }
         ensures answer { D.honest → (old stood : List (List ℕ)) → Pair D.Disk old stood self.old
-            → Checkpoints D.Disk result old stood (bodies_of bodies.now) self.new }
+            → Checkpoints D.Disk result old stood bodies.now self.new }
         // Whatever has stood in the other file: its records are gone.
         ensures replaces { D.honest → (old stood : List (List ℕ)) → Stands D.Disk old self.old
             → IsOther D.Disk self.old.log_bytes stood self.old.other → result ≡ Appended.Kept
-            → Pair D.Disk (bodies_of bodies.now) old self.new × IsQuiet D.Disk old self.new.other }
+            → Pair D.Disk bodies.now old self.new × IsQuiet D.Disk old self.new.other }
         // What a crash at any moment of the call leaves of the file that is written.
         ensures any_moment { D.honest → (old stood : List (List ℕ)) → Pair D.Disk old stood self.old
             → LeavesOnly D.Disk self.old.other (written result self.new)
-            (LeavesAny self.old.log_bytes newest stood (bodies_of bodies.now)) }
+            (LeavesAny self.old.log_bytes newest stood bodies.now) }
         // Whichever length an append then leaves alone behind its records brings back nothing that stood there.
         ensures cleared { D.honest → result ≡ Appended.Kept → self.old.lost ≡ false
-            → IsCleared self.new.log_bytes newest (bodies_of bodies.now) (D.seen self.new.disk) }
-        ensures swaps { self.old.lost ≡ false → Swaps result (bodies_of bodies.now) self.old self.new }
+            → IsCleared self.new.log_bytes newest bodies.now (D.seen self.new.disk) }
+        ensures swaps { self.old.lost ≡ false → Swaps result bodies.now self.old self.new }
         ensures lost { self.old.lost ≡ true → (result ≡ Appended.Lost) × (self.new ≡ self.old) }
         ensures full { self.old.lost ≡ false
             → (result ≡ Appended.Full)
-            ↔ (self.old.log_bytes < length (text newest (bodies_of bodies.now)) + LENGTH_BYTES) }
+            ↔ (self.old.log_bytes < length (text newest bodies.now) + LENGTH_BYTES) }
         ensures cause { self.old.lost ≡ false
             → HasCause result (D.failures self.old.other) (D.failures (written result self.new)) }
         ensures calls { self.old.lost ≡ false
             → CheckpointCalls result (length bodies.now)
             (D.counts self.old.other) (D.counts (written result self.new)) }
         ensures kept { self.old.lost ≡ false
-            → length (text newest (bodies_of bodies.now)) + LENGTH_BYTES ≤ self.old.log_bytes
+            → length (text newest bodies.now) + LENGTH_BYTES ≤ self.old.log_bytes
             → D.failures self.old.other < top → D.failures (written result self.new) ≡ D.failures self.old.other
             → result ≡ Appended.Kept }
         ensures settings { self.new.log_bytes ≡ self.old.log_bytes }
@@ -199,7 +199,7 @@ impl<D: Disk> Log<D> {
                 self.other_known = self.known;
                 self.known = known;
                 self.digest = digest;
-                self.generation = generation_of_bodies(bodies);
+                self.generation = generation_of_snapshot(bodies);
             }
             Appended::Lost => self.lost = true,
             Appended::Refused | Appended::Full => {}

@@ -164,7 +164,7 @@ fn many(alloc: Global, records: usize, size: usize) -> Option<Vec<Vec<u8>>> {
 // Whether a checkpoint of these is read after a crash as it was written.
 fn is_checkpointed(alloc: Global, records: usize, size: usize) -> Option<bool> {
     let mut log = log_of(alloc, &[])?;
-    let came = checkpoints(&mut log, &many(alloc, records, size)?)?;
+    let came = checkpoints(alloc, &mut log, &many(alloc, records, size)?)?;
     let (first, second) = crashed(log)?;
     let (log, bodies) = Log::open(alloc, first, second, LOG_BYTES).ok()?;
     let begins = are(bodies.get(..1)?, &[&AGAIN]);

@@ -2,13 +2,13 @@ ghost use Rattle.std.specs.Prelude.{◌≡◌, true};
 ghost use Rattle.std.specs.List.{AllByRecursion};
 ghost use Rattle.xa_log.specs.Buffer.{HoldsEach};
 ghost use Rattle.xa_log.specs.Chain.{IsBody, newest};
-ghost use Rattle.xa_log.specs.Reading.{bodies_of};
 
 use std::alloc::Global;
 use xa_disk::{Disk, MemDisk};
 use xa_limits::MOST_BODY_OF_ONE as BODY_OF_ONE;
-use xa_log::{Appended, Log, generation_of_bodies};
+use xa_log::{Appended, Log, generation_of_snapshot};
 use xa_rows::LOG_BYTES;
+use xa_shared::SharedBytes;
 
 // The first boot's record.
 pub const OPENED: [u8; 5] = [1, 0, 0, 0, 1];
@@ -34,8 +34,8 @@ pub const OLD: [&[u8]; 2] = [&OPENED, &PREPARED];
 pub const NEW: [&[u8]; 2] = [&AGAIN, &HELD];
 
 // Whether they are bodies of the newest format.
-fn are_bodies(bodies: &[Vec<u8>]) -> bool
-    ensures { result ≡ true → AllByRecursion (IsBody newest) (bodies_of bodies.now) }
+fn are_bodies(bodies: &[SharedBytes]) -> bool
+    ensures { result ≡ true → AllByRecursion (IsBody newest) bodies.now }
 {
     for body in bodies {
         if body.is_empty() || body.len() > BODY_OF_ONE {
@@ -46,8 +46,8 @@ fn are_bodies(bodies: &[Vec<u8>]) -> bool
 }
 
 // Whether a log has room for each without more being made.
-fn are_held<D>(log: &Log<D>, bodies: &[Vec<u8>]) -> bool
-    ensures { result ≡ true → HoldsEach log.now (bodies_of bodies.now) }
+fn are_held<D>(log: &Log<D>, bodies: &[SharedBytes]) -> bool
+    ensures { result ≡ true → HoldsEach log.now bodies.now }
 {
     for body in bodies {
         if body.len() > BODY_OF_ONE {
@@ -57,15 +57,29 @@ fn are_held<D>(log: &Log<D>, bodies: &[Vec<u8>]) -> bool
     true
 }
 
+fn shared(alloc: Global, bodies: &[Vec<u8>]) -> Option<Vec<SharedBytes>> {
+    let mut all = Vec::new(alloc);
+    for body in bodies {
+        let copy = Vec::from_slice(alloc, body).ok()?;
+        all.push(SharedBytes::new(alloc, copy).ok()?).ok()?;
+    }
+    Some(all)
+}
+
 /// What a checkpoint of these comes to, if they are bodies of a generation above the log's.
-pub fn checkpoints<D: Disk>(log: &mut Log<D>, bodies: &[Vec<u8>]) -> Option<Appended> {
-    if bodies.is_empty() || !are_bodies(bodies) || !are_held(log, bodies) {
+pub fn checkpoints<D: Disk>(
+    alloc: Global,
+    log: &mut Log<D>,
+    bodies: &[Vec<u8>],
+) -> Option<Appended> {
+    let bodies = shared(alloc, bodies)?;
+    if bodies.is_empty() || !are_bodies(&bodies) || !are_held(log, &bodies) {
         return None;
     }
-    if generation_of_bodies(bodies) <= log.generation() {
+    if generation_of_snapshot(&bodies) <= log.generation() {
         return None;
     }
-    Some(log.checkpoint(bodies))
+    Some(log.checkpoint(&bodies))
 }
 
 /// What an append of this comes to, if it is a body.
@@ -101,7 +115,7 @@ pub fn checkpoint_of<D: Disk>(
     log: &mut Log<D>,
     bodies: &[&[u8]],
 ) -> Option<Appended> {
-    checkpoints(log, &copies(alloc, bodies)?)
+    checkpoints(alloc, log, &copies(alloc, bodies)?)
 }
 
 /// These are the bodies.

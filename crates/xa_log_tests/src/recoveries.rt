@@ -6,6 +6,7 @@ use xa_recovery::{
     Durable, LogFault, RebuildFault, list_after, next_boot, rebuild, rebuild_log, snapshot,
 };
 use xa_rows::first_wrong;
+use xa_shared::SharedBytes;
 use xa_xid::Xid;
 
 const OPENED: [u8; 5] = [1, 0, 0, 0, 1];
@@ -55,7 +56,7 @@ fn fault_of(alloc: Global, bodies: &[&[u8]]) -> Option<RebuildFault> {
     rebuild(alloc, records.as_slice()).err()
 }
 
-fn are_bodies(bodies: &[Vec<u8>], wanted: &[&[u8]]) -> bool {
+fn are_bodies(bodies: &[SharedBytes], wanted: &[&[u8]]) -> bool {
     if bodies.len() != wanted.len() {
         return false;
     }

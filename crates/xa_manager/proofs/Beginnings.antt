@@ -6,21 +6,20 @@ use Rattle.std.proofs.lemmas.Bool.Decides.{nat_tests}
 use Rattle.xa_limits.specs.declared.TheConstants.{MOST_BOOTS, MOST_VALUE}
 use Rattle.mv_rules.specs.Within.{IsWithin, HasKeys}
 use Rattle.xa_log.specs.Chain.{IsBody, newest}
-use Rattle.xa_log.specs.Reading.{bodies_of}
 use Rattle.xa_model.specs.Durable.{Durable}
 use Rattle.xa_model.specs.Fold.{snapshot}
 use Rattle.xa_manager.specs.declared.boots.NextBoot.{NextBoot}
 use Rattle.xa_manager.specs.Rereading.{IsNext, IsReady}
 use Rattle.xa_manager.proofs.NextBoots.{are_bodies}
 
-pub next_sizes : (moment : ℕ) (d : Durable) (o : Option NextBoot) (next : NextBoot) → o ≡ Some next → IsNext d moment o → AllByRecursion (IsBody newest) (bodies_of next.bodies.items)
+pub next_sizes : (moment : ℕ) (d : Durable) (o : Option NextBoot) (next : NextBoot) → o ≡ Some next → IsNext d moment o → AllByRecursion (IsBody newest) next.bodies.items
 next_sizes moment d None next e h = absurd (cc e)
 next_sizes moment d (Some n) next e h =
     let same : n ≡ next = cc e in
-    let all : AllByRecursion (IsBody newest) (bodies_of n.bodies.items) = subst (λ (b : List (List ℕ)). AllByRecursion (IsBody newest) b) (sym h.2.bodies) (are_bodies (snapshot d (d.boot + 1)) h.3) in
-    subst (λ (x : NextBoot). AllByRecursion (IsBody newest) (bodies_of x.bodies.items)) same all
+    let all : AllByRecursion (IsBody newest) n.bodies.items = subst (λ (b : List (List ℕ)). AllByRecursion (IsBody newest) b) (sym h.2.bodies) (are_bodies (snapshot d (d.boot + 1)) h.3) in
+    subst (λ (x : NextBoot). AllByRecursion (IsBody newest) x.bodies.items) same all
 
-pub all_sizes : (moment : ℕ) (d : Durable) (o : Option NextBoot) → IsNext d moment o → IfSome o (λ next. AllByRecursion (IsBody newest) (bodies_of next.bodies.items))
+pub all_sizes : (moment : ℕ) (d : Durable) (o : Option NextBoot) → IsNext d moment o → IfSome o (λ next. AllByRecursion (IsBody newest) next.bodies.items)
 all_sizes moment d None h = tt
 all_sizes moment d (Some n) h = next_sizes moment d (Some n) n refl h
 

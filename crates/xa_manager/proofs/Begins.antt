@@ -1,6 +1,6 @@
 -- What the next boot begins with, of the log that was read.
 use Rattle.std.proofs.Common.{◌≡◌, ◌+◌, ◌<◌, ℕ, Bool, true, List, map, length, Option, Some, None, refl, ap, sym, ◌∙◌, subst}
-use Rattle.std.specs.Prelude.{Ok, Vec, IfSome}
+use Rattle.std.specs.Prelude.{Ok, IfSome}
 use Rattle.std.specs.declared.alloc.Global.{Global}
 use Rattle.std.specs.List.{AllByRecursion}
 use Rattle.std.proofs.lemmas.List.{length-map}
@@ -9,7 +9,6 @@ use Rattle.xa_record.specs.Limits.{IsRecord}
 use Rattle.xa_record.specs.Spelling.{spelled}
 use Rattle.xa_log.specs.Chain.{IsBody, newest, text}
 use Rattle.xa_log.specs.Pair.{generation}
-use Rattle.xa_log.specs.Reading.{bodies_of}
 use Rattle.xa_log.specs.declared.appending.Appended.{Appended}
 use Rattle.xa_log.specs.declared.log.Log.{Log}
 use Rattle.xa_model.specs.Durable.{Durable, IsDurable}
@@ -45,17 +44,17 @@ planned moment bodies p next rebuilt is_next e =
     record { comes = c; form = fold_is_durable c.records p.durable.value c.folded; boots = n.1; ready = n.2; limits = n.3 }
 
 -- its bodies
-pub first_bodies : (moment : ℕ) (bodies : List (List ℕ)) (d : Durable) (next : NextBoot) (xs : List (Vec ℕ Global)) → IsPlanned bodies d moment next → xs ≡ next.bodies.items
-    → bodies_of xs ≡ map spelled (snapshot d (d.boot + 1))
-first_bodies moment bodies d next xs it e = ap (λ (l : List (Vec ℕ Global)). bodies_of l) e ∙ it.ready.bodies
+pub first_bodies : (moment : ℕ) (bodies : List (List ℕ)) (d : Durable) (next : NextBoot) (xs : List (List ℕ)) → IsPlanned bodies d moment next → xs ≡ next.bodies.items
+    → xs ≡ map spelled (snapshot d (d.boot + 1))
+first_bodies moment bodies d next xs it e = e ∙ it.ready.bodies
 
-pub first_sizes : (moment : ℕ) (bodies : List (List ℕ)) (d : Durable) (next : NextBoot) (xs : List (Vec ℕ Global)) → IsPlanned bodies d moment next → xs ≡ next.bodies.items → AllByRecursion (IsBody newest) (bodies_of xs)
+pub first_sizes : (moment : ℕ) (bodies : List (List ℕ)) (d : Durable) (next : NextBoot) (xs : List (List ℕ)) → IsPlanned bodies d moment next → xs ≡ next.bodies.items → AllByRecursion (IsBody newest) xs
 first_sizes moment bodies d next xs it e =
     subst (λ (l : List (List ℕ)). AllByRecursion (IsBody newest) l) (sym (first_bodies moment bodies d next xs it e)) (are_bodies (snapshot d (d.boot + 1)) it.limits)
 
 -- the room that they leave
-pub first_room : (moment : ℕ) (bodies : List (List ℕ)) (d : Durable) (next : NextBoot) (xs : List (Vec ℕ Global)) (log_bytes p c : ℕ) (b : Bool) → IsPlanned bodies d moment next → xs ≡ next.bodies.items
-    → p ≡ length d.prepared → c ≡ length d.decided → b ≡ log_room log_bytes (length (text newest (bodies_of xs))) p c → has_boot_room log_bytes d (d.boot + 1) ≡ b
+pub first_room : (moment : ℕ) (bodies : List (List ℕ)) (d : Durable) (next : NextBoot) (xs : List (List ℕ)) (log_bytes p c : ℕ) (b : Bool) → IsPlanned bodies d moment next → xs ≡ next.bodies.items
+    → p ≡ length d.prepared → c ≡ length d.decided → b ≡ log_room log_bytes (length (text newest xs)) p c → has_boot_room log_bytes d (d.boot + 1) ≡ b
 first_room moment bodies d next xs log_bytes p c b it e ep ec room =
     sym (room
     ∙ ap (λ (n : ℕ). log_room log_bytes n p c) (ap (λ (l : List (List ℕ)). length (text newest l)) (first_bodies moment bodies d next xs it e) ∙ text_size newest (snapshot d (d.boot + 1)))
@@ -66,15 +65,15 @@ pub count_of : {K V B : Type 0} (f : K × V → B) (xs : List (K × V)) (bs cs :
 count_of f xs bs cs n e m same = e ∙ sym (length-map xs f) ∙ ap length m ∙ ap length (sym same)
 
 -- they come before those that were read
-pub first_newer : (moment : ℕ) (bodies : List (List ℕ)) (d : Durable) (next : NextBoot) (xs : List (Vec ℕ Global)) → IsPlanned bodies d moment next → xs ≡ next.bodies.items
-    → generation bodies < generation (bodies_of xs)
+pub first_newer : (moment : ℕ) (bodies : List (List ℕ)) (d : Durable) (next : NextBoot) (xs : List (List ℕ)) → IsPlanned bodies d moment next → xs ≡ next.bodies.items
+    → generation bodies < generation xs
 first_newer moment bodies d next xs it e =
-    subst (λ (l : List (List ℕ)). generation l < generation (bodies_of xs)) it.comes.bodies_are.spelling
+    subst (λ (l : List (List ℕ)). generation l < generation xs) it.comes.bodies_are.spelling
     (subst (λ (l : List (List ℕ)). generation (map spelled it.comes.records) < generation l) (sym (first_bodies moment bodies d next xs it e)) (newer it.comes.records d it.comes.folded it.boots))
 
 -- so do those of each boot that is planned
 pub next_newer : (moment : ℕ) (bodies : List (List ℕ)) (d : Durable) (o : Option NextBoot) → LogRebuilt bodies (Ok d) → IsNext d moment o
-    → IfSome o (λ next. generation bodies < generation (bodies_of next.bodies.items))
+    → IfSome o (λ next. generation bodies < generation next.bodies.items)
 next_newer moment bodies d None rebuilt n = tt
 next_newer moment bodies d (Some next) rebuilt n =
     let c : ComeTo bodies d = comes_to bodies d rebuilt in
@@ -82,13 +81,13 @@ next_newer moment bodies d (Some next) rebuilt n =
 
 -- of a log of this generation
 pub next_above : (g : ℕ) (bodies : List (List ℕ)) (o : Option NextBoot) → g ≡ generation bodies
-    → IfSome o (λ next. generation bodies < generation (bodies_of next.bodies.items))
-    → IfSome o (λ next. g < generation (bodies_of next.bodies.items))
-next_above g bodies o is above = subst (λ (n : ℕ). IfSome o (λ next. n < generation (bodies_of next.bodies.items))) (sym is) above
+    → IfSome o (λ next. generation bodies < generation next.bodies.items)
+    → IfSome o (λ next. g < generation next.bodies.items)
+next_above g bodies o is above = subst (λ (n : ℕ). IfSome o (λ next. n < generation next.bodies.items)) (sym is) above
 
 -- what became of its first records
-pub logs_boot : {D : Type 0} (disks : Ghosts D) (moment : ℕ) (is_new : Bool) (bodies : List (List ℕ)) (log_bytes : ℕ) (a : Appended) (old new : Log D) (d : Durable) (next : NextBoot) (xs : List (Vec ℕ Global))
-    → IsPlanned bodies d moment next → xs ≡ next.bodies.items → has_boot_room log_bytes d (d.boot + 1) ≡ true → LogsFirst disks is_new a (bodies_of xs) old new
+pub logs_boot : {D : Type 0} (disks : Ghosts D) (moment : ℕ) (is_new : Bool) (bodies : List (List ℕ)) (log_bytes : ℕ) (a : Appended) (old new : Log D) (d : Durable) (next : NextBoot) (xs : List (List ℕ))
+    → IsPlanned bodies d moment next → xs ≡ next.bodies.items → has_boot_room log_bytes d (d.boot + 1) ≡ true → LogsFirst disks is_new a xs old new
     → LogsBoot disks is_new bodies log_bytes a old new
 logs_boot disks moment is_new bodies log_bytes a old new d next xs it e room logs = record {
   durable = d;

@@ -1,14 +1,12 @@
 -- The first records of a boot: that a log without records has no room for its first, and what they leave where they aren't
 -- kept.
 use Rattle.std.proofs.Common.{◌≡◌, ◌⊎◌, inl, inr, ⊎_elim, ◌+◌, ◌<◌, ℕ, Bool, List, [], ◌∷◌, length, true, false, ap, sym, ◌∙◌, subst, arith}
-use Rattle.std.specs.Prelude.{Vec, slice_index_or}
-use Rattle.std.specs.declared.alloc.Global.{Global}
+use Rattle.std.specs.Prelude.{slice_index_or}
 use Rattle.std.proofs.lemmas.Bool.{cases_Bool}
 use Rattle.xa_disk.specs.Time.{LeavesOnly}
 use Rattle.xa_disk.specs.declared.disk.Disk.{Ghosts}
 use Rattle.xa_log.specs.Checkpoint.{LeavesAny}
 use Rattle.xa_log.specs.Chain.{newest, text}
-use Rattle.xa_log.specs.Reading.{bodies_of}
 use Rattle.xa_log.specs.declared.log.Log.{Log}
 use Rattle.xa_log.specs.Stands.{Stands, EndsBehind, Leaves}
 use Rattle.xa_log.specs.TwoFiles.{Pair, AppendsTo, Checkpoints, Swaps, written}
@@ -26,9 +24,9 @@ first_full log bodies body e ends full =
     (omega (arith, less, ends.end, none_size log.format, one_size newest body))
 
 -- a list of one body
-pub one_body : (xs : List (Vec ℕ Global)) (x : Vec ℕ Global) (body : List ℕ) → length xs ≡ 1 → x ≡ slice_index_or xs 0 x → body ≡ x.items → bodies_of xs ≡ body ∷ []
+pub one_body : (xs : List (List ℕ)) (x : List ℕ) (body : List ℕ) → length xs ≡ 1 → x ≡ slice_index_or xs 0 x → body ≡ x → xs ≡ body ∷ []
 one_body [] x body one first same = absurd (omega (arith, one))
-one_body (y ∷ []) x body one first same = ap (λ (l : List ℕ). l ∷ []) (sym (same ∙ ap (λ (v : Vec ℕ Global). v.items) first))
+one_body (y ∷ []) x body one first same = ap (λ (l : List ℕ). l ∷ []) (sym (same ∙ first))
 one_body (y ∷ (z ∷ zs)) x body one first same = absurd (omega (arith, one))
 
 -- what logging the first record of a log that was made does

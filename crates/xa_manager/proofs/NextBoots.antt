@@ -1,9 +1,7 @@
 -- The next boot is made ready for what the log came to.
 use Rattle.std.proofs.Common.{◌≡◌, ◌<◌, ◌≤◌, ◌+◌, ◌^◌, ℕ, zero, suc, Bool, true, false, cond, List, [], ◌∷◌, map, Option, Some, None, Ok, refl, sym, ◌∙◌, subst, arith, ltb-true, ltb-false}
-use Rattle.std.specs.Prelude.{Vec, length, nat_lt}
-use Rattle.std.specs.declared.alloc.Global.{Global}
+use Rattle.std.specs.Prelude.{length, nat_lt}
 use Rattle.std.proofs.Math.ListN.{get_or}
-use Rattle.xa_log.specs.Reading.{bodies_of}
 use Rattle.std.specs.List.{AllByRecursion}
 use Rattle.xa_limits.specs.declared.TheConstants.{MOST_BOOTS, MOST_VALUE}
 use Rattle.xa_record.specs.declared.record.Record.{Record}
@@ -59,7 +57,7 @@ are_bodies [] h = tt
 are_bodies (r ∷ rs) h = let size = any r h.0 in (record { some = size.0; small = size.1 }, are_bodies rs h.1)
 
 -- each of them is one
-pub body_at : (xs : List (Vec ℕ Global)) (i : ℕ) (v : Vec ℕ Global) → i < length xs → v ≡ get_or xs i v → AllByRecursion (IsBody newest) (bodies_of xs) → IsBody newest v.items
+pub body_at : (xs : List (List ℕ)) (i : ℕ) (v : List ℕ) → i < length xs → v ≡ get_or xs i v → AllByRecursion (IsBody newest) xs → IsBody newest v
 body_at [] i v less is h = absurd (omega arith)
-body_at (x ∷ xs) zero v less is h = subst (λ (y : Vec ℕ Global). IsBody newest y.items) (sym is) h.0
+body_at (x ∷ xs) zero v less is h = subst (λ (y : List ℕ). IsBody newest y) (sym is) h.0
 body_at (x ∷ xs) (suc i) v less is h = body_at xs i v (omega arith) is h.1

@@ -1,8 +1,7 @@
 -- A log whose buffer alone may have grown: what is said of it is said of the log that it was.
 use Rattle.std.proofs.Common.{◌≡◌, ◌≤◌, ◌+◌, ℕ, Bool, true, false, not, max, List, [], ◌∷◌, length, refl, ap, sym, ◌∙◌, subst, arith, inl, inr}
-use Rattle.std.specs.Prelude.{Vec, fold, vec_len}
+use Rattle.std.specs.Prelude.{fold}
 use Rattle.std.specs.List.{AllByRecursion}
-use Rattle.std.specs.declared.alloc.Global.{Global}
 use Rattle.xa_disk.specs.Disk.{Same}
 use Rattle.xa_disk.specs.Time.{TimePasses}
 use Rattle.xa_disk.specs.declared.disk.Disk.{Ghosts}
@@ -12,7 +11,6 @@ use Rattle.xa_log.specs.Checkpoint.{IsOther}
 use Rattle.xa_log.specs.Group.{as_one}
 use Rattle.xa_log.specs.LogStates.{Whole}
 use Rattle.xa_log.specs.Pair.{beats, has_log}
-use Rattle.xa_log.specs.Reading.{bodies_of}
 use Rattle.xa_log.specs.Stands.{EndsBehind, Moves}
 use Rattle.xa_log.specs.TwoFiles.{Pair, IsOpenPair, first_of, second_of}
 use Rattle.xa_log.specs.declared.appending.Appended.{Appended}
@@ -180,20 +178,20 @@ none_reserved disks log = record {
 
 -- ---- the longest of some bodies
 
-abbrev longest_from : ℕ → List (Vec ℕ Global) → ℕ
-longest_from n vs = fold (λ (most : ℕ) (v : Vec ℕ Global). max most (vec_len v)) n vs
+abbrev longest_from : ℕ → List (List ℕ) → ℕ
+longest_from n vs = fold (λ (most : ℕ) (v : List ℕ). max most (length v)) n vs
 
-longest_grows : (n : ℕ) (vs : List (Vec ℕ Global)) → n ≤ longest_from n vs
+longest_grows : (n : ℕ) (vs : List (List ℕ)) → n ≤ longest_from n vs
 longest_grows n [] = omega arith
-longest_grows n (v ∷ vs) = omega (arith, longest_grows (max n (vec_len v)) vs)
+longest_grows n (v ∷ vs) = omega (arith, longest_grows (max n (length v)) vs)
 
-none_longer : (n : ℕ) (vs : List (Vec ℕ Global)) → AllByRecursion (λ b. length b ≤ longest_from n vs) (bodies_of vs)
+none_longer : (n : ℕ) (vs : List (List ℕ)) → AllByRecursion (λ b. length b ≤ longest_from n vs) vs
 none_longer n [] = tt
-none_longer n (v ∷ vs) = (omega (arith, longest_grows (max n (vec_len v)) vs, v.ok.0), none_longer (max n (vec_len v)) vs)
+none_longer n (v ∷ vs) = (omega (arith, longest_grows (max n (length v)) vs), none_longer (max n (length v)) vs)
 
-within : (n : ℕ) (vs : List (Vec ℕ Global)) → n ≤ most_body newest → AllByRecursion (IsBody newest) (bodies_of vs) → longest_from n vs ≤ most_body newest
+within : (n : ℕ) (vs : List (List ℕ)) → n ≤ most_body newest → AllByRecursion (IsBody newest) vs → longest_from n vs ≤ most_body newest
 within n [] h all = h
-within n (v ∷ vs) h all = within (max n (vec_len v)) vs (omega (arith, h, all.0.small, v.ok.0)) all.1
+within n (v ∷ vs) h all = within (max n (length v)) vs (omega (arith, h, all.0.small)) all.1
 
 -- a buffer that holds it holds each of them
 held_below : {D : Type 0} (log : Log D) (n m : ℕ) → n ≤ m → Holds log m → Holds log n
@@ -204,8 +202,8 @@ held_all : {D : Type 0} (log : Log D) (most : ℕ) (bodies : List (List ℕ)) �
 held_all log most [] h all = tt
 held_all log most (b ∷ bodies) h all = (held_below log (length b) most all.0 h, held_all log most bodies h all.1)
 
-pub holds_longest : {D : Type 0} (log : Log D) (vs : List (Vec ℕ Global)) (most : ℕ) → most ≡ longest_from 0 vs → Holds log most → HoldsEach log (bodies_of vs)
-holds_longest log vs most is h = held_all log most (bodies_of vs) h (subst (λ (n : ℕ). AllByRecursion (λ b. length b ≤ n) (bodies_of vs)) (sym is) (none_longer 0 vs))
+pub holds_longest : {D : Type 0} (log : Log D) (vs : List (List ℕ)) (most : ℕ) → most ≡ longest_from 0 vs → Holds log most → HoldsEach log vs
+holds_longest log vs most is h = held_all log most vs h (subst (λ (n : ℕ). AllByRecursion (λ b. length b ≤ n) vs) (sym is) (none_longer 0 vs))
 
-pub longest_within : (vs : List (Vec ℕ Global)) (most : ℕ) → most ≡ longest_from 0 vs → AllByRecursion (IsBody newest) (bodies_of vs) → most ≤ most_body newest
+pub longest_within : (vs : List (List ℕ)) (most : ℕ) → most ≡ longest_from 0 vs → AllByRecursion (IsBody newest) vs → most ≤ most_body newest
 longest_within vs most is all = subst (λ (n : ℕ). n ≤ most_body newest) (sym is) (within 0 vs (omega arith) all)

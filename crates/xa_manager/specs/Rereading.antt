@@ -7,7 +7,6 @@ use Rattle.xa_record.specs.Spelling.{spelled}
 use Rattle.xa_record.specs.declared.record.Record.{Record}
 use Rattle.xa_log.specs.Buffer.{HoldsEach}
 use Rattle.xa_log.specs.Chain.{newest}
-use Rattle.xa_log.specs.Reading.{bodies_of}
 use Rattle.xa_log.specs.declared.log.Log.{Log}
 use Rattle.xa_model.specs.State.{State}
 use Rattle.xa_model.specs.Durable.{Durable}
@@ -63,7 +62,7 @@ pub record GoesOn {D : Type 0} (old new : Log D) : Type 0 where
 pub record IsReady (d : Durable) (boot moment : ℕ) (next : NextBoot) : Type 0 where
   pub branches : (s : State) → IsRestored d boot s → s.moment ≡ moment → BranchesStandFor next.branches s
   pub records : (s : State) → IsRestored d boot s → s.moment ≡ moment → RecordsStandFor (history_of s) next.records
-  pub bodies : bodies_of next.bodies.items ≡ map spelled (snapshot d boot)
+  pub bodies : next.bodies.items ≡ map spelled (snapshot d boot)
 
 -- the boot after those that were logged, unless their numbers are used up
 abbrev pub IsNext : Durable → ℕ → Option NextBoot → Type 0
@@ -87,4 +86,4 @@ Plans moment bodies (Err e) = LogRebuilt bodies (Err e)
 -- the log's buffer has room for the records that the next boot begins with
 abbrev pub HoldsNext : {D : Type 0} → Log D → Option NextBoot → Type 0
 HoldsNext log None = Unit {0}
-HoldsNext log (Some next) = HoldsEach log (bodies_of next.bodies.items)
+HoldsNext log (Some next) = HoldsEach log next.bodies.items

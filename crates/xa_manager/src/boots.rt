@@ -14,6 +14,7 @@ use std::alloc::{AllocError, Global};
 use std::snapshot::Snapshot;
 use xa_branch::Branches;
 use xa_recovery::{Durable, LogFault, next_boot, rebuild_log};
+use xa_shared::SharedBytes;
 
 /// A boot that is ready to begin: its number, its tables, and the bodies that its log begins with.
 #[derive(Drop)]
@@ -21,7 +22,7 @@ pub struct NextBoot {
     pub boot: u32,
     pub branches: Branches,
     pub records: Records,
-    pub bodies: Vec<Vec<u8>>,
+    pub bodies: Vec<SharedBytes>,
 }
 
 /// What a log came to, and the boot after those that it has, unless their numbers are used up. Its values are with the
@@ -37,7 +38,7 @@ pub struct Planned {
 }
 
 /// Makes ready what the boot of this number begins with, at this moment: branch by branch the snapshot is spelled, and
-/// the values go over into the tables.
+/// the tables' values stand in its bodies.
 fn ready(alloc: Global, durable: Durable, boot: u32, moment: u64) -> Result<NextBoot, AllocError>
     requires limits { AllByRecursion IsRecord (snapshot durable boot) }
     requires form { IsDurable durable }

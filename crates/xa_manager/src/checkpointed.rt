@@ -3,7 +3,6 @@ ghost use Rattle.mv_rules.specs.Committed.{branches_in};
 ghost use Rattle.xa_model.specs.Durable.{durable};
 ghost use Rattle.xa_recovery.specs.Durable.{committed_of, prepared_of};
 ghost use Rattle.xa_limits.specs.declared.TheConstants.{MOST_BOOTS};
-ghost use Rattle.xa_log.specs.Reading.{bodies_of};
 ghost use Rattle.xa_manager.specs.LogStands.{snapshot_bodies};
 ghost use Rattle.xa_manager.specs.Tables.{TablesSay};
 
@@ -13,6 +12,7 @@ use std::collections::BTreeMap;
 use xa_codes::Write;
 use xa_record::Writes;
 use xa_recovery::{Durable, InDoubt, snapshot};
+use xa_shared::SharedBytes;
 
 /// Writes by timestamp, as what lasts has them. They are moved.
 fn with_writes(
@@ -63,10 +63,10 @@ impl Tables {
     ///
     /// # Errors
     /// Out of memory.
-    pub(crate) fn snapshot(&self, boot: u32) -> Result<Vec<Vec<u8>>, AllocError>
+    pub(crate) fn snapshot(&self, boot: u32) -> Result<Vec<SharedBytes>, AllocError>
         requires { boot < MOST_BOOTS }
         ensures { TablesSay self.now
-            (λ s. s.logged_boot ≡ boot → IfOk result (λ v. bodies_of v.items ≡ snapshot_bodies s (boot + 1))) }
+            (λ s. s.logged_boot ≡ boot → IfOk result (λ v. v.items ≡ snapshot_bodies s (boot + 1))) }
     {
         let durable = self.durable(boot)?;
         snapshot(self.alloc, durable, boot + 1)

@@ -10,7 +10,7 @@ ghost use Rattle.xa_model.specs.Durable.{PreparedBranch, Pairwise, named_apart, 
 ghost use Rattle.xa_model.specs.Invariants.Restored.{IsRestored};
 ghost use Rattle.xa_model.specs.State.{State, timestamp_of};
 ghost use Rattle.xa_recovery.specs.Durable.{as_committed, as_prepared, as_decided};
-ghost use Rattle.xa_recovery.specs.Snapshots.{Puts, bytes_of, base_body, held_body};
+ghost use Rattle.xa_recovery.specs.Snapshots.{Puts, base_body, held_body};
 ghost use Rattle.xa_record.specs.Spelling.{spelled};
 ghost use Rattle.mv_rules.specs.Within.{IsWithin, HasKeys};
 ghost use Rattle.xa_limits.specs.declared.TheConstants.{MOST_VALUE};
@@ -28,6 +28,7 @@ use xa_codes::Direction;
 use xa_limits::BOOT_TIMESTAMPS;
 use xa_record::Writes;
 use xa_recovery::{Durable, InDoubt, begin_snapshot, put_base, put_decided, put_held};
+use xa_shared::SharedBytes;
 use xa_xid::Xid;
 
 /// Puts the branches in doubt into branches of which none is known.
@@ -94,7 +95,7 @@ fn least_of(prepared: &BTreeMap<u64, InDoubt>, boot: u32) -> u64
 fn put_committed(
     alloc: Global,
     records: &mut Records,
-    bodies: &mut Vec<Vec<u8>>,
+    bodies: &mut Vec<SharedBytes>,
     committed: BTreeMap<u64, Writes>,
     least: u64,
 ) -> Result<(), AllocError>
@@ -109,7 +110,12 @@ fn put_committed(
 {
     for (timestamp, writes) in committed {
         put_base(alloc, bodies, timestamp, &writes)?;
-        records.restore(timestamp, writes.into_vec(), Some(Fate::Committed))?;
+        records.restore(
+            timestamp,
+            writes.into_vec(),
+            Some(Fate::Committed),
+            bodies.last(),
+        )?;
         records.low_water(timestamp.min(least));
     }
     Ok(())
@@ -119,7 +125,7 @@ fn put_committed(
 fn put_undecided(
     alloc: Global,
     records: &mut Records,
-    bodies: &mut Vec<Vec<u8>>,
+    bodies: &mut Vec<SharedBytes>,
     prepared: BTreeMap<u64, InDoubt>,
 ) -> Result<(), AllocError>
     ensures stands { (low : ℕ) (older : List Written)
@@ -137,25 +143,25 @@ fn put_undecided(
     for (timestamp, branch) in prepared {
         put_held(alloc, bodies, timestamp, &branch)?;
         let InDoubt { writes, .. } = branch;
-        records.restore(timestamp, writes.into_vec(), None)?;
+        records.restore(timestamp, writes.into_vec(), None, bodies.last())?;
     }
     Ok(())
 }
 
 /// The versions that lasted, in the boot of this number, and the bodies of the records that its log begins with. Each
-/// branch is spelled, and then its values are moved; what it lasted in is let go before the next one.
+/// branch is spelled, and its values are left in that body; what it lasted in is let go before the next one.
 pub(crate) fn records_of(
     alloc: Global,
     durable: Durable,
     boot: u32,
-) -> Result<(Records, Vec<Vec<u8>>), AllocError>
+) -> Result<(Records, Vec<SharedBytes>), AllocError>
     ensures stands { IfOk result
         (λ made. (s : State) → IsRestored durable boot s → RecordsStandFor (history_of s) made.0) }
     ensures short { (boot : ℕ) → AllByRecursion IsRecord (snapshot durable boot)
         → IfOk result (λ made. IsWithin MOST_VALUE made.0) }
     ensures keys { (boot : ℕ) → AllByRecursion IsRecord (snapshot durable boot)
         → Pairwise prepares_before durable.prepared → IfOk result (λ made. HasKeys made.0) }
-    ensures bodies { IfOk result (λ made. bytes_of made.1.items ≡ map spelled (snapshot durable boot)) }
+    ensures bodies { IfOk result (λ made. made.1.items ≡ map spelled (snapshot durable boot)) }
 {
     let mut bodies = begin_snapshot(alloc, &durable, boot)?;
     let (committed, prepared, decided) = durable.into_parts();

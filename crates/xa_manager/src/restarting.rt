@@ -146,11 +146,11 @@ impl<D: Disk> Manager<D> {
     /// The boot that was made ready is logged, and begins.
     fn log_boot(&mut self, survived: usize, next: NextBoot) -> Done
         requires some { 1 ≤ length next.bodies.items }
-        requires sizes { AllByRecursion (IsBody newest) (bodies_of next.bodies.items) }
-        requires holds { HoldsEach self.old.log (bodies_of next.bodies.items) }
+        requires sizes { AllByRecursion (IsBody newest) next.bodies.items }
+        requires holds { HoldsEach self.old.log next.bodies.items }
         requires short { IsWithin MOST_VALUE next.records }
         requires keys { HasKeys next.records }
-        requires above { self.old.log.generation < generation (bodies_of next.bodies.items) }
+        requires above { self.old.log.generation < generation next.bodies.items }
         ensures turn { (s t : State) (rs : List Record) → ManagerStandsFor D.Disk self.old s → Trusts D.Disk
             → IsFate survived s t → Backs rs t → HasRecords D.Disk rs self.old.log
             → self.old.log.lost ≡ false → nat_lt t.logged_boot MOST_BOOTS ≡ true
@@ -205,7 +205,7 @@ impl<D: Disk> Manager<D> {
         requires boot { planned.boot ≡ planned.durable.value.boot }
         requires holds { HoldsNext self.old.log planned.next }
         requires above { IfSome planned.next
-            (λ next. self.old.log.generation < generation (bodies_of next.bodies.items)) }
+            (λ next. self.old.log.generation < generation next.bodies.items) }
         ensures turn { (s : State) (bodies : List (List ℕ)) → ManagerStandsFor D.Disk self.old s → Trusts D.Disk
             → (f : Found D.Disk bodies self.old.log s) → IsCounted self.old.doubt after_end f.many
             → LogRebuilt bodies (Ok planned.durable.value)
@@ -322,7 +322,7 @@ impl<D: Disk> Manager<D> {
 
 /// Has the log's buffer hold what the next boot begins with, if there is one.
 fn reserve_next<D: Disk>(log: &mut Log<D>, next: &Option<NextBoot>) -> Result<(), AllocError>
-    requires { IfSome next.now (λ n. AllByRecursion (IsBody newest) (bodies_of n.bodies.items)) }
+    requires { IfSome next.now (λ n. AllByRecursion (IsBody newest) n.bodies.items) }
     ensures holds { OnOk result (HoldsNext log.new next.now) }
     ensures ok { OnOk result (HasReserved D.Disk log.old log.new) }
     ensures err { OnErr result (log.new ≡ log.old) }

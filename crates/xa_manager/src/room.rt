@@ -1,12 +1,12 @@
 ghost use Rattle.std.specs.Prelude.{◌≡◌, ◌+◌, ◌*◌, ◌^◌, length, Some, None, nat_lt, if◌then◌else◌};
 ghost use Rattle.std.specs.List.{AllByRecursion};
 ghost use Rattle.xa_log.specs.Chain.{IsBody, newest, text};
-ghost use Rattle.xa_log.specs.Reading.{bodies_of};
 ghost use Rattle.xa_model.specs.Logging.{log_room};
 ghost use Rattle.xa_limits.specs.declared.TheConstants.{DECIDED_ROOM, PREPARED_ROOM};
 
 use xa_limits::{DECIDED_ROOM, LENGTH_BYTES, PREPARED_ROOM};
 use xa_log::{Format, end_of};
+use xa_shared::SharedBytes;
 
 /// The room that a log keeps for so many prepared branches and completed XIDs. None where it is over 2^64 - 1 bytes.
 fn kept_room(prepared: u64, completed: u64) -> Option<u64>
@@ -35,13 +35,13 @@ pub(crate) fn leaves_room(end: u64, prepared: u64, completed: u64, log_bytes: u6
 
 /// Whether a new log with these bodies keeps it.
 pub(crate) fn begins_with_room(
-    bodies: &[Vec<u8>],
+    bodies: &[SharedBytes],
     prepared: u64,
     completed: u64,
     log_bytes: u64,
 ) -> bool
-    requires sizes { AllByRecursion (IsBody newest) (bodies_of bodies.now) }
-    ensures { result ≡ log_room log_bytes (length (text newest (bodies_of bodies.now))) prepared completed }
+    requires sizes { AllByRecursion (IsBody newest) bodies.now }
+    ensures { result ≡ log_room log_bytes (length (text newest bodies.now)) prepared completed }
 {
     match end_of(Format::newest(), bodies, log_bytes) {
         Some(end) => leaves_room(end, prepared, completed, log_bytes),

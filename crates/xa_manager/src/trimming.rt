@@ -4,7 +4,6 @@ ghost use Rattle.xa_record.specs.declared.record.Record.{Record};
 ghost use Rattle.xa_log.specs.Buffer.{HoldsEach};
 ghost use Rattle.xa_log.specs.Chain.{IsBody, newest};
 ghost use Rattle.xa_log.specs.Pair.{generation};
-ghost use Rattle.xa_log.specs.Reading.{bodies_of};
 ghost use Rattle.xa_log.specs.declared.log.Log.{Log};
 ghost use Rattle.xa_model.specs.Invariants.Backing.{Backs};
 ghost use Rattle.xa_model.specs.Restarting.{can_open};
@@ -31,8 +30,9 @@ use xa_codes::{Detail, XAER_RMERR, XAER_RMFAIL};
 use xa_disk::Disk;
 use xa_frame::{Body, Reply};
 use xa_limits::MOST_TRIM_BOOTS;
-use xa_log::{Appended, Format, generation_of_bodies};
+use xa_log::{Appended, Format, generation_of_snapshot};
 use xa_model::{Appending, Outcome};
+use xa_shared::SharedBytes;
 
 /// How the log is begun anew while the manager is up.
 impl<D: Disk> Manager<D> {
@@ -61,23 +61,23 @@ impl<D: Disk> Manager<D> {
 
     /// Whether the other file takes a log of these bodies, as it does of each snapshot of what lasts, with the next
     /// boot's number.
-    fn can_begin_with(&self, bodies: &[Vec<u8>]) -> bool
+    fn can_begin_with(&self, bodies: &[SharedBytes]) -> bool
         ensures some { result ≡ true → 1 ≤ length bodies.now }
-        ensures sizes { result ≡ true → AllByRecursion (IsBody newest) (bodies_of bodies.now) }
-        ensures above { result ≡ true → self.now.log.generation < generation (bodies_of bodies.now) }
-        ensures other { 1 ≤ length bodies.now → AllByRecursion (IsBody newest) (bodies_of bodies.now)
-            → self.now.log.generation < generation (bodies_of bodies.now) → result ≡ true }
+        ensures sizes { result ≡ true → AllByRecursion (IsBody newest) bodies.now }
+        ensures above { result ≡ true → self.now.log.generation < generation bodies.now }
+        ensures other { 1 ≤ length bodies.now → AllByRecursion (IsBody newest) bodies.now
+            → self.now.log.generation < generation bodies.now → result ≡ true }
     {
         !bodies.is_empty()
             && are_bodies(bodies)
-            && self.log.generation() < generation_of_bodies(bodies)
+            && self.log.generation() < generation_of_snapshot(bodies)
     }
 
     /// Whether such a log keeps the room to complete and forget what is prepared.
-    fn has_room_for(&self, bodies: &[Vec<u8>]) -> bool
-        requires sizes { AllByRecursion (IsBody newest) (bodies_of bodies.now) }
+    fn has_room_for(&self, bodies: &[SharedBytes]) -> bool
+        requires sizes { AllByRecursion (IsBody newest) bodies.now }
         ensures { (s : State) → ManagerStandsFor D.Disk self.now s → self.now.up ≡ true
-            → bodies_of bodies.now ≡ snapshot_bodies s (s.logged_boot + 1)
+            → bodies.now ≡ snapshot_bodies s (s.logged_boot + 1)
             → result ≡ can_open s s.log_bytes (s.logged_boot + 1) }
     {
         begins_with_room(
@@ -89,24 +89,24 @@ impl<D: Disk> Manager<D> {
     }
 
     /// The snapshot is logged, and its boot begins.
-    fn log_trim(&mut self, next: u32, bodies: &[Vec<u8>]) -> Done
+    fn log_trim(&mut self, next: u32, bodies: &[SharedBytes]) -> Done
         requires some { 1 ≤ length bodies.now }
-        requires sizes { AllByRecursion (IsBody newest) (bodies_of bodies.now) }
-        requires holds { HoldsEach self.old.log (bodies_of bodies.now) }
-        requires above { self.old.log.generation < generation (bodies_of bodies.now) }
+        requires sizes { AllByRecursion (IsBody newest) bodies.now }
+        requires holds { HoldsEach self.old.log bodies.now }
+        requires above { self.old.log.generation < generation bodies.now }
         requires up { self.old.up ≡ true }
         ensures turn { (s : State) (rs : List Record) → ManagerStandsFor D.Disk self.old s → Trusts D.Disk
             → Backs rs s → HasRecords D.Disk rs self.old.log → trim_refusal s ≡ None → next ≡ s.logged_boot + 1
-            → bodies_of bodies.now ≡ snapshot_bodies s (s.logged_boot + 1)
+            → bodies.now ≡ snapshot_bodies s (s.logged_boot + 1)
             → AnswersAs D.Disk (taken (trim_turn s) result.outcome) result.reply self.new }
         // Both of a log whose buffer alone was another.
         ensures leaves { (log : Log D) (s : State) (rs : List Record) → HasReserved D.Disk log self.old.log
             → ManagerStandsFor D.Disk self.old s → Trusts D.Disk → Backs rs s → HasRecords D.Disk rs log
-            → trim_refusal s ≡ None → bodies_of bodies.now ≡ snapshot_bodies s (s.logged_boot + 1)
+            → trim_refusal s ≡ None → bodies.now ≡ snapshot_bodies s (s.logged_boot + 1)
             → LeavesBy D.Disk log (trim_turn s) result.outcome self.new.log s }
         ensures called { (log : Log D) (s : State) (rs : List Record) → HasReserved D.Disk log self.old.log
             → ManagerStandsFor D.Disk self.old s → Trusts D.Disk → Backs rs s
-            → bodies_of bodies.now ≡ snapshot_bodies s (s.logged_boot + 1)
+            → bodies.now ≡ snapshot_bodies s (s.logged_boot + 1)
             → HasCalledToTrim D.Disk result.outcome log self.new.log }
         ensures outcome { self.new.outcome ≡ self.old.outcome }
         ensures served { is_memory result.reply.detail ≡ false }
@@ -143,9 +143,9 @@ impl<D: Disk> Manager<D> {
 }
 
 /// Whether each of these is a body of a record that the newest format takes.
-fn are_bodies(bodies: &[Vec<u8>]) -> bool
-    ensures yes { result ≡ true → AllByRecursion (IsBody newest) (bodies_of bodies.now) }
-    ensures other { AllByRecursion (IsBody newest) (bodies_of bodies.now) → result ≡ true }
+fn are_bodies(bodies: &[SharedBytes]) -> bool
+    ensures yes { result ≡ true → AllByRecursion (IsBody newest) bodies.now }
+    ensures other { AllByRecursion (IsBody newest) bodies.now → result ≡ true }
 {
     let most = Format::newest().most_body();
     for body in bodies {

@@ -14,8 +14,8 @@ abbrev pub bytes_of : List (Vec ℕ Global) → List (List ℕ)
 bytes_of bodies = map (λ b. b.items) bodies
 
 -- these bodies stand behind those that were there
-abbrev pub Puts : Vec (Vec ℕ Global) Global → List (List ℕ) → Vec (Vec ℕ Global) Global → Type 0
-Puts old more new = bytes_of new.items ≡ bytes_of old.items ++ more
+abbrev pub Puts : Vec (List ℕ) Global → List (List ℕ) → Vec (List ℕ) Global → Type 0
+Puts old more new = new.items ≡ old.items ++ more
 
 -- the body of an entry: of a committed branch, of one in doubt, of what the operator decided
 

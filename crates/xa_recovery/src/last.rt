@@ -10,18 +10,14 @@ use std::collections::{BTreeMap, BTreeSet};
 use xa_codes::{Bytes, Write};
 use xa_record::Writes;
 
-/// The writes of keys that aren't in the set, in no more memory than they need.
-fn unwritten(alloc: Global, written: &BTreeSet<Bytes>, writes: Writes) -> Result<Writes, AllocError>
-    ensures { IfOk result (λ ws. ws ≡ filter (λ w. not (has_key written.now w.key)) writes) }
+/// The writes of keys that aren't in the set. They stay where they are.
+fn unwritten(written: &BTreeSet<Bytes>, writes: Writes) -> Writes
+    ensures { result ≡ filter (λ w. not (has_key written.now w.key)) writes }
 {
-    let mut kept = Vec::with_capacity(alloc, writes.as_slice().len())?;
-    for write in writes.into_vec() {
-        if !written.contains(&write.key) {
-            kept.push(write)?;
-        }
-    }
+    let mut kept = writes.into_vec();
+    kept.retain(|write| !written.contains(&write.key));
     kept.shrink_to_fit();
-    Ok(Writes::new(kept))
+    Writes::new(kept)
 }
 
 /// Adds the keys of writes to the set.
@@ -52,7 +48,7 @@ pub(crate) fn last_writes(
     let mut written = BTreeSet::new(alloc);
     let mut last = BTreeMap::new(alloc);
     while let Some((timestamp, writes)) = all.pop_last() {
-        let kept = unwritten(alloc, &written, writes)?;
+        let kept = unwritten(&written, writes);
         if !kept.as_slice().is_empty() {
             note(alloc, &mut written, kept.as_slice())?;
             keep(&mut last, timestamp, kept)?;

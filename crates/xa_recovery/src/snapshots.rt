@@ -2,21 +2,22 @@ ghost use Rattle.std.specs.Prelude.{◌≡◌, ◌∷◌, [], map, IfOk, OnOk};
 ghost use Rattle.xa_record.specs.Spelling.{spelled};
 ghost use Rattle.xa_record.specs.declared.record.Record.TheVariants.{Opened};
 ghost use Rattle.xa_model.specs.Fold.{snapshot};
-ghost use Rattle.xa_recovery.specs.Snapshots.{Puts, bytes_of, base_body, held_body, known_body};
+ghost use Rattle.xa_recovery.specs.Snapshots.{Puts, base_body, held_body, known_body};
 
 use crate::durable::{Durable, InDoubt};
 use std::alloc::{AllocError, Global};
 use std::collections::BTreeMap;
 use xa_codes::Direction;
 use xa_record::{Record, Writes, write_base, write_held, write_short};
+use xa_shared::SharedBytes;
 use xa_xid::Xid;
 
 /// Puts a body behind the others, in no more memory than it has bytes: all are kept until the last one is written.
-fn put(bodies: &mut Vec<Vec<u8>>, mut body: Vec<u8>) -> Result<(), AllocError>
+fn put(alloc: Global, bodies: &mut Vec<SharedBytes>, mut body: Vec<u8>) -> Result<(), AllocError>
     ensures { OnOk result (Puts bodies.old (body.items ∷ []) bodies.new) }
 {
     body.shrink_to_fit();
-    bodies.push(body)?;
+    bodies.push(SharedBytes::new(alloc, body)?)?;
     Ok(())
 }
 
@@ -26,18 +27,18 @@ fn put(bodies: &mut Vec<Vec<u8>>, mut body: Vec<u8>) -> Result<(), AllocError>
 /// Out of memory.
 pub fn put_base(
     alloc: Global,
-    bodies: &mut Vec<Vec<u8>>,
+    bodies: &mut Vec<SharedBytes>,
     timestamp: u64,
     writes: &Writes,
 ) -> Result<(), AllocError>
     ensures { OnOk result (Puts bodies.old (base_body (timestamp, writes.now) ∷ []) bodies.new) }
 {
-    put(bodies, write_base(alloc, timestamp, writes)?)
+    put(alloc, bodies, write_base(alloc, timestamp, writes)?)
 }
 
 fn put_committed(
     alloc: Global,
-    bodies: &mut Vec<Vec<u8>>,
+    bodies: &mut Vec<SharedBytes>,
     committed: BTreeMap<u64, Writes>,
 ) -> Result<(), AllocError>
     ensures { OnOk result (Puts bodies.old (map base_body committed.entries) bodies.new) }
@@ -54,19 +55,19 @@ fn put_committed(
 /// Out of memory.
 pub fn put_held(
     alloc: Global,
-    bodies: &mut Vec<Vec<u8>>,
+    bodies: &mut Vec<SharedBytes>,
     timestamp: u64,
     branch: &InDoubt,
 ) -> Result<(), AllocError>
     ensures { OnOk result (Puts bodies.old (held_body (timestamp, branch.now) ∷ []) bodies.new) }
 {
     let body = write_held(alloc, &branch.xid, timestamp, &branch.writes)?;
-    put(bodies, body)
+    put(alloc, bodies, body)
 }
 
 fn put_prepared(
     alloc: Global,
-    bodies: &mut Vec<Vec<u8>>,
+    bodies: &mut Vec<SharedBytes>,
     prepared: BTreeMap<u64, InDoubt>,
 ) -> Result<(), AllocError>
     ensures { OnOk result (Puts bodies.old (map held_body prepared.entries) bodies.new) }
@@ -79,7 +80,7 @@ fn put_prepared(
 
 fn put_known(
     alloc: Global,
-    bodies: &mut Vec<Vec<u8>>,
+    bodies: &mut Vec<SharedBytes>,
     xid: &Xid,
     direction: Direction,
 ) -> Result<(), AllocError>
@@ -87,7 +88,7 @@ fn put_known(
 {
     let xid = xid.copied();
     let body = write_short(alloc, &Record::Known { xid, direction })?;
-    put(bodies, body)
+    put(alloc, bodies, body)
 }
 
 /// Puts the bodies of what the operator completed behind the others.
@@ -96,7 +97,7 @@ fn put_known(
 /// Out of memory.
 pub fn put_decided(
     alloc: Global,
-    bodies: &mut Vec<Vec<u8>>,
+    bodies: &mut Vec<SharedBytes>,
     decided: &BTreeMap<Xid, Direction>,
 ) -> Result<(), AllocError>
     ensures { OnOk result (Puts bodies.old (map known_body decided.now.entries) bodies.new) }
@@ -117,8 +118,8 @@ pub fn begin_snapshot(
     alloc: Global,
     durable: &Durable,
     boot: u32,
-) -> Result<Vec<Vec<u8>>, AllocError>
-    ensures { IfOk result (λ v. bytes_of v.items ≡ spelled (Opened boot) ∷ []) }
+) -> Result<Vec<SharedBytes>, AllocError>
+    ensures { IfOk result (λ v. v.items ≡ spelled (Opened boot) ∷ []) }
 {
     let branches = durable
         .committed
@@ -127,7 +128,7 @@ pub fn begin_snapshot(
     let others = durable.decided.len().saturating_add(1);
     let mut bodies = Vec::with_capacity(alloc, branches.saturating_add(others))?;
     let opened = write_short(alloc, &Record::Opened { boot })?;
-    put(&mut bodies, opened)?;
+    put(alloc, &mut bodies, opened)?;
     Ok(bodies)
 }
 
@@ -140,8 +141,8 @@ pub fn begin_snapshot(
 ///
 /// # Errors
 /// Out of memory.
-pub fn snapshot(alloc: Global, durable: Durable, boot: u32) -> Result<Vec<Vec<u8>>, AllocError>
-    ensures { IfOk result (λ v. bytes_of v.items ≡ map spelled (snapshot durable boot)) }
+pub fn snapshot(alloc: Global, durable: Durable, boot: u32) -> Result<Vec<SharedBytes>, AllocError>
+    ensures { IfOk result (λ v. v.items ≡ map spelled (snapshot durable boot)) }
 {
     let mut bodies = begin_snapshot(alloc, &durable, boot)?;
     let (committed, prepared, decided) = durable.into_parts();

@@ -1,5 +1,5 @@
 use crate::rows::none_wrong;
-use mv_chain::{Chain, Fate, Pool};
+use mv_chain::{Chain, Fate, Pool, ValueBytes};
 use std::alloc::{AllocError, Global};
 
 /// What is asked of a chain, at a timestamp.
@@ -208,7 +208,7 @@ fn rows(rt: HostRuntime) {
 fn written(pool: &mut Pool, chain: &mut Chain, follows: bool) -> Result<(), AllocError> {
     for ts in FIRST..FIRST + 300 {
         let look = chain.look(pool, ts);
-        chain.install_at(pool, &look, None)?;
+        chain.install_at(pool, &look, ValueBytes::new(None))?;
         chain.settle(pool, ts, Fate::Committed);
         if follows {
             chain.prune(pool, ts);
@@ -246,7 +246,7 @@ fn write(alloc: Global, pool: &mut Pool, chain: &mut Chain, byte: u8) -> Result<
     let read = chain.look(pool, FIRST);
     chain.mark_at(pool, &read);
     let look = chain.look(pool, SECOND);
-    chain.install_at(pool, &look, Some([byte].to_vec(alloc)?))
+    chain.install_at(pool, &look, ValueBytes::new(Some([byte].to_vec(alloc)?)))
 }
 
 /// A new key, so read and written.

@@ -26,8 +26,13 @@ fn has_committed(records: &Records, first: &[KeyWrite], second: &[KeyWrite]) -> 
 // Of each key the last committed write, also a deletion, with its branch's timestamp; nothing of a branch in doubt.
 fn tells_committed(alloc: Global) -> Result<bool, AllocError> {
     let mut records = Records::new(alloc);
-    records.restore(FIRST, writes_of(alloc, &WROTE)?, Some(Fate::Committed))?;
-    records.restore(SECOND, writes_of(alloc, &WROTE_LATER)?, None)?;
+    records.restore(
+        FIRST,
+        writes_of(alloc, &WROTE)?,
+        Some(Fate::Committed),
+        None,
+    )?;
+    records.restore(SECOND, writes_of(alloc, &WROTE_LATER)?, None, None)?;
     let in_doubt = has_committed(&records, &WROTE, &[]);
     records.settle(SECOND, Fate::Committed);
     Ok(in_doubt && has_committed(&records, &LEFT, &WROTE_LATER))

@@ -1,6 +1,6 @@
 use Rattle.std.proofs.Common.{◌≡◌, ◌∙◌, ap, sym, false, get_or}
 use Rattle.mv_chain.specs.Chain.{base}
-use Rattle.mv_chain.specs.Pool.{version_at, shown_at}
+use Rattle.mv_chain.specs.Pool.{shown_at}
 use Rattle.mv_chain.proofs.Frames.{shown_index, taken_out_shown, taken_out_held}
 use Rattle.mv_chain.proofs.Counted.{taken_out_counts}
 use Rattle.mv_chain.proofs.pruning.prune_at.Goals as goal

@@ -1,8 +1,7 @@
 use Rattle.std.proofs.Common.{take}
 use Rattle.std.specs.List.{AllByRecursion}
 use Rattle.xa_log.specs.Chain.{IsBody, newest}
-use Rattle.xa_log.specs.Reading.{bodies_of}
 use Rattle.xa_log_tests.proofs.log_pairs.are_bodies.Given as goal
 
 abbrev pub invariant-loop-body : goal.invariant-loop-body
-invariant-loop-body l = AllByRecursion (IsBody newest) (bodies_of (take l.body-index l.bodies))
+invariant-loop-body l = AllByRecursion (IsBody newest) (take l.body-index l.bodies)

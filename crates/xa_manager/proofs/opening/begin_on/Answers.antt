@@ -37,7 +37,7 @@ log_first-requires-clause-sizes g c =
     first_sizes 0 _ c.in_ok-prepared.field-0.durable.value c.in-Some.next _ plan c.deref-3.ensures.value
 
 pub log_first-requires-clause-holds : goal.log_first-requires-clause-holds
-log_first-requires-clause-holds g c = subst (λ (vs : List (Vec ℕ Global)). HoldsEach c.reserve_for.new.log (bodies_of vs)) (c.deref-2.ensures.value ∙ sym c.deref-3.ensures.value) c.in-Ok.ensures.holds
+log_first-requires-clause-holds g c = subst (λ (vs : List (List ℕ)). HoldsEach c.reserve_for.new.log vs) (c.deref-2.ensures.value ∙ sym c.deref-3.ensures.value) c.in-Ok.ensures.holds
 
 pub log_first-requires-clause-modern : goal.log_first-requires-clause-modern
 log_first-requires-clause-modern g c = λ new. c.in-Ok.ensures.ok.fields.format ∙ c.requires.modern new
@@ -50,7 +50,7 @@ reserve_for-requires g c =
 pub log_first-requires-clause-above : goal.log_first-requires-clause-above
 log_first-requires-clause-above g c =
     let plan = planned 0 (bodies_of c.args.bodies.items) c.in_ok-prepared.field-0 c.in-Some.next c.in_ok-prepared.ensures.0 c.in_ok-prepared.ensures.1 c.in-Some.is in
-    subst (λ (n : ℕ). n < generation (bodies_of c.deref-3.result.now)) (sym (c.in-Ok.ensures.ok.fields.number ∙ c.requires.number))
+    subst (λ (n : ℕ). n < generation c.deref-3.result.now) (sym (c.in-Ok.ensures.ok.fields.number ∙ c.requires.number))
     (first_newer 0 _ c.in_ok-prepared.field-0.durable.value c.in-Some.next c.deref-3.result.now plan c.deref-3.ensures.value)
 
 pub returns-clause-begun : goal.returns-clause-begun
@@ -91,7 +91,7 @@ returns-clause-logs g c =
     c.in_ok-prepared.ensures.2.prepared
     c.in_ok-prepared.ensures.2.completed
     (sym c.if-not-begins_with_room.false ∙ c.begins_with_room.ensures))
-    (subst (λ a. LogsFirst g.D.Disk c.args.is_new a (bodies_of c.deref-3.result.now) c.reserve_for.new.log c.log_first.new.log) c.in-Kept.is c.log_first.ensures.logs))
+    (subst (λ a. LogsFirst g.D.Disk c.args.is_new a c.deref-3.result.now c.reserve_for.new.log c.log_first.new.log) c.in-Kept.is c.log_first.ensures.logs))
 
 pub returns-in-Refused-clause-leaves : goal.returns-in-Refused-clause-leaves
 returns-in-Refused-clause-leaves g c =

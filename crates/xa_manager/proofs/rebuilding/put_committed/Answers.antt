@@ -2,7 +2,7 @@ use Rattle.std.proofs.Common.{ℕ, List, ◌++◌, map, ap, refl, sym, subst, �
 use Rattle.xa_codes.specs.declared.write.Write.{Write}
 use Rattle.xa_limits.specs.declared.TheConstants.{MOST_VALUE}
 use Rattle.xa_recovery.specs.Durable.{as_committed}
-use Rattle.xa_recovery.specs.Snapshots.{bytes_of, base_body}
+use Rattle.xa_recovery.specs.Snapshots.{base_body}
 use Rattle.xa_recovery.proofs.Loops.{one_body, all_bodies}
 use Rattle.xa_manager.specs.Rebuilding.{CommittedUpto, CommittedAreShort}
 use Rattle.xa_manager.proofs.NewTables.{committed_added, committed_whole, committed_first}
@@ -23,7 +23,7 @@ loop-timestamp-preserved c =
           (next.1, c.low_water.ensures.within MOST_VALUE (c.restore.ensures.within MOST_VALUE i.1 (rw c.into_vec.ensures next.0)));
       unwritten = λ none t.
           c.low_water.ensures.own t ∙ none_more c.loop-timestamp.records c.restore.new.self c.in-Some.timestamp (c.in_ok-restore.ensures.decided refl) c.restore.ensures.others (c.loop-timestamp.invariant.unwritten none) t;
-      bodies = one_body base_body (bytes_of c.loop-timestamp.bodies.items) (bytes_of c.put_base.new.bodies.items) (base_body e) e c.next.new.self c.loop-timestamp.timestamp-iterator _
+      bodies = one_body base_body c.loop-timestamp.bodies.items c.put_base.new.bodies.items (base_body e) e c.next.new.self c.loop-timestamp.timestamp-iterator _
           more refl c.in_ok-put_base.ensures c.loop-timestamp.invariant.bodies;
     }
 
@@ -35,7 +35,7 @@ loop-timestamp-init c =
           (committed_first c.args.least (map as_committed c.args.committed.entries) c.args.records.now new ordered start);
       short = λ all start. (subst (λ (es : List (ℕ × List Write)). CommittedAreShort (map as_committed es)) is all, start);
       unwritten = λ none. none;
-      bodies = ap (λ es. bytes_of c.args.bodies.now.items ++ map base_body es) (sym is);
+      bodies = ap (λ es. c.args.bodies.now.items ++ map base_body es) (sym is);
     }
 
 pub returns-clause-stands : goal.returns-clause-stands
@@ -50,4 +50,4 @@ returns-clause-unwritten c = c.loop-timestamp.invariant.unwritten
 
 pub returns-clause-bodies : goal.returns-clause-bodies
 returns-clause-bodies c =
-    all_bodies base_body (bytes_of c.loop-timestamp.bodies.items) _ c.loop-timestamp.timestamp-iterator c.in-None.ensures.steps.0 c.loop-timestamp.invariant.bodies
+    all_bodies base_body c.loop-timestamp.bodies.items _ c.loop-timestamp.timestamp-iterator c.in-None.ensures.steps.0 c.loop-timestamp.invariant.bodies

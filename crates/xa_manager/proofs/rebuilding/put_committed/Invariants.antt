@@ -3,7 +3,7 @@ use Rattle.xa_limits.specs.declared.TheConstants.{MOST_VALUE}
 use Rattle.mv_rules.specs.Within.{IsWithin}
 use Rattle.xa_model.specs.Durable.{Pairwise, commits_before}
 use Rattle.xa_recovery.specs.Durable.{as_committed}
-use Rattle.xa_recovery.specs.Snapshots.{bytes_of, base_body}
+use Rattle.xa_recovery.specs.Snapshots.{base_body}
 use Rattle.xa_manager.specs.Rebuilding.{AreNew, HaveWrites, CommittedUpto, CommittedAreShort, NoneHasWritten}
 use Rattle.xa_manager.proofs.rebuilding.put_committed.Given as goal
 
@@ -13,5 +13,5 @@ invariant-loop-timestamp l = record {
       → CommittedUpto l.least (map as_committed l.fn.committed.entries) (map as_committed l.timestamp-iterator) l.records;
   short : CommittedAreShort (map as_committed l.fn.committed.entries) → IsWithin MOST_VALUE l.fn.records → CommittedAreShort (map as_committed l.timestamp-iterator) × IsWithin MOST_VALUE l.records;
   unwritten : NoneHasWritten l.fn.records → NoneHasWritten l.records;
-  bodies : bytes_of l.bodies.items ++ map base_body l.timestamp-iterator ≡ bytes_of l.fn.bodies.items ++ map base_body l.fn.committed.entries;
+  bodies : l.bodies.items ++ map base_body l.timestamp-iterator ≡ l.fn.bodies.items ++ map base_body l.fn.committed.entries;
 }

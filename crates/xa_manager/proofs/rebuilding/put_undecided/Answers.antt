@@ -2,7 +2,7 @@ use Rattle.std.proofs.Common.{ℕ, map, ap, refl}
 use Rattle.xa_limits.specs.declared.TheConstants.{MOST_VALUE}
 use Rattle.xa_recovery.specs.declared.durable.InDoubt.{InDoubt}
 use Rattle.xa_recovery.specs.Durable.{as_prepared}
-use Rattle.xa_recovery.specs.Snapshots.{bytes_of, held_body}
+use Rattle.xa_recovery.specs.Snapshots.{held_body}
 use Rattle.xa_recovery.proofs.Loops.{one_body, all_bodies}
 use Rattle.xa_manager.proofs.NewTables.{prepared_added, prepared_whole}
 use Rattle.xa_manager.proofs.KeysBack.{keys_first, keys_more}
@@ -23,7 +23,7 @@ loop-timestamp-preserved c =
       keys = λ start.
           keys_more c.loop-timestamp.records c.restore.new.self (map as_prepared c.loop-timestamp.timestamp-iterator) (map as_prepared c.next.new.self) (as_prepared e) (ap (λ es. map as_prepared es) more) c.restore.ensures.others
           (rw c.into_vec.ensures at c.in_ok-restore.ensures.keys) (c.loop-timestamp.invariant.keys start);
-      bodies = one_body held_body (bytes_of c.loop-timestamp.bodies.items) (bytes_of c.put_held.new.bodies.items) (held_body e) e c.next.new.self c.loop-timestamp.timestamp-iterator _
+      bodies = one_body held_body c.loop-timestamp.bodies.items c.put_held.new.bodies.items (held_body e) e c.next.new.self c.loop-timestamp.timestamp-iterator _
           more refl c.in_ok-put_held.ensures c.loop-timestamp.invariant.bodies;
     }
 
@@ -39,4 +39,4 @@ returns-clause-keys c = λ all apart none. (c.loop-timestamp.invariant.keys (key
 
 pub returns-clause-bodies : goal.returns-clause-bodies
 returns-clause-bodies c =
-    all_bodies held_body (bytes_of c.loop-timestamp.bodies.items) _ c.loop-timestamp.timestamp-iterator c.in-None.ensures.steps.0 c.loop-timestamp.invariant.bodies
+    all_bodies held_body c.loop-timestamp.bodies.items _ c.loop-timestamp.timestamp-iterator c.in-None.ensures.steps.0 c.loop-timestamp.invariant.bodies

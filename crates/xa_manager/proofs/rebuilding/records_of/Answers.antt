@@ -1,7 +1,6 @@
 use Rattle.std.proofs.Common.{List, [], map, refl, subst, sym, ◌∙◌}
 use Rattle.xa_limits.specs.declared.TheConstants.{MOST_VALUE}
 use Rattle.xa_recovery.specs.Durable.{as_committed, as_prepared}
-use Rattle.xa_recovery.specs.Snapshots.{bytes_of}
 use Rattle.xa_recovery.proofs.ListedMaps.{bodies_are, of_parts}
 use Rattle.xa_model.specs.Durable.{CommittedBranch, PreparedBranch, Pairwise, prepares_before}
 use Rattle.xa_manager.specs.Rebuilding.{CommittedAreShort, PreparedAreShort, PreparedHaveKeys}
@@ -33,7 +32,7 @@ returns-clause-bodies c =
     let parts = c.into_parts-committed.result in
     let is = c.into_parts-committed.ensures in
     bodies_are c.args.boot c.args.durable.boot parts.0.entries parts.1.entries parts.2.entries
-    [] (bytes_of c.in_ok-bodies.bodies.items) (bytes_of c.put_committed.new.bodies.items)
-    (bytes_of c.put_undecided.new.bodies.items) (bytes_of c.put_decided.new.bodies.items)
+    [] c.in_ok-bodies.bodies.items c.put_committed.new.bodies.items
+    c.put_undecided.new.bodies.items c.put_decided.new.bodies.items
     refl c.in_ok-bodies.ensures c.in_ok-put_committed.ensures.bodies c.in_ok-put_undecided.ensures.bodies c.in_ok-put_decided.ensures
     ∙ of_parts c.args.durable c.args.boot parts.0.entries parts.1.entries parts.2.entries is.committed is.prepared is.decided

@@ -1,6 +1,6 @@
 use Rattle.std.proofs.Common.{◌≡◌, ◌++◌, map}
-use Rattle.xa_recovery.specs.Snapshots.{base_body, bytes_of}
+use Rattle.xa_recovery.specs.Snapshots.{base_body}
 use Rattle.xa_recovery.proofs.snapshots.put_committed.Given as goal
 
 abbrev pub invariant-loop-timestamp : goal.invariant-loop-timestamp
-invariant-loop-timestamp l = bytes_of l.bodies.items ++ map base_body l.timestamp-iterator ≡ bytes_of l.fn.bodies.items ++ map base_body l.fn.committed.entries
+invariant-loop-timestamp l = l.bodies.items ++ map base_body l.timestamp-iterator ≡ l.fn.bodies.items ++ map base_body l.fn.committed.entries

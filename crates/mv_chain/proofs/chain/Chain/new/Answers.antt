@@ -10,4 +10,4 @@ returns-in_err-put_in-clause-err_count c =
 
 pub returns-clause-count : goal.returns-clause-count
 returns-clause-count c =
-    put_in_counts 0 base c.args.pool.now c.put_in.new.pool [] c.put_in.new.slots.items (rw c.new-slots.ensures.items at c.in_ok-put_in.ensures.ok)
+    put_in_counts 0 base c.args.pool.now c.put_in.new.pool [] c.put_in.new.slots.items (rw c.new-slots.ensures.items at rw c.new.ensures at c.in_ok-put_in.ensures.ok)

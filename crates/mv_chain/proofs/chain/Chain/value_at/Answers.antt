@@ -1,5 +1,5 @@
 use Rattle.std.proofs.Common.{◌∙◌, ap, sym, arith}
-use Rattle.mv_chain.specs.Pool.{version_at, versions_of}
+use Rattle.mv_chain.specs.Pool.{versions_of}
 use Rattle.mv_chain.proofs.Frames.{shown_length}
 use Rattle.mv_chain.proofs.Looked.{look_index, look_value_none}
 use Rattle.mv_chain.proofs.Sought.{sees}

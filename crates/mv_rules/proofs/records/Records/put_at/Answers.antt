@@ -1,5 +1,5 @@
 use Rattle.std.proofs.Common.{◌≡◌, ◌<◌, refl, sym, ap, ℕ, List, Option, length, arith}
-use Rattle.std.specs.Prelude.{option_map, ◌==◌}
+use Rattle.std.specs.Prelude.{◌==◌}
 use Rattle.mv_chain.specs.declared.look.Look.{Look}
 use Rattle.mv_chain.specs.Chain.{shows, is_marked, installed}
 use Rattle.mv_chain.specs.Pool.{versions_of}
@@ -24,7 +24,7 @@ returns-in_default-clause-stands c =
 pub returns-in-Refused-clause-answer : goal.returns-in-Refused-clause-answer
 returns-in-Refused-clause-answer c =
     λ h s here u m.
-    let value : Option (List ℕ) = option_map (λ v. v.items) c.args.value in
+    let value : Option (List ℕ) = c.args.value in
     let k = s.chains.held.kept c.args.i c.index_mut-chain.result.now c.index_mut-chain.ensures.value in
     let verdict = looked_at _ c.look-look.result c.args.ts c.count-count.result _ (c.look-look.ensures.found k) c.in-Refused.ensures in
     (put_refused h c.args.self.now c.args.key.now c.args.i c.args.ts c.count-count.result (versions_of c.args.self.now.pool c.index_mut-chain.result.now) u s here (ap (shown_in c.args.self.now.pool) (sym c.index_mut-chain.ensures.value)) c.count-count.ensures c.in-Refused.answer value verdict).0
@@ -33,7 +33,7 @@ pub returns-in-Refused-clause-stands : goal.returns-in-Refused-clause-stands
 returns-in-Refused-clause-stands c =
     λ h s here u.
     let chain = c.index_mut-chain.result.now in
-    let value : Option (List ℕ) = option_map (λ v. v.items) c.args.value in
+    let value : Option (List ℕ) = c.args.value in
     let k = s.chains.held.kept c.args.i c.index_mut-chain.result.now c.index_mut-chain.ensures.value in
     let verdict = looked_at _ c.look-look.result c.args.ts c.count-count.result _ (c.look-look.ensures.found k) c.in-Refused.ensures in
     let left = (put_refused h c.args.self.now c.args.key.now c.args.i c.args.ts c.count-count.result (versions_of c.args.self.now.pool c.index_mut-chain.result.now) u s here (ap (shown_in c.args.self.now.pool) (sym c.index_mut-chain.ensures.value)) c.count-count.ensures c.in-Refused.answer value verdict).1 in
@@ -42,7 +42,7 @@ returns-in-Refused-clause-stands c =
 pub returns-in-Ok-clause-answer : goal.returns-in-Ok-clause-answer
 returns-in-Ok-clause-answer c =
     λ h s here u m.
-    let value : Option (List ℕ) = option_map (λ v. v.items) c.args.value in
+    let value : Option (List ℕ) = c.args.value in
     let k = s.chains.held.kept c.args.i c.index_mut-chain.result.now c.index_mut-chain.ensures.value in
     let verdict = looked_at _ c.look-look.result c.args.ts c.count-count.result _ (c.look-look.ensures.found k) c.in-Again.ensures in
     (again_at h c.args.self.now c.args.key.now c.args.i c.index_mut-chain.result.now c.install_at.new.self c.install_at.new.pool c.args.self.now.notes s here c.index_mut-chain.ensures.value c.install_at.ensures.others (λ kk. c.install_at.ensures.kept c.args.ts kk (c.look-look.ensures.found kk)) c.args.ts c.count-count.result value u c.count-count.ensures verdict
@@ -51,7 +51,7 @@ returns-in-Ok-clause-answer c =
 pub returns-in-Ok-clause-stands : goal.returns-in-Ok-clause-stands
 returns-in-Ok-clause-stands c =
     λ h s here u.
-    let value : Option (List ℕ) = option_map (λ v. v.items) c.args.value in
+    let value : Option (List ℕ) = c.args.value in
     let k = s.chains.held.kept c.args.i c.index_mut-chain.result.now c.index_mut-chain.ensures.value in
     let verdict = looked_at _ c.look-look.result c.args.ts c.count-count.result _ (c.look-look.ensures.found k) c.in-Again.ensures in
     (again_at h c.args.self.now c.args.key.now c.args.i c.index_mut-chain.result.now c.install_at.new.self c.install_at.new.pool c.args.self.now.notes s here c.index_mut-chain.ensures.value c.install_at.ensures.others (λ kk. c.install_at.ensures.kept c.args.ts kk (c.look-look.ensures.found kk)) c.args.ts c.count-count.result value u c.count-count.ensures verdict
@@ -66,7 +66,7 @@ returns-in-Err-clause-stands c =
 pub returns-in-Ok-add-clause-stands : goal.returns-in-Ok-add-clause-stands
 returns-in-Ok-add-clause-stands c =
     λ h s here u.
-    let value : Option (List ℕ) = option_map (λ v. v.items) c.args.value in
+    let value : Option (List ℕ) = c.args.value in
     let k = s.chains.held.kept c.args.i c.index_mut-chain.result.now c.index_mut-chain.ensures.value in
     let verdict = looked_at _ c.look-look.result c.args.ts c.count-count.result _ (c.look-look.ensures.found k) c.in-First.ensures in
     let at_ts : c.look-look.result.at ≡ c.args.ts = ap (λ (l : Look). l.at) (c.look-look.ensures.found k) in
@@ -111,7 +111,7 @@ returns-in-Ok-clause-puts c =
     λ done h s here u.
     let r = c.args.self.now in
     let a = c.index_mut-chain.result.now in
-    let value : Option (List ℕ) = option_map (λ v. v.items) c.args.value in
+    let value : Option (List ℕ) = c.args.value in
     let k = s.chains.held.kept c.args.i a c.index_mut-chain.ensures.value in
     let vs = versions_of r.pool a in
     let verdict = looked_at _ c.look-look.result c.args.ts c.count-count.result _ (c.look-look.ensures.found k) c.in-Again.ensures in
@@ -125,7 +125,7 @@ returns-in-Ok-add-clause-puts c =
     λ done h s here u.
     let r = c.args.self.now in
     let a = c.index_mut-chain.result.now in
-    let value : Option (List ℕ) = option_map (λ v. v.items) c.args.value in
+    let value : Option (List ℕ) = c.args.value in
     let k = s.chains.held.kept c.args.i a c.index_mut-chain.ensures.value in
     let vs = versions_of r.pool a in
     let verdict = looked_at _ c.look-look.result c.args.ts c.count-count.result _ (c.look-look.ensures.found k) c.in-First.ensures in

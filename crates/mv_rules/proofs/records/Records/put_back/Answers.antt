@@ -1,5 +1,5 @@
 use Rattle.std.proofs.Common.{◌≡◌, ◌∙◌, [], ◌∷◌, ◌++◌, refl, sym, ap, true, false, List, ℕ, Option, arith}
-use Rattle.std.specs.Prelude.{option_map, ◌==◌}
+use Rattle.std.specs.Prelude.{◌==◌}
 use Rattle.std.proofs.lemmas.Bool.Decides.{nat_tests}
 use Rattle.mv_chain.specs.declared.look.Look.{Look}
 use Rattle.mv_chain.specs.Chain.{shows, installed}
@@ -18,7 +18,7 @@ use Rattle.mv_rules.proofs.records.Records.put_back.Goals as goal
 
 pub returns-then-look-ts-clause-stands : goal.returns-then-look-ts-clause-stands
 returns-then-look-ts-clause-stands c =
-    let value : Option (List ℕ) = option_map (λ v. v.items) c.args.value in
+    let value : Option (List ℕ) = c.args.value in
     then_ok c.install_at.result c.install_at.ensures.stands
     (λ written. λ h s u timely.
     let stood = c.in_ok-i.ensures.stands h s in
@@ -31,7 +31,7 @@ returns-then-look-ts-clause-stands c =
 
 pub returns-clause-stands : goal.returns-clause-stands
 returns-clause-stands c =
-    let value : Option (List ℕ) = option_map (λ v. v.items) c.args.value in
+    let value : Option (List ℕ) = c.args.value in
     both_ok c.add.result c.add.ensures.ok c.add.ensures.noted
     (λ written noted. λ h s u timely.
     let stood = c.in_ok-i.ensures.stands h s in
@@ -45,7 +45,7 @@ returns-clause-stands c =
 
 pub returns-then-look-ts-clause-puts : goal.returns-then-look-ts-clause-puts
 returns-then-look-ts-clause-puts c =
-    let value : Option (List ℕ) = option_map (λ v. v.items) c.args.value in
+    let value : Option (List ℕ) = c.args.value in
     let made = c.find_or_make.new.self in
     let a = c.index_mut-chain.result.now in
     then_ok c.install_at.result c.install_at.ensures.versions
@@ -64,7 +64,7 @@ returns-then-look-ts-clause-puts c =
 
 pub returns-clause-puts : goal.returns-clause-puts
 returns-clause-puts c =
-    let value : Option (List ℕ) = option_map (λ v. v.items) c.args.value in
+    let value : Option (List ℕ) = c.args.value in
     let made = c.find_or_make.new.self in
     let a = c.index_mut-chain.result.now in
     both_ok c.add.result c.add.ensures.versions c.add.ensures.lists

@@ -1,6 +1,5 @@
 use Rattle.std.proofs.Common.{rules, ◌≡◌, ◌∙◌, ap, ℕ, ◌+◌, ◌-◌, ◌≤◌, min, length, refl, arith}
 use Rattle.xa_log.specs.Chain.{newest, start, text, records}
-use Rattle.xa_log.specs.Reading.{bodies_of}
 use Rattle.xa_log.proofs.Cleared.{cleared_by}
 use Rattle.xa_log.proofs.Known.{known_swapped, known_beside}
 use Rattle.xa_log.proofs.Records.{length-text}
@@ -10,18 +9,18 @@ use Rattle.xa_log.proofs.log.Log.checkpoint.Goals as goal
 pub returns-in-None-clause-any_moment : goal.returns-in-None-clause-any_moment
 returns-in-None-clause-any_moment g c h old stood p =
     let log = c.args.self.now in
-    other_still g.D.Disk old stood log log p (g.met.D.Disk.only_now log.other) newest (bodies_of c.args.bodies.now)
+    other_still g.D.Disk old stood log log p (g.met.D.Disk.only_now log.other) newest c.args.bodies.now
 
 pub returns-in-Kept-clause-any_moment : goal.returns-in-Kept-clause-any_moment
 returns-in-Kept-clause-any_moment g c h old stood p =
     let old_log = c.args.self.now in
     let most = old_log.log_bytes in
-    let fresh = bodies_of c.args.bodies.now in
+    let fresh = c.args.bodies.now in
     let wrote = c.checkpoint_on-outcome in
     let format = c.newest-format.result in
-    let end : c.in-Some.end ≡ length (text format (bodies_of c.args.bodies.now)) = c.in-Some.ensures.some.0 in
-    let room : 12 + (length (records (start format) (bodies_of c.args.bodies.now)) + c.zeros_behind-more.result) ≤ c.args.self.now.log_bytes =
-    omega (arith, c.in-Some.ensures.some.0, c.zeros_behind-more.ensures.within, length-text format (bodies_of c.args.bodies.now)) in
+    let end : c.in-Some.end ≡ length (text format c.args.bodies.now) = c.in-Some.ensures.some.0 in
+    let room : 12 + (length (records (start format) c.args.bodies.now) + c.zeros_behind-more.result) ≤ c.args.self.now.log_bytes =
+    omega (arith, c.in-Some.ensures.some.0, c.zeros_behind-more.ensures.within, length-text format c.args.bodies.now) in
     moments_of g.D.Disk most format stood fresh old_log.other wrote.new.disk _ (wrote_kept _ _ wrote.new.disk c.in-Kept.is c.swap.ensures.x_after)
     c.newest-format.ensures (wrote.ensures.any_moment h most stood room p.other)
 
@@ -29,12 +28,12 @@ pub returns-in-Lost-clause-any_moment : goal.returns-in-Lost-clause-any_moment
 returns-in-Lost-clause-any_moment g c h old stood p =
     let old_log = c.args.self.now in
     let most = old_log.log_bytes in
-    let fresh = bodies_of c.args.bodies.now in
+    let fresh = c.args.bodies.now in
     let wrote = c.checkpoint_on-outcome in
     let format = c.newest-format.result in
-    let end : c.in-Some.end ≡ length (text format (bodies_of c.args.bodies.now)) = c.in-Some.ensures.some.0 in
-    let room : 12 + (length (records (start format) (bodies_of c.args.bodies.now)) + c.zeros_behind-more.result) ≤ c.args.self.now.log_bytes =
-    omega (arith, c.in-Some.ensures.some.0, c.zeros_behind-more.ensures.within, length-text format (bodies_of c.args.bodies.now)) in
+    let end : c.in-Some.end ≡ length (text format c.args.bodies.now) = c.in-Some.ensures.some.0 in
+    let room : 12 + (length (records (start format) c.args.bodies.now) + c.zeros_behind-more.result) ≤ c.args.self.now.log_bytes =
+    omega (arith, c.in-Some.ensures.some.0, c.zeros_behind-more.ensures.within, length-text format c.args.bodies.now) in
     moments_of g.D.Disk most format stood fresh old_log.other wrote.new.disk _ (wrote_lost _ _ wrote.new.disk c.in-Lost.is refl)
     c.newest-format.ensures (wrote.ensures.any_moment h most stood room p.other)
 
@@ -42,52 +41,52 @@ pub returns-in-Refused-clause-any_moment : goal.returns-in-Refused-clause-any_mo
 returns-in-Refused-clause-any_moment g c h old stood p =
     let old_log = c.args.self.now in
     let most = old_log.log_bytes in
-    let fresh = bodies_of c.args.bodies.now in
+    let fresh = c.args.bodies.now in
     let wrote = c.checkpoint_on-outcome in
     let format = c.newest-format.result in
-    let end : c.in-Some.end ≡ length (text format (bodies_of c.args.bodies.now)) = c.in-Some.ensures.some.0 in
-    let room : 12 + (length (records (start format) (bodies_of c.args.bodies.now)) + c.zeros_behind-more.result) ≤ c.args.self.now.log_bytes =
-    omega (arith, c.in-Some.ensures.some.0, c.zeros_behind-more.ensures.within, length-text format (bodies_of c.args.bodies.now)) in
+    let end : c.in-Some.end ≡ length (text format c.args.bodies.now) = c.in-Some.ensures.some.0 in
+    let room : 12 + (length (records (start format) c.args.bodies.now) + c.zeros_behind-more.result) ≤ c.args.self.now.log_bytes =
+    omega (arith, c.in-Some.ensures.some.0, c.zeros_behind-more.ensures.within, length-text format c.args.bodies.now) in
     moments_of g.D.Disk most format stood fresh old_log.other wrote.new.disk _ (wrote_refused _ _ wrote.new.disk c.in-Refused.is refl)
     c.newest-format.ensures (wrote.ensures.any_moment h most stood room p.other)
 
 pub returns-in-Kept-clause-replaces : goal.returns-in-Kept-clause-replaces
 returns-in-Kept-clause-replaces g c h old stood s o kept =
     let old_log = c.args.self.now in
-    let fresh = bodies_of c.args.bodies.now in
+    let fresh = c.args.bodies.now in
     let wrote = c.checkpoint_on-outcome in
     let format = c.newest-format.result in
-    let end : c.in-Some.end ≡ length (text format (bodies_of c.args.bodies.now)) = c.in-Some.ensures.some.0 in
-    let room : 12 + (length (records (start format) (bodies_of c.args.bodies.now)) + c.zeros_behind-more.result) ≤ c.args.self.now.log_bytes =
-    omega (arith, c.in-Some.ensures.some.0, c.zeros_behind-more.ensures.within, length-text format (bodies_of c.args.bodies.now)) in
+    let end : c.in-Some.end ≡ length (text format c.args.bodies.now) = c.in-Some.ensures.some.0 in
+    let room : 12 + (length (records (start format) c.args.bodies.now) + c.zeros_behind-more.result) ≤ c.args.self.now.log_bytes =
+    omega (arith, c.in-Some.ensures.some.0, c.zeros_behind-more.ensures.within, length-text format c.args.bodies.now) in
     replaced g.D.Disk old stood old_log _ s format fresh c.requires.above _ wrote.new.disk c.in-Kept.is
     (wrote.ensures.answer h old_log.log_bytes stood room o)
-    c.swap.ensures.x_after c.swap.ensures.y_after refl refl end (wrote.ensures.digest c.in-Kept.is) c.generation_of_bodies-self.ensures refl
+    c.swap.ensures.x_after c.swap.ensures.y_after refl refl end (wrote.ensures.digest c.in-Kept.is) c.generation_of_snapshot-self.ensures refl
 
 pub returns-in-Kept-clause-answer : goal.returns-in-Kept-clause-answer
 returns-in-Kept-clause-answer g c h old stood p =
     let old_log = c.args.self.now in
     let most = old_log.log_bytes in
-    let fresh = bodies_of c.args.bodies.now in
+    let fresh = c.args.bodies.now in
     let wrote = c.checkpoint_on-outcome in
     let format = c.newest-format.result in
-    let end : c.in-Some.end ≡ length (text format (bodies_of c.args.bodies.now)) = c.in-Some.ensures.some.0 in
-    let room : 12 + (length (records (start format) (bodies_of c.args.bodies.now)) + c.zeros_behind-more.result) ≤ c.args.self.now.log_bytes =
-    omega (arith, c.in-Some.ensures.some.0, c.zeros_behind-more.ensures.within, length-text format (bodies_of c.args.bodies.now)) in
+    let end : c.in-Some.end ≡ length (text format c.args.bodies.now) = c.in-Some.ensures.some.0 in
+    let room : 12 + (length (records (start format) c.args.bodies.now) + c.zeros_behind-more.result) ≤ c.args.self.now.log_bytes =
+    omega (arith, c.in-Some.ensures.some.0, c.zeros_behind-more.ensures.within, length-text format c.args.bodies.now) in
     kept_pair g.D.Disk old stood old_log _ p format fresh c.requires.above _ wrote.new.disk c.in-Kept.is
     (wrote.ensures.answer h most stood room p.other)
-    c.swap.ensures.x_after c.swap.ensures.y_after refl refl end (wrote.ensures.digest c.in-Kept.is) c.generation_of_bodies-self.ensures refl
+    c.swap.ensures.x_after c.swap.ensures.y_after refl refl end (wrote.ensures.digest c.in-Kept.is) c.generation_of_snapshot-self.ensures refl
 
 pub returns-in-Lost-clause-answer : goal.returns-in-Lost-clause-answer
 returns-in-Lost-clause-answer g c h old stood p =
     let old_log = c.args.self.now in
     let most = old_log.log_bytes in
-    let fresh = bodies_of c.args.bodies.now in
+    let fresh = c.args.bodies.now in
     let wrote = c.checkpoint_on-outcome in
     let format = c.newest-format.result in
-    let end : c.in-Some.end ≡ length (text format (bodies_of c.args.bodies.now)) = c.in-Some.ensures.some.0 in
-    let room : 12 + (length (records (start format) (bodies_of c.args.bodies.now)) + c.zeros_behind-more.result) ≤ c.args.self.now.log_bytes =
-    omega (arith, c.in-Some.ensures.some.0, c.zeros_behind-more.ensures.within, length-text format (bodies_of c.args.bodies.now)) in
+    let end : c.in-Some.end ≡ length (text format c.args.bodies.now) = c.in-Some.ensures.some.0 in
+    let room : 12 + (length (records (start format) c.args.bodies.now) + c.zeros_behind-more.result) ≤ c.args.self.now.log_bytes =
+    omega (arith, c.in-Some.ensures.some.0, c.zeros_behind-more.ensures.within, length-text format c.args.bodies.now) in
     lost_pair g.D.Disk old stood old_log _ p format fresh c.requires.above _ c.in-Lost.is
     (wrote.ensures.answer h most stood room p.other)
     refl refl refl refl
@@ -96,12 +95,12 @@ pub returns-in-Refused-clause-answer : goal.returns-in-Refused-clause-answer
 returns-in-Refused-clause-answer g c h old stood p =
     let old_log = c.args.self.now in
     let most = old_log.log_bytes in
-    let fresh = bodies_of c.args.bodies.now in
+    let fresh = c.args.bodies.now in
     let wrote = c.checkpoint_on-outcome in
     let format = c.newest-format.result in
-    let end : c.in-Some.end ≡ length (text format (bodies_of c.args.bodies.now)) = c.in-Some.ensures.some.0 in
-    let room : 12 + (length (records (start format) (bodies_of c.args.bodies.now)) + c.zeros_behind-more.result) ≤ c.args.self.now.log_bytes =
-    omega (arith, c.in-Some.ensures.some.0, c.zeros_behind-more.ensures.within, length-text format (bodies_of c.args.bodies.now)) in
+    let end : c.in-Some.end ≡ length (text format c.args.bodies.now) = c.in-Some.ensures.some.0 in
+    let room : 12 + (length (records (start format) c.args.bodies.now) + c.zeros_behind-more.result) ≤ c.args.self.now.log_bytes =
+    omega (arith, c.in-Some.ensures.some.0, c.zeros_behind-more.ensures.within, length-text format c.args.bodies.now) in
     refused_pair g.D.Disk old stood old_log _ p format fresh _ c.in-Refused.is wrote.ensures.not_full
     (wrote.ensures.answer h most stood room p.other)
     refl refl refl refl refl refl refl refl
@@ -129,7 +128,7 @@ returns-in-Kept-clause-known g c h k =
     let wrote = c.checkpoint_on-outcome in
     let format = c.newest-format.result in
     let reaches = wrote.ensures.reaches h c.in-Kept.is in
-    let long : c.in-Some.end + 4 ≤ length (g.D.Disk.seen wrote.new.disk) = omega (arith, c.in-Some.ensures.some.0, reaches, length-text format (bodies_of c.args.bodies.now)) in
+    let long : c.in-Some.end + 4 ≤ length (g.D.Disk.seen wrote.new.disk) = omega (arith, c.in-Some.ensures.some.0, reaches, length-text format c.args.bodies.now) in
     known_swapped g.D.Disk c.args.self.now _ wrote.new.disk (wrote.ensures.grows h) k (c.in-Some.end + 4) long c.swap.ensures.x_after c.swap.ensures.y_after c.max-known.ensures refl
 
 pub returns-in-Refused-clause-known : goal.returns-in-Refused-clause-known
@@ -146,6 +145,6 @@ pub returns-in-Kept-clause-cleared : goal.returns-in-Kept-clause-cleared
 returns-in-Kept-clause-cleared g c h kept alive =
     let wrote = c.checkpoint_on-outcome in
     let format = c.newest-format.result in
-    let n : 4 + c.zeros_behind-more.result ≡ min 5 (c.args.self.now.log_bytes - length (text format (bodies_of c.args.bodies.now))) =
+    let n : 4 + c.zeros_behind-more.result ≡ min 5 (c.args.self.now.log_bytes - length (text format c.args.bodies.now)) =
     c.zeros_behind-more.ensures.exact ∙ ap (λ (e : ℕ). min 5 (c.args.self.now.log_bytes - e)) c.in-Some.ensures.some.0 in
-    cleared_by g.D.Disk format (bodies_of c.args.bodies.now) wrote.new.disk _ _ _ c.newest-format.ensures n c.swap.ensures.x_after (wrote.ensures.cleared h c.in-Kept.is)
+    cleared_by g.D.Disk format c.args.bodies.now wrote.new.disk _ _ _ c.newest-format.ensures n c.swap.ensures.x_after (wrote.ensures.cleared h c.in-Kept.is)

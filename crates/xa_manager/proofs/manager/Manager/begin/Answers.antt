@@ -1,7 +1,6 @@
 use Rattle.std.proofs.Common.{◌≡◌, ◌+◌, ◌<◌, ℕ, Option, ap, sym, ◌∙◌, subst, true, false}
 use Rattle.std.specs.Prelude.{nat_lt, IfSome}
 use Rattle.xa_log.specs.Pair.{generation}
-use Rattle.xa_log.specs.Reading.{bodies_of}
 use Rattle.xa_model.specs.Durable.{Durable, durable}
 use Rattle.xa_model.specs.Restarting.{restart_turn}
 use Rattle.xa_limits.specs.declared.TheConstants.{MOST_BOOTS}
@@ -33,7 +32,7 @@ log_boot-requires-clause-keys g c = next_keys c.args.self.now.tables.branches.mo
 
 pub log_boot-requires-clause-above : goal.log_boot-requires-clause-above
 log_boot-requires-clause-above g c =
-    subst (λ o. IfSome o (λ next. c.args.self.now.log.generation < generation (bodies_of next.bodies.items))) c.in-Some.is c.requires.above
+    subst (λ o. IfSome o (λ next. c.args.self.now.log.generation < generation next.bodies.items)) c.in-Some.is c.requires.above
 
 pub log_boot-requires-clause-holds : goal.log_boot-requires-clause-holds
 log_boot-requires-clause-holds g c = subst (λ (o : Option NextBoot). HoldsNext c.args.self.now.log o) c.in-Some.is c.requires.holds

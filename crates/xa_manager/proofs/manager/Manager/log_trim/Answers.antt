@@ -6,7 +6,6 @@ use Rattle.xa_record.specs.Spelling.{spelled}
 use Rattle.xa_log.specs.Answers.{HasCause}
 use Rattle.xa_log.specs.Checkpoint.{LeavesAny}
 use Rattle.xa_log.specs.Chain.{newest, text}
-use Rattle.xa_log.specs.Reading.{bodies_of}
 use Rattle.xa_log.specs.TwoFiles.{Pair, MaySeal, Checkpoints, Swaps, written}
 use Rattle.xa_log.specs.declared.appending.Appended.{Appended as Told}
 use Rattle.xa_model.specs.declared.outcome.Appending.TheVariants.{Kept, Refused, Lost}
@@ -30,7 +29,7 @@ pub returns-in-Kept-clause-turn : goal.returns-in-Kept-clause-turn
 returns-in-Kept-clause-turn g c =
     λ s rs st trusts backs has e number bodies.
     let m = c.args.self.now in
-    let fresh = bodies_of c.args.bodies.now in
+    let fresh = c.args.bodies.now in
     let went = c.checkpoint.ensures.answer trusts.disk (map spelled rs) has.0 has.1 in
     let kept = subst (λ (a : Told). Checkpoints g.D.Disk a (map spelled rs) has.0 fresh c.checkpoint.new.self) c.in-Kept.is went in
     let swaps = subst (λ (a : Told). Swaps a fresh m.log c.checkpoint.new.self) c.in-Kept.is (c.checkpoint.ensures.swaps (st.alive c.requires.up)) in
@@ -48,7 +47,7 @@ pub returns-in-Kept-clause-leaves : goal.returns-in-Kept-clause-leaves
 returns-in-Kept-clause-leaves g c =
     λ log s rs r st trusts backs has e bodies.
     let m = c.args.self.now in
-    let fresh = bodies_of c.args.bodies.now in
+    let fresh = c.args.bodies.now in
     let went = c.checkpoint.ensures.any_moment trusts.disk (map spelled rs) has.0 (pair_same g.D.Disk log m.log r (map spelled rs) has.0 has.1) in
     let of = subst (λ (a : Told). LeavesOnly g.D.Disk m.log.other (written a c.checkpoint.new.self) (LeavesAny m.log.log_bytes newest has.0 fresh)) c.in-Kept.is went in
     let swaps = subst (λ (a : Told). Swaps a fresh m.log c.checkpoint.new.self) c.in-Kept.is (c.checkpoint.ensures.swaps (st.alive c.requires.up)) in
@@ -61,7 +60,7 @@ pub returns-in-Lost-clause-turn : goal.returns-in-Lost-clause-turn
 returns-in-Lost-clause-turn g c =
     λ s rs st trusts backs has e number bodies.
     let m = c.args.self.now in
-    let fresh = bodies_of c.args.bodies.now in
+    let fresh = c.args.bodies.now in
     let went = c.checkpoint.ensures.answer trusts.disk (map spelled rs) has.0 has.1 in
     let seal = subst (λ (a : Told). Checkpoints g.D.Disk a (map spelled rs) has.0 fresh c.checkpoint.new.self) c.in-Lost.is went in
     let told = ap (λ (d : Done). taken (trim_turn s) d.outcome) c.trimmed-in-Lost.ensures in
@@ -75,7 +74,7 @@ pub returns-in-Lost-clause-leaves : goal.returns-in-Lost-clause-leaves
 returns-in-Lost-clause-leaves g c =
     λ log s rs r st trusts backs has e bodies.
     let m = c.args.self.now in
-    let fresh = bodies_of c.args.bodies.now in
+    let fresh = c.args.bodies.now in
     let went = c.checkpoint.ensures.any_moment trusts.disk (map spelled rs) has.0 (pair_same g.D.Disk log m.log r (map spelled rs) has.0 has.1) in
     let of = subst (λ (a : Told). LeavesOnly g.D.Disk m.log.other (written a c.checkpoint.new.self) (LeavesAny m.log.log_bytes newest has.0 fresh)) c.in-Lost.is went in
     let swaps = subst (λ (a : Told). Swaps a fresh m.log c.checkpoint.new.self) c.in-Lost.is (c.checkpoint.ensures.swaps (st.alive c.requires.up)) in
@@ -89,7 +88,7 @@ returns-in-Lost-clause-called g c =
     λ log s rs r st trusts backs bodies.
     let m = c.args.self.now in
     let alive = st.alive c.requires.up in
-    let swaps = subst (λ (a : Told). Swaps a (bodies_of c.args.bodies.now) m.log c.checkpoint.new.self) c.in-Lost.is (c.checkpoint.ensures.swaps alive) in
+    let swaps = subst (λ (a : Told). Swaps a c.args.bodies.now m.log c.checkpoint.new.self) c.in-Lost.is (c.checkpoint.ensures.swaps alive) in
     let cause = subst (λ (a : Told). HasCause a (g.D.Disk.failures m.log.other) (g.D.Disk.failures (written a c.checkpoint.new.self))) c.in-Lost.is (c.checkpoint.ensures.cause alive) in
     subst (λ (o : Outcome). HasCalledToTrim g.D.Disk o log c.checkpoint.new.self) (sym (ap (λ (d : Done). d.outcome) c.trimmed-in-Lost.ensures))
     (called_same g.D.Disk log m.log c.checkpoint.new.self Lost r (other_rises g.D.Disk.failures m.log c.checkpoint.new.self swaps.1 swaps.0 cause))
@@ -102,7 +101,7 @@ returns-in-Refused-clause-called g c =
     let size = ap (λ (b : List (List ℕ)). length (text newest b)) bodies ∙ text_size newest (snapshot (durable s) (s.logged_boot + 1)) in
     let is = is_refused c.checkpoint.result c.in-Refused.is
     (λ full. let short = (c.checkpoint.ensures.full alive).0 full in fits_always g.D.Disk m s st c.requires.up rs backs (omega (arith, short, size))) in
-    let swaps = subst (λ (a : Told). Swaps a (bodies_of c.args.bodies.now) m.log c.checkpoint.new.self) is (c.checkpoint.ensures.swaps alive) in
+    let swaps = subst (λ (a : Told). Swaps a c.args.bodies.now m.log c.checkpoint.new.self) is (c.checkpoint.ensures.swaps alive) in
     let cause = subst (λ (a : Told). HasCause a (g.D.Disk.failures m.log.other) (g.D.Disk.failures (written a c.checkpoint.new.self))) is (c.checkpoint.ensures.cause alive) in
     subst (λ (o : Outcome). HasCalledToTrim g.D.Disk o log c.checkpoint.new.self) (sym (ap (λ (d : Done). d.outcome) c.trimmed-in-Refused.ensures))
     (called_same g.D.Disk log m.log c.checkpoint.new.self Refused r (other_rises g.D.Disk.failures m.log c.checkpoint.new.self swaps.1 swaps.0 cause))
@@ -111,7 +110,7 @@ pub returns-in-Refused-clause-turn : goal.returns-in-Refused-clause-turn
 returns-in-Refused-clause-turn g c =
     λ s rs st trusts backs has e number bodies.
     let m = c.args.self.now in
-    let fresh = bodies_of c.args.bodies.now in
+    let fresh = c.args.bodies.now in
     let alive = st.alive c.requires.up in
     let size = ap (λ (b : List (List ℕ)). length (text newest b)) bodies ∙ text_size newest (snapshot (durable s) (s.logged_boot + 1)) in
     let is = is_refused c.checkpoint.result c.in-Refused.is
@@ -130,7 +129,7 @@ pub returns-in-Refused-clause-leaves : goal.returns-in-Refused-clause-leaves
 returns-in-Refused-clause-leaves g c =
     λ log s rs r st trusts backs has e bodies.
     let m = c.args.self.now in
-    let fresh = bodies_of c.args.bodies.now in
+    let fresh = c.args.bodies.now in
     let alive = st.alive c.requires.up in
     let size = ap (λ (b : List (List ℕ)). length (text newest b)) bodies ∙ text_size newest (snapshot (durable s) (s.logged_boot + 1)) in
     let is = is_refused c.checkpoint.result c.in-Refused.is
@@ -148,7 +147,7 @@ returns-in-Kept-clause-called g c =
     λ log s rs r st trusts backs bodies.
     let m = c.args.self.now in
     let alive = st.alive c.requires.up in
-    let swaps = subst (λ (a : Told). Swaps a (bodies_of c.args.bodies.now) m.log c.checkpoint.new.self) c.in-Kept.is (c.checkpoint.ensures.swaps alive) in
+    let swaps = subst (λ (a : Told). Swaps a c.args.bodies.now m.log c.checkpoint.new.self) c.in-Kept.is (c.checkpoint.ensures.swaps alive) in
     let cause = subst (λ (a : Told). HasCause a (g.D.Disk.failures m.log.other) (g.D.Disk.failures (written a c.checkpoint.new.self))) c.in-Kept.is (c.checkpoint.ensures.cause alive) in
     subst (λ (o : Outcome). HasCalledToTrim g.D.Disk o log c.checkpoint.new.self) (sym (ap (λ (d : Done). d.outcome) c.trimmed.ensures))
     (called_same g.D.Disk log m.log c.checkpoint.new.self Kept r (none_rises_swapped g.D.Disk.failures m.log c.checkpoint.new.self swaps.1 swaps.0 cause))

@@ -1,12 +1,10 @@
 use Rattle.std.proofs.Common.{◌≡◌, ◌+◌, ◌<◌, ◌≤◌, ℕ, List, length, map, None, refl, ap, sym, ◌∙◌, subst, arith}
 use Rattle.std.specs.List.{AllByRecursion}
-use Rattle.std.proofs.lemmas.List.{length-map}
 use Rattle.xa_codes.specs.declared.codes.TheConstants.{XAER_RMERR}
 use Rattle.xa_codes.specs.declared.detail.Detail.TheVariants as detail
 use Rattle.xa_frame.specs.declared.reply.Reply.{Reply}
 use Rattle.xa_log.specs.Chain.{IsBody, newest}
 use Rattle.xa_log.specs.Pair.{generation}
-use Rattle.xa_log.specs.Reading.{bodies_of}
 use Rattle.xa_model.specs.Answer.{detailed}
 use Rattle.xa_model.specs.State.{State}
 use Rattle.xa_model.specs.Trimming.{trim_refusal}
@@ -45,15 +43,15 @@ returns-then-not-can_begin_with-clause-ok g c =
     let l = st.log trusts in
     let has = only_records g.D.Disk m.log s (trim_settled g.D.Disk m s st c.requires.up) l in
     let taken = snapshot_taken g.D.Disk m.log s l.records l.backs has (omega (arith, logged, boot, c.if-boot-ge-MOST_TRIM_BOOTS.false)) in
-    let same = ap bodies_of c.deref.ensures.value ∙ c.in_ok-bodies.ensures s up (logged ∙ sym boot) ∙ ap (λ (n : ℕ). snapshot_bodies s (n + 1)) (boot ∙ sym logged) in
+    let same = c.deref.ensures.value ∙ c.in_ok-bodies.ensures s up (logged ∙ sym boot) ∙ ap (λ (n : ℕ). snapshot_bodies s (n + 1)) (boot ∙ sym logged) in
     elim c.then-not-can_begin_with.branch [
       | then-not-can_begin_with-via-then-not-can_begin_with w ↦
-          let some : 1 ≤ length c.deref.result.now = omega (arith, taken.some, ap length same, length-map c.deref.result.now (λ body. body.items)) in
+          let some : 1 ≤ length c.deref.result.now = omega (arith, taken.some, ap length same) in
           let sizes = subst (λ (b : List (List ℕ)). AllByRecursion (IsBody newest) b) (sym same) taken.sizes in
           let above = subst (λ (b : List (List ℕ)). m.log.generation < generation b) (sym same) taken.above in
           absurd (cc (c.can_begin_with.ensures.other some sizes above, w.if-not-can_begin_with.true))
       | then-not-can_begin_with-via-else-not-can_begin_with+then-not-has_room_for w ↦
-          let here = ap bodies_of w.deref-else-not-can_begin_with.ensures.value ∙ sym (ap bodies_of c.deref.ensures.value) ∙ same in
+          let here = w.deref-else-not-can_begin_with.ensures.value ∙ sym c.deref.ensures.value ∙ same in
           full_refusal s (omega (arith, logged, boot, c.if-boot-ge-MOST_TRIM_BOOTS.false)) (sym (w.has_room_for.ensures s st c.requires.up here) ∙ w.if-not-has_room_for.true)
     ]))
 
@@ -78,7 +76,7 @@ returns-clause-ok g c =
   where
     facts : (s : State) → ManagerStandsFor g.D.Disk c.args.self.now s → (trusts : Trusts g.D.Disk)
         → (l : LogStandsFor g.D.Disk c.args.self.now.log s) × HasRecords g.D.Disk l.records c.args.self.now.log × (trim_refusal s ≡ None)
-        × (c.boot-boot.result + 1 ≡ s.logged_boot + 1) × (bodies_of c.deref-3.result.now ≡ snapshot_bodies s (s.logged_boot + 1))
+        × (c.boot-boot.result + 1 ≡ s.logged_boot + 1) × (c.deref-3.result.now ≡ snapshot_bodies s (s.logged_boot + 1))
     facts s st trusts =
         let m = c.args.self.now in
         let up = trim_tables g.D.Disk m s st c.requires.up in
@@ -86,10 +84,10 @@ returns-clause-ok g c =
         let boot = c.boot-boot.ensures.state s up.branches in
         let l = st.log trusts in
         let same = c.in_ok-bodies.ensures s up (logged ∙ sym boot) ∙ ap (λ (n : ℕ). snapshot_bodies s (n + 1)) (boot ∙ sym logged) in
-        let room = c.has_room_for.ensures s st c.requires.up (ap bodies_of c.deref-else-not-can_begin_with.ensures.value ∙ same) in (
+        let room = c.has_room_for.ensures s st c.requires.up (c.deref-else-not-can_begin_with.ensures.value ∙ same) in (
           l,
           only_records g.D.Disk m.log s (trim_settled g.D.Disk m s st c.requires.up) l,
           no_refusal s (omega (arith, logged, boot, c.if-boot-ge-MOST_TRIM_BOOTS.false)) (sym room ∙ c.if-not-has_room_for.false),
           ap (λ (n : ℕ). n + 1) (boot ∙ sym logged),
-          ap bodies_of c.deref-3.ensures.value ∙ same,
+          c.deref-3.ensures.value ∙ same,
         )

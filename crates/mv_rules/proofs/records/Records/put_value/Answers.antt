@@ -1,11 +1,10 @@
 use Rattle.std.proofs.Common.{◌≡◌, ℕ, List, Option, sym, subst, arith}
-use Rattle.std.specs.Prelude.{option_map}
 use Rattle.mv_rules.specs.Accesses.{Accesses, after_put}
 use Rattle.mv_rules.specs.Records.{StandsFor}
 use Rattle.mv_rules.proofs.Written.{refused_same}
 use Rattle.mv_rules.proofs.Tidied.{unmade, absent_kept}
 use Rattle.mv_rules.proofs.Within.{keys_alike, notes_alike}
-use Rattle.mv_rules.proofs.records.Records.put.Goals as goal
+use Rattle.mv_rules.proofs.records.Records.put_value.Goals as goal
 
 pub returns-in_default-make-clause-stands : goal.returns-in_default-make-clause-stands
 returns-in_default-make-clause-stands c = λ h s u. c.make.ensures.stands h s (c.in_default.ensures.none h s)
@@ -16,7 +15,7 @@ returns c =
     record {
       answer = λ h s u m. c.put_at-answer.ensures.answer h (c.make.ensures.stands h s (none h s)) c.in-Ok.ensures.index u m;
       stands = λ h s u.
-          let value : Option (List ℕ) = option_map (λ v. v.items) c.args.value in
+          let value : Option (List ℕ) = c.args.value in
           let same : after_put c.put_at-answer.result c.args.ts c.args.key.now value h ≡ h = refused_same c.put_at-answer.result c.args.ts c.args.key.now value h c.in_default-answer.not-Done in
           let after : StandsFor h c.put_at-answer.new.self = subst (λ (x : Accesses). StandsFor x c.put_at-answer.new.self) same (c.put_at-answer.ensures.stands h (c.make.ensures.stands h s (none h s)) c.in-Ok.ensures.index u) in
           subst (λ (x : Accesses). StandsFor x c.forget.new.self) (sym same) (c.forget.ensures.stands h after (λ t e. absurd (cc (e, s.lists.unindexed t c.args.key.now (none h s)))) (omega arith));

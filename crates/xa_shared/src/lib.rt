@@ -1,0 +1,8 @@
+//! Bytes that several values have at once: the body of a record that a log is to begin with, and the values in it.
+//!
+//! - `shared_bytes`: `SharedBytes`
+#![tactic(auto)]
+
+mod shared_bytes;
+
+pub use shared_bytes::SharedBytes;
