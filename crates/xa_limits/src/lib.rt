@@ -1,6 +1,10 @@
 //! The limits and the sizes that several layers must agree on, each written once. `docs/PROTOCOL.md` has them in a
-//! table, with what is answered beyond each.
+//! list, with what is answered beyond each.
 #![tactic(auto)]
+
+ghost use Rattle.std.specs.Prelude.{◌≡◌};
+ghost use Rattle.xa_limits.specs.declared.TheConstants.{AROUND_BODY, AROUND_CLOSED, DECIDED_ROOM, FIRST_OFFSET, MOST_SMALL};
+ghost use Rattle.xa_limits.specs.declared.TheConstants.{PREPARED_ROOM, XID_BYTES};
 
 // Frames and calls.
 
@@ -71,3 +75,14 @@ pub const DECIDED_ROOM: u64 = AROUND_BODY as u64 + 1 + XID_BYTES as u64;
 /// The room that is kept for a prepared branch: the most bytes of the record that completes it, which has no writes,
 /// and of the one that forgets it.
 pub const PREPARED_ROOM: u64 = AROUND_BODY as u64 + MOST_SMALL as u64 + DECIDED_ROOM;
+
+/// The sizes that follow from others, in bytes. Does nothing.
+pub fn sizes()
+    ensures xid { XID_BYTES ≡ 134 }
+    ensures first { FIRST_OFFSET ≡ 8 }
+    ensures around { AROUND_BODY ≡ 36 }
+    ensures closed { AROUND_CLOSED ≡ 40 }
+    ensures small { MOST_SMALL ≡ 136 }
+    ensures decided { DECIDED_ROOM ≡ 171 }
+    ensures prepared { PREPARED_ROOM ≡ 343 }
+{}
