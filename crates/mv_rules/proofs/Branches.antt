@@ -7,8 +7,8 @@ use Rattle.mv_chain.specs.declared.fate.Fate.TheVariants.{Committed as kept, Rol
 use Rattle.mv_chain.specs.Accesses.{Written, deciding, decided}
 use Rattle.xa_xid.specs.Triple.{Triple}
 use Rattle.xa_model.specs.State.{Branch, Operation, Got, Wrote, is_known_as, known_of, change, without}
-use Rattle.xa_model.specs.Branches.{as_committed}
-use Rattle.xa_model.specs.Records.{having_done}
+use Rattle.xa_model.specs.Phases.{as_committed}
+use Rattle.xa_model.specs.Data.{having_done}
 use Rattle.xa_model.specs.Invariants.Sound.{Descends}
 use Rattle.xa_model.proofs.Times.{known_below}
 use Rattle.mv_rules.specs.Accesses.{wrote}

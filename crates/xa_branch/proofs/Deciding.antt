@@ -8,7 +8,7 @@ use Rattle.xa_codes.specs.declared.direction.Direction.TheVariants as direction
 use Rattle.xa_xid.specs.Triple.{Triple, xid_eq}
 use Rattle.xa_xid.proofs.Same.{xid_same}
 use Rattle.xa_model.specs.State.{State, Branch, Decided, known_of, decided_of, known_as, InDoubt, without}
-use Rattle.xa_model.specs.Branches.{rolled_back, committed, decided_by, is_decision_of, forgotten}
+use Rattle.xa_model.specs.Phases.{rolled_back, committed, decided_by, is_decision_of, forgotten}
 use Rattle.xa_model.specs.Invariants.Sound.{IsSound}
 use Rattle.xa_model.proofs.Counts.{found_none}
 use Rattle.xa_model.proofs.Finds.{find_without}

@@ -4,7 +4,7 @@ use Rattle.std.specs.Prelude.{is_some, option_map, option_and_then}
 use Rattle.xa_xid.specs.Triple.{Triple, xid_eq}
 use Rattle.xa_xid.proofs.Same.{xid_same}
 use Rattle.xa_model.specs.State.{State, Branch, Association, Operation, name_of, is_known_as, known_of, known_count, decided_of}
-use Rattle.xa_model.specs.Records.{having_done, did}
+use Rattle.xa_model.specs.Data.{having_done, did}
 use Rattle.xa_model.proofs.Counts.{count_same}
 use Rattle.xa_model.proofs.Lists.{find_change_same, find_change_other}
 use Rattle.xa_model.proofs.Names.{called_apart}

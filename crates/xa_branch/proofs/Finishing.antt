@@ -8,7 +8,7 @@ use Rattle.xa_xid.specs.Triple.{Triple, xid_eq}
 use Rattle.xa_xid.proofs.Same.{xid_same}
 use Rattle.xa_model.specs.State.{State, Branch, count, name_of, is_known_as, known_of, known_count, decided_of, timestamp_of, without, change}
 use Rattle.xa_model.specs.Logging.{is_in_doubt}
-use Rattle.xa_model.specs.Branches.{rolled_back, committed, as_committed}
+use Rattle.xa_model.specs.Phases.{rolled_back, committed, as_committed}
 use Rattle.xa_model.specs.Invariants.LowWater.{is_known_at}
 use Rattle.xa_model.specs.Invariants.Sound.{IsSound}
 use Rattle.xa_model.proofs.Counts.{found_none}

@@ -6,7 +6,7 @@ use Rattle.xa_codes.specs.declared.direction.Direction.TheVariants as direction
 use Rattle.xa_xid.specs.Triple.{Triple}
 use Rattle.xa_model.specs.State.{State as ModelState, Known, AtWork, known_as, holders_of, loose_of}
 use Rattle.xa_model.specs.Associations.{timestamp_by, timestamp_in}
-use Rattle.xa_model.specs.Branches.{is_associated}
+use Rattle.xa_model.specs.Phases.{is_associated}
 use Rattle.xa_model.specs.Invariants.Sound.{IsSound}
 use Rattle.xa_branch.specs.declared.branches.Branches.{Branches}
 use Rattle.xa_branch.specs.declared.kind.Kind.TheVariants as kind

@@ -7,7 +7,7 @@ use Rattle.xa_xid.specs.Triple.{Triple, xid_eq}
 use Rattle.xa_xid.proofs.Same.{xid_same, xid_eq_itself}
 use Rattle.xa_model.specs.State.{State, Branch, Phase, Prepared, name_of, is_known_as, known_of, known_count, decided_of, change}
 use Rattle.xa_model.specs.Logging.{is_in_doubt}
-use Rattle.xa_model.specs.Branches.{prepared_phase, as_prepared, prepared}
+use Rattle.xa_model.specs.Phases.{prepared_phase, as_prepared, prepared}
 use Rattle.xa_model.specs.Invariants.LowWater.{is_known_at}
 use Rattle.xa_model.specs.Invariants.Sound.{IsSound}
 use Rattle.xa_model.proofs.Counts.{count_same}

@@ -6,7 +6,7 @@ use Rattle.std.proofs.lemmas.List.{append-nil}
 use Rattle.xa_xid.specs.Triple.{Triple, xid_eq}
 use Rattle.xa_xid.proofs.Same.{xid_same}
 use Rattle.xa_model.specs.State.{State, Branch, Decided, known_in, known_of, is_at_work, is_known_as, decided_of, change}
-use Rattle.xa_model.specs.Branches.{as_prepared, prepared}
+use Rattle.xa_model.specs.Phases.{as_prepared, prepared}
 use Rattle.xa_branch.specs.declared.branches.Branches.{Branches}
 use Rattle.xa_branch.specs.declared.lasting.Lasting.{Lasting}
 use Rattle.xa_branch.specs.Branches.{BranchesStandFor, lasting_among, lasting_known}

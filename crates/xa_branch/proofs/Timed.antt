@@ -8,7 +8,7 @@ use Rattle.std.specs.Ordering.{nat_cmp, is_eq}
 use Rattle.std.proofs.lemmas.Bool.Decides.{nat_tests}
 use Rattle.xa_xid.specs.Triple.{Triple}
 use Rattle.xa_model.specs.State.{Branch, name_of, is_known_as, known_of, known_count, without, change}
-use Rattle.xa_model.specs.Branches.{as_committed}
+use Rattle.xa_model.specs.Phases.{as_committed}
 use Rattle.xa_model.specs.Invariants.LowWater.{is_known, is_known_at}
 use Rattle.xa_model.specs.Invariants.Sound.{Descends}
 use Rattle.xa_model.proofs.Times.{known_below}

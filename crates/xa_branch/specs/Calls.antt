@@ -5,7 +5,7 @@ use Rattle.xa_xid.specs.Triple.{Triple}
 use Rattle.xa_model.specs.State.{State, Known as Fact, Unknown, AtWork, InDoubt, Completed, is_known_as, known_as, known_in, change}
 use Rattle.xa_model.specs.Associations.{is_taken, with_mark}
 use Rattle.xa_limits.specs.declared.TheConstants.{MOST_BRANCHES, MOST_GIVEN}
-use Rattle.xa_model.specs.Branches.{is_associated}
+use Rattle.xa_model.specs.Phases.{is_associated}
 use Rattle.xa_branch.specs.declared.fault.BeginFault.{BeginFault}
 use Rattle.xa_branch.specs.declared.fault.BeginFault.TheVariants.{Duplicate, Full, Spent, Memory}
 

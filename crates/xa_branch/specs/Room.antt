@@ -3,7 +3,7 @@ use Rattle.std.specs.Prelude.{ℕ, ◌≡◌, ◌+◌, false, List, [], ◌∷�
 use Rattle.std.specs.List.{AllByRecursion}
 use Rattle.xa_xid.specs.Triple.{Triple, xid_eq}
 use Rattle.xa_model.specs.State.{State, known_of, known_in, is_at_work}
-use Rattle.xa_model.specs.Branches.{prepared}
+use Rattle.xa_model.specs.Phases.{prepared}
 use Rattle.xa_model.specs.Logging.{prepared_count}
 use Rattle.xa_model.specs.Invariants.LowWater.{is_known_at}
 use Rattle.xa_model.specs.Invariants.Sound.{IsSound}

@@ -5,7 +5,7 @@ use Rattle.xa_codes.specs.declared.direction.Direction.TheVariants as direction
 use Rattle.xa_xid.specs.Triple.{Triple}
 use Rattle.xa_model.specs.State.{State as ModelState, InDoubt, Completed, known_as, known_in}
 use Rattle.xa_model.specs.Associations.{begun, joined, suspended, ended, failed, hang_up_by}
-use Rattle.xa_model.specs.Branches.{rolled_back, committed, doomed, prepared, decided_by, forgotten}
+use Rattle.xa_model.specs.Phases.{rolled_back, committed, doomed, prepared, decided_by, forgotten}
 use Rattle.xa_model.specs.History.{fresh}
 use Rattle.xa_model.specs.Logging.{prepared_count}
 use Rattle.xa_model.specs.Worked.{xarm, xid}

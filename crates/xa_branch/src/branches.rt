@@ -1,7 +1,7 @@
 ghost use Rattle.std.specs.Prelude.{◌≡◌, ◌+◌, MatchResult, None, Some, [], length};
 ghost use Rattle.xa_model.specs.State.{State as ModelState, known_as, known_in, loose_of};
 ghost use Rattle.xa_model.specs.Associations.{timestamp_in};
-ghost use Rattle.xa_model.specs.Branches.{is_associated};
+ghost use Rattle.xa_model.specs.Phases.{is_associated};
 ghost use Rattle.xa_model.specs.Logging.{prepared_count};
 
 use crate::known::Known;

@@ -1,6 +1,6 @@
 ghost use Rattle.std.specs.Prelude.{◌≡◌, ◌≢◌, OnOk, OnErr};
 ghost use Rattle.xa_model.specs.State.{State as ModelState, InDoubt, known_as};
-ghost use Rattle.xa_model.specs.Branches.{rolled_back, committed, prepared, decided_by, forgotten};
+ghost use Rattle.xa_model.specs.Phases.{rolled_back, committed, prepared, decided_by, forgotten};
 ghost use Rattle.xa_model.specs.Invariants.Sound.{IsSound};
 ghost use Rattle.xa_branch.specs.Branches.{BranchesStandFor};
 ghost use Rattle.xa_branch.specs.Follows.{Follows, InEach, InSound, Stays};

@@ -1,5 +1,5 @@
 ghost use Rattle.std.specs.Prelude.{◌≡◌};
-ghost use Rattle.xa_model.specs.Branches.{unprepared_refusal, two_phase_refusal, rollback_refusal, doom_refusal};
+ghost use Rattle.xa_model.specs.Phases.{unprepared_refusal, two_phase_refusal, rollback_refusal, doom_refusal};
 ghost use Rattle.xa_branch.specs.Facts.{fact_of};
 
 use crate::known::Known;

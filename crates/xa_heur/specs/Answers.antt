@@ -6,7 +6,7 @@ use Rattle.xa_frame.specs.declared.reply.Reply.{Reply}
 use Rattle.xa_record.specs.declared.record.Record.{Record}
 use Rattle.xa_model.specs.State.{Known}
 use Rattle.xa_model.specs.Answer.{plain}
-use Rattle.xa_model.specs.Branches.{heuristic_refusal}
+use Rattle.xa_model.specs.Phases.{heuristic_refusal}
 use Rattle.xa_branch.specs.declared.state.State.{State}
 use Rattle.xa_branch.specs.State.{state_by}
 

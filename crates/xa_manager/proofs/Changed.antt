@@ -12,7 +12,7 @@ use Rattle.mv_rules.specs.Ties.{history_of, low_of, writes_in, read_as}
 use Rattle.mv_rules.proofs.Remade.{low_rises}
 use Rattle.xa_xid.specs.Triple.{Triple}
 use Rattle.xa_model.specs.State.{State, Operation, Read}
-use Rattle.xa_model.specs.Records.{did}
+use Rattle.xa_model.specs.Data.{did}
 use Rattle.xa_model.specs.Invariants.Loggable.{IsRecoverable}
 use Rattle.xa_model.proofs.ChangedWaters.{done_water, done_floor}
 use Rattle.xa_assoc.proofs.Follows.{unmoved}

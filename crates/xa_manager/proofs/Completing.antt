@@ -12,7 +12,7 @@ use Rattle.xa_model.specs.declared.outcome.Appending.TheVariants.{Kept as WasKep
 use Rattle.xa_model.specs.State.{State, Branch, Decided, Phase, Working, Prepared, Committed, Up, Known, Unknown, AtWork, InDoubt, Completed, count, known_of, known_as, known_by, known_among, or_completed, decided_of, is_known_as}
 use Rattle.xa_model.specs.Answer.{plain, answer}
 use Rattle.xa_model.specs.Associations.{is_unknown, is_lasting, mark_in}
-use Rattle.xa_model.specs.Branches.{rolled_back, two_phase_refusal, rollback_refusal, heuristic_refusal, is_associated}
+use Rattle.xa_model.specs.Phases.{rolled_back, two_phase_refusal, rollback_refusal, heuristic_refusal, is_associated}
 use Rattle.xa_model.specs.Completions.{is_completed, decide_refusal, forget_refusal, roll_back_turn}
 use Rattle.xa_model.specs.Logging.{append_became, applied, log_room, is_in_doubt, prepared_count}
 use Rattle.xa_model.specs.Invariants.Loggable.{IsRecoverable}

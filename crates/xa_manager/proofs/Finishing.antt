@@ -30,7 +30,7 @@ use Rattle.xa_manager.specs.Stands.{StandsFor, ending}
 use Rattle.xa_manager.proofs.Lows.{rises_with}
 use Rattle.xa_model.specs.State.{State, Branch, Phase, Working, Prepared, Committed, InDoubt, name_of, is_with, known_as, known_among, known_in, is_at_work, decided_of, or_completed, known_of, is_known_as, without, timestamp_of}
 use Rattle.xa_model.specs.Associations.{timestamp_in, timestamp_by}
-use Rattle.xa_model.specs.Branches.{rolled_back, committed, decided_by, prepared}
+use Rattle.xa_model.specs.Phases.{rolled_back, committed, decided_by, prepared}
 use Rattle.xa_model.specs.Invariants.Sound.{IsSound}
 use Rattle.xa_model.proofs.ChangedWaters.{committed_water, rolled_back_water, committed_floor, rolled_back_floor}
 

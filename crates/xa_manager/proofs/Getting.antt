@@ -16,7 +16,7 @@ use Rattle.mv_rules.proofs.Branches.{unwritten}
 use Rattle.xa_model.specs.State.{State, Operation, Got as Read_op, Read, is_known_as, own_branch, change, timestamp_of}
 use Rattle.xa_model.specs.Source.{Version, source, is_busy}
 use Rattle.xa_model.specs.Answer.{plain, detailed, carrying, answer, unless, marked}
-use Rattle.xa_model.specs.Records.{having_done, value_body, busy_refusal, got, get_from, get_by}
+use Rattle.xa_model.specs.Data.{having_done, value_body, busy_refusal, got, get_from, get_by}
 use Rattle.xa_model.specs.Invariants.Loggable.{IsRecoverable}
 use Rattle.xa_branch.specs.declared.working.Working.{Working as Kept_branch}
 use Rattle.xa_branch.specs.Branches.{working_at}

@@ -10,7 +10,7 @@ use Rattle.mv_rules.proofs.Branches.{unwritten}
 use Rattle.mv_rules.proofs.Remade.{low_rises}
 use Rattle.xa_codes.specs.declared.codes.TheConstants.{XA_RBCOMMFAIL, XA_RBTIMEOUT}
 use Rattle.xa_model.specs.State.{State, Branch, Read, Phase, Working, Prepared, Committed, is_known_as, change}
-use Rattle.xa_model.specs.Branches.{prepared, prepared_phase, as_prepared}
+use Rattle.xa_model.specs.Phases.{prepared, prepared_phase, as_prepared}
 use Rattle.xa_model.specs.Associations.{with_mark, marked_phase, left_behind, is_worked_by}
 use Rattle.xa_model.specs.TimeLimits.{runs_out, ticked}
 use Rattle.xa_model.proofs.ChangedWaters.{marked_water, left_water, timed_water, prepared_water, marked_floor, left_floor, timed_floor, prepared_floor}

@@ -20,7 +20,7 @@ use Rattle.xa_record.proofs.Sizes.{any}
 use Rattle.xa_model.specs.State.{State, Branch, is_known_as, known_of, known_as, timestamp_of, is_at_work}
 use Rattle.xa_model.specs.Answer.{Answer, plain, answer}
 use Rattle.xa_model.specs.Associations.{is_unknown, is_lasting, mark_in, timestamp_in, timestamp_by}
-use Rattle.xa_model.specs.Branches.{committed, rolled_back, unprepared_refusal, is_associated}
+use Rattle.xa_model.specs.Phases.{committed, rolled_back, unprepared_refusal, is_associated}
 use Rattle.xa_model.specs.Durable.{writes_of}
 use Rattle.xa_model.specs.Fold.{is_empty, size_of}
 use Rattle.xa_model.specs.Invariants.Sound.{IsSound}

@@ -21,7 +21,7 @@ use Rattle.xa_model.specs.declared.outcome.Appending.TheVariants.{Kept as WasKep
 use Rattle.xa_model.specs.declared.outcome.Outcome.{Outcome}
 use Rattle.xa_model.specs.declared.outcome.Outcome.TheVariants.{Quiet, Appended}
 use Rattle.xa_model.specs.State.{State, known_of}
-use Rattle.xa_model.specs.Branches.{committed, rolled_back}
+use Rattle.xa_model.specs.Phases.{committed, rolled_back}
 use Rattle.xa_model.specs.Completions.{commit_one_phase_turn, commit_two_phase_turn}
 use Rattle.xa_model.specs.Fold.{size_of}
 use Rattle.xa_model.specs.Step.{commit_turn}

@@ -19,7 +19,7 @@ use Rattle.mv_rules.proofs.Undecided.{at_work, unsettled}
 use Rattle.xa_model.specs.State.{State, Operation, Wrote, is_known_as, own_branch, change, timestamp_of}
 use Rattle.xa_model.specs.Source.{write_of, written_keys, is_late as is_late_among}
 use Rattle.xa_model.specs.Answer.{Answer, plain, detailed, answer, unless, marked}
-use Rattle.xa_model.specs.Records.{having_done, is_full, limit_refusal, came_late, written, if_late, put_from, put_by as put_row}
+use Rattle.xa_model.specs.Data.{having_done, is_full, limit_refusal, came_late, written, if_late, put_from, put_by as put_row}
 use Rattle.xa_model.specs.Invariants.Loggable.{IsRecoverable}
 use Rattle.xa_branch.specs.declared.working.Working.{Working as Kept_branch}
 use Rattle.xa_branch.specs.Branches.{working_at}

@@ -21,7 +21,7 @@ use Rattle.xa_model.specs.Turn.{Turn, Nobody, Now, Appends, Checkpoints, Rereads
 use Rattle.xa_model.specs.Step.{respond, asked, or_joins, further_record, turn, step}
 use Rattle.xa_model.specs.Events.{IsEvent, begins_boot}
 use Rattle.xa_model.specs.Logging.{applied, lost}
-use Rattle.xa_model.specs.Branches.{completed}
+use Rattle.xa_model.specs.Phases.{completed}
 use Rattle.xa_model.specs.Invariants.MayLog.{MayLog}
 use Rattle.xa_codes.specs.declared.direction.Direction.{Direction}
 use Rattle.xa_codes.specs.declared.direction.Direction.TheVariants.{Commit, Rollback}

@@ -5,7 +5,7 @@ use Rattle.mv_chain.specs.declared.fate.Fate.TheVariants.{Committed, RolledBack}
 use Rattle.xa_codes.specs.declared.direction.Direction.{Direction}
 use Rattle.xa_xid.specs.Triple.{Triple}
 use Rattle.xa_model.specs.State.{State, InDoubt, known_as, known_of}
-use Rattle.xa_model.specs.Branches.{committed, rolled_back, prepared, decided_by, forgotten}
+use Rattle.xa_model.specs.Phases.{committed, rolled_back, prepared, decided_by, forgotten}
 use Rattle.xa_model.specs.Completions.{is_completed}
 use Rattle.xa_model.specs.Invariants.Loggable.{IsRecoverable}
 use Rattle.xa_assoc.specs.Sessions.{resume_refusal_of, suspend_refusal_of}

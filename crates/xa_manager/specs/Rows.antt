@@ -12,7 +12,7 @@ use Rattle.xa_model.specs.declared.outcome.Appending.{Appending}
 use Rattle.xa_model.specs.State.{State}
 use Rattle.xa_model.specs.Answer.{Answer}
 use Rattle.xa_model.specs.Associations.{timestamp_in}
-use Rattle.xa_model.specs.Branches.{rolled_back}
+use Rattle.xa_model.specs.Phases.{rolled_back}
 use Rattle.xa_model.specs.Completions.{prepare_turn, commit_one_phase_turn, commit_two_phase_turn, rollback_turn}
 use Rattle.xa_model.specs.Completions.{decide_turn, forget_turn}
 use Rattle.xa_model.specs.Logging.{append_became, writes_in}

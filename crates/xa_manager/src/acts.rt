@@ -1,7 +1,7 @@
 ghost use Rattle.std.specs.Prelude.{◌≡◌, ◌+◌, None, IfOk, OnOk, OnErr, IsSome};
 ghost use Rattle.xa_model.specs.State.{timestamp_of};
 ghost use Rattle.xa_model.specs.Associations.{begun, joined, resumed, not_resumed, suspended, not_suspended, ended, failed};
-ghost use Rattle.xa_model.specs.Branches.{rolled_back, committed};
+ghost use Rattle.xa_model.specs.Phases.{rolled_back, committed};
 ghost use Rattle.xa_model.specs.Trimming.{trimmed};
 ghost use Rattle.xa_manager.specs.Drained.{GivesBack};
 ghost use Rattle.xa_assoc.specs.Seats.{opened_at};

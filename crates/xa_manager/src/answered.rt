@@ -1,5 +1,5 @@
 ghost use Rattle.std.specs.Prelude.{◌≡◌, ◌≢◌, OnOk, OnErr};
-ghost use Rattle.xa_model.specs.Branches.{rolled_back, committed, completed};
+ghost use Rattle.xa_model.specs.Phases.{rolled_back, committed, completed};
 ghost use Rattle.xa_assoc.specs.Company.{company_of};
 ghost use Rattle.xa_manager.specs.Tables.{TablesStay};
 ghost use Rattle.xa_manager.specs.Acts.{BranchBecomes, Decides, Forgets, GivesFirstRoomBack, GivesRoomBack, KeepsRooms, MakesRoom, MakesRoomAfter};

@@ -1,7 +1,7 @@
 ghost use Rattle.std.specs.Prelude.{◌≡◌, IfOk, OnErr};
 ghost use Rattle.xa_limits.specs.declared.TheConstants.{MOST_VALUE};
 ghost use Rattle.xa_model.specs.State.{own_branch};
-ghost use Rattle.xa_model.specs.Records.{get_by, put_by};
+ghost use Rattle.xa_model.specs.Data.{get_by, put_by};
 ghost use Rattle.xa_manager.specs.Changes.{items_of};
 ghost use Rattle.xa_assoc.specs.Company.{company_of};
 ghost use Rattle.xa_assoc.specs.Refusals.{IsBare};

@@ -10,8 +10,8 @@ ghost use Rattle.xa_manager.specs.Managed.{ManagerStandsFor};
 ghost use Rattle.xa_manager.specs.Turns.{HasJournaled};
 
 use crate::doubt::Doubt;
+use crate::log_space::leaves_room;
 use crate::manager::Manager;
-use crate::room::leaves_room;
 use xa_disk::Disk;
 use xa_limits::{AROUND_BODY, MOST_BODY};
 use xa_log::{Appended, Format, Group};

@@ -9,7 +9,7 @@
 //!   of the list of known branches in `known_list`
 //! - `tables`: what a manager keeps; `facts` and `refusals`, what rows ask of it, `acts`, what they change
 //! - rows that log: `row`, `Row`; `plan`, `Plan`, what one comes to before its append; `logging`, its way, `journal`, how
-//!   its record comes into the log, and `answered`, what the tables make of the device's answer; `room`, the room that the
+//!   its record comes into the log, and `answered`, what the tables make of the device's answer; `log_space`, the room that the
 //!   log keeps free; `doubt`: `Doubt`, what is kept of a record that was lost; `done`, what a call comes to
 //! - a boot: `settings`, `Settings`; `opening`, `restarting` or `trimming`, how it begins; `boots`, what is made
 //!   ready for it, and `rebuilding` its tables; `first_records`, how an opening logs it; `fault`: `ManagerFault`, why
@@ -37,6 +37,7 @@ mod first_records;
 mod journal;
 mod known_list;
 mod laws;
+mod log_space;
 mod logging;
 mod manager;
 mod opening;
@@ -49,7 +50,6 @@ mod refusals;
 mod refused;
 mod replies;
 mod restarting;
-mod room;
 mod row;
 mod settings;
 mod status;

@@ -23,9 +23,9 @@ ghost use Rattle.xa_manager.specs.Refused.{LeavesFinding, LogsBoot, LeavesBegin,
 use crate::boots::{NextBoot, Planned, plan};
 use crate::fault::ManagerFault;
 use crate::first_records::{log_first, reserve_for};
+use crate::log_space::begins_with_room;
 use crate::manager::Manager;
 use crate::refused::RefusedOpening;
-use crate::room::begins_with_room;
 use crate::settings::Settings;
 use crate::tables::Tables;
 use std::alloc::Global;

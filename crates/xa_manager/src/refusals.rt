@@ -2,7 +2,7 @@ ghost use Rattle.std.specs.Prelude.{◌≡◌, IfSome, IfOk, false};
 ghost use Rattle.xa_record.specs.declared.record.Record.TheVariants as logged;
 ghost use Rattle.xa_model.specs.State.{known_as, loose_of};
 ghost use Rattle.xa_model.specs.Associations.{loose_refusal};
-ghost use Rattle.xa_model.specs.Branches.{unprepared_refusal, two_phase_refusal, rollback_refusal, doom_refusal, is_associated};
+ghost use Rattle.xa_model.specs.Phases.{unprepared_refusal, two_phase_refusal, rollback_refusal, doom_refusal, is_associated};
 ghost use Rattle.xa_model.specs.Completions.{decide_refusal, forget_refusal};
 ghost use Rattle.xa_assoc.specs.Refusals.{is_memory, IsBare};
 ghost use Rattle.xa_assoc.specs.Sessions.{begin_refusal_of, join_refusal_of, resume_refusal_of, suspend_refusal_of, leave_refusal_of};

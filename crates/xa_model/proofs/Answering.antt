@@ -14,7 +14,7 @@ use Rattle.xa_model.specs.State.{State, Standing, Up, Down, Ended, Known, Unknow
 use Rattle.xa_model.specs.Answer.{Answer, plain, first}
 use Rattle.xa_model.specs.Early.{early_refusal, passes_down, call_of, needs_open, is_opened, is_async, flags_of, is_invalid, Context}
 use Rattle.xa_model.specs.Associations.{is_unknown, is_lasting}
-use Rattle.xa_model.specs.Branches.{unprepared_refusal, two_phase_refusal, rollback_refusal, heuristic_refusal}
+use Rattle.xa_model.specs.Phases.{unprepared_refusal, two_phase_refusal, rollback_refusal, heuristic_refusal}
 use Rattle.xa_model.specs.Completions.{forget_refusal, is_completed}
 use Rattle.xa_model.specs.Durable.{Durable, durable}
 use Rattle.xa_model.specs.Fold.{apply}

@@ -9,7 +9,7 @@ use Rattle.xa_record.specs.declared.record.Record.{Record}
 use Rattle.xa_record.specs.declared.record.Record.TheVariants as logged
 use Rattle.xa_xid.specs.Triple.{Triple}
 use Rattle.xa_model.specs.State.{State, Branch, Phase, Working, Prepared, Committed, is_known_as, known_of, change, timestamp_of, is_working}
-use Rattle.xa_model.specs.Branches.{as_prepared, as_committed, prepared_phase}
+use Rattle.xa_model.specs.Phases.{as_prepared, as_committed, prepared_phase}
 use Rattle.xa_model.specs.Invariants.Sound.{IsSound}
 use Rattle.xa_model.specs.Durable.{durable}
 use Rattle.xa_model.specs.Fold.{Reading, read, reading, unread, fits, fold, apply, is_used, timestamps_with, size_of, sizes}

@@ -10,7 +10,7 @@ use Rattle.xa_codes.specs.declared.write.Write.{Write}
 use Rattle.xa_xid.specs.Triple.{Triple, xid_eq}
 use Rattle.xa_xid.proofs.Same.{xid_same}
 use Rattle.xa_model.specs.State.{State, Branch, Phase, Working, Prepared, Committed, InDoubt, Decided, known_as, known_among, known_by, known_of, decided_of, or_completed, is_known_as, is_with, name_of, change, without, timestamp_of, is_working, is_at_work}
-use Rattle.xa_model.specs.Branches.{as_prepared, as_committed, prepared, committed, completed, rolled_back}
+use Rattle.xa_model.specs.Phases.{as_prepared, as_committed, prepared, committed, completed, rolled_back}
 use Rattle.xa_model.specs.Invariants.Sound.{IsSound, Descends}
 use Rattle.xa_model.specs.Durable.{Durable, CommittedBranch, PreparedBranch, Pairwise, insert, commits_before, prepares_before, committed_part, prepared_part, durable, last_writes, writes_of, by_name}
 use Rattle.xa_model.specs.Fold.{prepare, commit_writes, complete, prepared_as}

@@ -7,7 +7,7 @@ use Rattle.xa_xid.specs.Triple.{Triple, xid_eq}
 use Rattle.xa_record.specs.declared.record.Record.TheVariants as logged
 use Rattle.xa_model.specs.State.{State, InDoubt, Decided, known_as, count, without}
 use Rattle.xa_xid.proofs.Same.{xid_same}
-use Rattle.xa_model.specs.Branches.{prepared, committed, completed, decided_by, forgotten, is_decision_of}
+use Rattle.xa_model.specs.Phases.{prepared, committed, completed, decided_by, forgotten, is_decision_of}
 use Rattle.xa_model.specs.Invariants.Sound.{IsSound}
 use Rattle.xa_model.specs.Durable.{Pairwise, insert, named_before, durable, by_name}
 use Rattle.xa_model.specs.Fold.{apply, complete, decide}

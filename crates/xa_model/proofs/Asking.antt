@@ -17,7 +17,7 @@ use Rattle.xa_model.specs.State.{State, Standing, Up, Down, Ended, Known, Unknow
 use Rattle.xa_model.specs.Answer.{plain, answer, ok}
 use Rattle.xa_model.specs.Early.{early_refusal}
 use Rattle.xa_model.specs.Associations.{mark_in, timestamp_in}
-use Rattle.xa_model.specs.Branches.{rolled_back, committed, unprepared_refusal, two_phase_refusal, rollback_refusal, heuristic_refusal, is_associated}
+use Rattle.xa_model.specs.Phases.{rolled_back, committed, unprepared_refusal, two_phase_refusal, rollback_refusal, heuristic_refusal, is_associated}
 use Rattle.xa_model.specs.Fold.{is_empty}
 use Rattle.xa_model.specs.Turn.{Happening, Asked, Reopened, Turn, Now, Appends, Checkpoints, unless_now, marked_now}
 use Rattle.xa_model.specs.Step.{row, respond, asked, turn, context_of, further_record}

@@ -6,9 +6,9 @@ use Rattle.xa_codes.specs.declared.direction.Direction.TheVariants as direction
 use Rattle.xa_xid.specs.Triple.{Triple}
 use Rattle.xa_model.specs.State.{State, Branch, Operation, Association, name_of, is_known_as, is_with, known_of, timestamp_of, change, limit_of}
 use Rattle.xa_model.specs.Associations.{begun, with_mark, left_behind}
-use Rattle.xa_model.specs.Branches.{rolled_back, committed, as_prepared, decided_by}
+use Rattle.xa_model.specs.Phases.{rolled_back, committed, as_prepared, decided_by}
 use Rattle.xa_model.specs.TimeLimits.{timed_out}
-use Rattle.xa_model.specs.Records.{having_done}
+use Rattle.xa_model.specs.Data.{having_done}
 use Rattle.xa_model.specs.Invariants.Sound.{IsSound}
 use Rattle.xa_model.specs.Invariants.LowWater.{is_known, least_known, low_water, work_floor}
 use Rattle.xa_model.proofs.Doubts.{prepared_name}

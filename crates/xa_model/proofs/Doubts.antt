@@ -7,7 +7,7 @@ use Rattle.xa_codes.specs.declared.direction.Direction.TheVariants as direction
 use Rattle.xa_xid.specs.Triple.{Triple, xid_eq}
 use Rattle.xa_xid.proofs.Same.{xid_same}
 use Rattle.xa_model.specs.State.{State, Branch, Phase, Working, Prepared, Committed, InDoubt, count, change, without, name_of, is_with, is_known_as, known_by, known_among, known_as, known_of, known_count, decided_of, or_completed, holders_of, timestamp_of, is_working, is_at_work}
-use Rattle.xa_model.specs.Branches.{prepared_phase, as_prepared, prepared, as_committed, completed, decided_by, is_decision_of, forgotten}
+use Rattle.xa_model.specs.Phases.{prepared_phase, as_prepared, prepared, as_committed, completed, decided_by, is_decision_of, forgotten}
 use Rattle.xa_model.specs.Invariants.Sound.{IsSound, named, most_known}
 use Rattle.xa_model.proofs.Counts.{count_same, count_without}
 use Rattle.xa_model.proofs.Leaving.{count_left, count_turned, found_any}

@@ -6,7 +6,7 @@ use Rattle.xa_codes.specs.declared.direction.Direction.{Direction}
 use Rattle.xa_xid.specs.Triple.{Triple}
 use Rattle.xa_model.specs.State.{Association, Branch, Phase, Working, Prepared, Committed, InDoubt, known_of, known_by, known_among, is_known_as, is_with}
 use Rattle.xa_model.specs.Associations.{with_mark, marked_phase, left_behind, is_worked_by, timestamp_by}
-use Rattle.xa_model.specs.Branches.{as_committed, as_prepared}
+use Rattle.xa_model.specs.Phases.{as_committed, as_prepared}
 use Rattle.xa_model.specs.Logging.{writes_by}
 use Rattle.xa_model.specs.Completions.{is_completed}
 use Rattle.xa_model.proofs.Marks.{left_keeps}

@@ -11,7 +11,7 @@ use Rattle.xa_record.specs.declared.record.Record.TheVariants as logged
 use Rattle.xa_xid.specs.Triple.{Triple}
 use Rattle.xa_model.specs.State.{State, Association, Branch, Decided, Phase, Working, Prepared, Committed, InDoubt, known_as, known_among, known_of, decided_of, is_at_work, is_known_as, is_with, holders_of, without, change}
 use Rattle.xa_model.specs.Associations.{left_behind, timestamp_by}
-use Rattle.xa_model.specs.Branches.{as_committed, as_prepared, is_decision_of}
+use Rattle.xa_model.specs.Phases.{as_committed, as_prepared, is_decision_of}
 use Rattle.xa_model.specs.Completions.{is_completed}
 use Rattle.xa_model.specs.Logging.{applied, writes_by, is_boot}
 use Rattle.xa_model.specs.Invariants.MayLog.{IsIdle, MayLog}

@@ -16,8 +16,8 @@ use Rattle.xa_model.specs.Source.{Version, source, is_late}
 use Rattle.xa_model.specs.Answer.{Answer, ok, unless, marked}
 use Rattle.xa_model.specs.Early.{early_refusal}
 use Rattle.xa_model.specs.Associations.{connect_refusal, connected, connect_by, hang_up_by, open_by, close_refusal, close_by, as_opened, is_of_session, with_mark, marked_phase, left_behind, is_worked_by, start_refusal, begun, begin_by, is_taken, join_refusal, joined, join_by, resume_refusal, resumed, not_resumed, resume_by, start_by, end_refusal, loose_refusal, suspended, not_suspended, suspend_by, can_end, ended, failed, leave_by, end_by, mark_in}
-use Rattle.xa_model.specs.Branches.{doom_refusal, doomed, doom_by}
-use Rattle.xa_model.specs.Records.{having_done, got, get_from, get_by, busy_refusal, is_full, limit_refusal, came_late, written, if_late, put_from, put_by}
+use Rattle.xa_model.specs.Phases.{doom_refusal, doomed, doom_by}
+use Rattle.xa_model.specs.Data.{having_done, got, get_from, get_by, busy_refusal, is_full, limit_refusal, came_late, written, if_late, put_from, put_by}
 use Rattle.xa_model.specs.Completions.{commit_one_phase_turn, commit_two_phase_turn}
 use Rattle.xa_model.specs.TimeLimits.{runs_out, timed_out, ticked, tick_by, timeout_by}
 use Rattle.xa_model.specs.Recovering.{scan_of, scan_from, recovered_from, recover_by}

@@ -4,7 +4,7 @@ use Rattle.std.specs.List.{AllByRecursion}
 use Rattle.std.proofs.lemmas.Bool.Decides.{nat_tests}
 use Rattle.xa_xid.specs.Triple.{Triple}
 use Rattle.xa_model.specs.State.{State, Branch, Operation, Work, Phase, Working, Prepared, Committed, is_known_as, is_committed, name_of, known_count, timestamp_of, new_work, new_branch}
-use Rattle.xa_model.specs.Records.{having_done, did}
+use Rattle.xa_model.specs.Data.{having_done, did}
 use Rattle.xa_model.specs.Invariants.Sound.{IsSound}
 use Rattle.xa_model.specs.Step.{turn}
 use Rattle.xa_model.specs.Invariants.LowWater.{is_known, is_known_at, lesser, least_known, low_water}

@@ -5,7 +5,7 @@ use Rattle.xa_xid.specs.Triple.{Triple}
 use Rattle.xa_model.specs.State.{State, Branch, Phase, Working, Prepared, Committed, Operation, Association, name_of, is_known_as, change, is_working}
 use Rattle.xa_model.specs.Associations.{with_mark, marked_phase, left_behind, is_worked_by}
 use Rattle.xa_model.specs.TimeLimits.{runs_out, timed_out}
-use Rattle.xa_model.specs.Records.{having_done}
+use Rattle.xa_model.specs.Data.{having_done}
 use Rattle.xa_model.specs.Invariants.Sound.{IsSound}
 use Rattle.xa_model.proofs.Order.{KeepsTimestamp}
 use Rattle.xa_model.proofs.Parts.{KeepsName, with_branches, changed_kept}

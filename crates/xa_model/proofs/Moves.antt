@@ -6,7 +6,7 @@ use Rattle.xa_codes.specs.declared.codes.TheConstants.{XA_OK}
 use Rattle.xa_xid.specs.Triple.{Triple}
 use Rattle.xa_model.specs.State.{State, Branch, Read, Got, Wrote, Phase, Working, Prepared, Committed, is_committed, is_known_as, is_with, name_of, known_of, mark_of, timestamp_of, change, without, new_work, new_branch, is_working}
 use Rattle.xa_model.specs.Source.{source, is_busy, is_late}
-use Rattle.xa_model.specs.Records.{did}
+use Rattle.xa_model.specs.Data.{did}
 use Rattle.xa_model.specs.Restarting.{lasts}
 
 -- what timestamp ordering knows of a state

@@ -4,7 +4,7 @@ use Rattle.std.specs.Prelude.{is_some}
 use Rattle.xa_xid.specs.Triple.{Triple, xid_eq}
 use Rattle.xa_xid.proofs.Same.{xid_same}
 use Rattle.xa_model.specs.State.{State, Branch, change, without, name_of, is_with, is_known_as, known_of, holders_of, timestamp_of, is_at_work}
-use Rattle.xa_model.specs.Branches.{as_committed, committed, rolled_back}
+use Rattle.xa_model.specs.Phases.{as_committed, committed, rolled_back}
 use Rattle.xa_model.specs.Invariants.Sound.{IsSound}
 use Rattle.xa_model.proofs.Counts.{count_changed, count_without}
 use Rattle.xa_model.proofs.Finds.{find_without}

@@ -9,14 +9,14 @@ use Rattle.xa_model.specs.declared.event.Event.TheVariants as event
 use Rattle.xa_model.specs.State.{State, Branch, Phase, Working, Prepared, Committed, is_known_as, known_of, known_by, known_among, known_as, decided_of, mark_of, is_working}
 use Rattle.xa_model.specs.Answer.{Answer, plain, answer, first}
 use Rattle.xa_model.specs.Associations.{mark_in, timestamp_in}
-use Rattle.xa_model.specs.Branches.{rolled_back, committed, unprepared_refusal, is_associated}
+use Rattle.xa_model.specs.Phases.{rolled_back, committed, unprepared_refusal, is_associated}
 use Rattle.xa_model.specs.Durable.{durable}
 use Rattle.xa_model.specs.Fold.{is_empty}
 use Rattle.xa_model.specs.Turn.{Happening, Asked, Reopened, Now}
 use Rattle.xa_model.specs.Step.{turn}
 use Rattle.xa_model.specs.Logging.{logs, has_room, log_full, writes_in}
 use Rattle.xa_model.specs.Completions.{prepare_turn, prepare_written}
-use Rattle.xa_model.specs.Records.{having_done}
+use Rattle.xa_model.specs.Data.{having_done}
 use Rattle.xa_model.specs.Events.{IsHappening, HaveHappened}
 use Rattle.xa_model.specs.History.{Entry, Leads}
 use Rattle.xa_model.specs.Invariants.Loggable.{IsRecoverable}

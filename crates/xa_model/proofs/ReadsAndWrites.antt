@@ -9,7 +9,7 @@ use Rattle.xa_xid.specs.Triple.{Triple}
 use Rattle.xa_model.specs.State.{Branch, Read, Operation, Got, Wrote, is_known_as, is_working, known_of, timestamp_of}
 use Rattle.xa_model.specs.Source.{Version, write_of, absent, source, is_busy, is_late}
 use Rattle.xa_model.specs.Invariants.Sound.{Descends}
-use Rattle.xa_model.specs.Records.{having_done, did}
+use Rattle.xa_model.specs.Data.{having_done, did}
 use Rattle.xa_model.proofs.Inserts.{all_imply}
 use Rattle.xa_model.proofs.Keys.{key_itself}
 use Rattle.xa_model.proofs.Lists.{found_all, change_all}

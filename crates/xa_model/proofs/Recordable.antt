@@ -8,7 +8,7 @@ use Rattle.xa_record.specs.Limits.{IsRecord}
 use Rattle.xa_record.specs.declared.record.Record.{Record}
 use Rattle.xa_record.specs.declared.record.Record.TheVariants as logged
 use Rattle.xa_model.specs.State.{State, Branch, Phase, Committed, is_known_as}
-use Rattle.xa_model.specs.Branches.{as_committed, as_prepared, prepared_phase}
+use Rattle.xa_model.specs.Phases.{as_committed, as_prepared, prepared_phase}
 use Rattle.xa_model.specs.Durable.{is_past, writes_of}
 use Rattle.xa_model.specs.Logging.{applied}
 use Rattle.xa_model.specs.Invariants.MayLog.{MayLog}

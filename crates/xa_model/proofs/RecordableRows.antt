@@ -25,8 +25,8 @@ use Rattle.xa_model.specs.Answer.{Answer, plain, detailed, answer, ok, unless, m
 use Rattle.xa_model.specs.Early.{early_refusal}
 use Rattle.xa_model.specs.Associations.{connect_refusal, connected, close_refusal, is_of_session, with_mark, marked_phase, left_behind, is_worked_by, start_refusal, begun, begin_by, is_taken, join_refusal, joined, join_by, resume_refusal, resumed, not_resumed, resume_by, start_by, end_refusal, loose_refusal, suspended, not_suspended, suspend_by, can_end, ended, failed, leave_by, end_by, mark_in, timestamp_by, timestamp_in}
 use Rattle.xa_limits.specs.declared.TheConstants.{MOST_BOOTS, MOST_BRANCHES, MOST_GIVEN}
-use Rattle.xa_model.specs.Branches.{as_committed, rolled_back, committed, unprepared_refusal, two_phase_refusal, heuristic_refusal, rollback_refusal, doom_refusal, doomed, is_associated}
-use Rattle.xa_model.specs.Records.{having_done, got, get_from, get_by, busy_refusal, is_full, limit_refusal, came_late, written, if_late, put_from, put_by}
+use Rattle.xa_model.specs.Phases.{as_committed, rolled_back, committed, unprepared_refusal, two_phase_refusal, heuristic_refusal, rollback_refusal, doom_refusal, doomed, is_associated}
+use Rattle.xa_model.specs.Data.{having_done, got, get_from, get_by, busy_refusal, is_full, limit_refusal, came_late, written, if_late, put_from, put_by}
 use Rattle.xa_model.specs.TimeLimits.{runs_out, timed_out}
 use Rattle.xa_model.specs.Recovering.{recovered_from, scan_from, scan_of}
 use Rattle.xa_model.specs.Durable.{boot_of, is_past}

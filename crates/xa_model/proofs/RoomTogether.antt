@@ -6,7 +6,7 @@ use Rattle.xa_limits.specs.declared.TheConstants.{DECIDED_ROOM, PREPARED_ROOM}
 use Rattle.xa_record.specs.declared.record.Record.{Record}
 use Rattle.xa_record.specs.declared.record.Record.TheVariants as logged
 use Rattle.xa_model.specs.State.{State, Branch, count, is_known_as, change}
-use Rattle.xa_model.specs.Branches.{as_committed, as_prepared}
+use Rattle.xa_model.specs.Phases.{as_committed, as_prepared}
 use Rattle.xa_model.specs.Durable.{Durable}
 use Rattle.xa_model.specs.Fold.{size_of, sizes}
 use Rattle.xa_model.specs.Logging.{applied, applied_all, is_boot, is_in_doubt, log_room, prepared_count}

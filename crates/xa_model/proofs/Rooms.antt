@@ -13,7 +13,7 @@ use Rattle.xa_record.specs.declared.record.Record.TheVariants as logged
 use Rattle.xa_xid.specs.Spelling.{bytes_of}
 use Rattle.xa_xid.specs.Triple.{Triple, IsWithinLimits}
 use Rattle.xa_model.specs.State.{State, Branch, Phase, Working, Prepared, Committed, Decided, InDoubt, Up, count, change, without, is_known_as, known_as, known_of, known_among, known_by, decided_of}
-use Rattle.xa_model.specs.Branches.{as_prepared, as_committed, prepared, committed, completed, is_decision_of, forgotten}
+use Rattle.xa_model.specs.Phases.{as_prepared, as_committed, prepared, committed, completed, is_decision_of, forgotten}
 use Rattle.xa_model.specs.Durable.{Durable, insert, named_before, by_name, durable}
 use Rattle.xa_model.specs.Fold.{fold, nothing, size_of}
 use Rattle.xa_model.specs.Logging.{log_room, has_room, is_in_doubt, prepared_count, snapshot_end, applied}

@@ -12,7 +12,7 @@ use Rattle.xa_model.specs.State.{Operation, Got, Wrote}
 use Rattle.xa_model.specs.Source.{write_of, written_keys}
 use Rattle.xa_model.specs.Durable.{Pairwise, keys_before, value_in, put_write, writes_of}
 use Rattle.xa_model.specs.Fold.{is_empty}
-use Rattle.xa_model.specs.Records.{is_full}
+use Rattle.xa_model.specs.Data.{is_full}
 use Rattle.xa_limits.specs.declared.TheConstants.{MOST_WRITES}
 use Rattle.xa_model.specs.Invariants.Loggable.{AreShort}
 use Rattle.xa_model.proofs.Inserts.{all_imply}

@@ -10,8 +10,8 @@ use Rattle.xa_model.specs.Source.{Version, source, is_late}
 use Rattle.xa_model.specs.Answer.{Answer, ok}
 use Rattle.xa_model.specs.Early.{early_refusal, call_of, passes_down, Context}
 use Rattle.xa_model.specs.Associations.{as_closed, close_refusal, close_by, with_mark, is_of_session}
-use Rattle.xa_model.specs.Branches.{doom_refusal, doomed, doom_by}
-use Rattle.xa_model.specs.Records.{having_done, got, get_from, get_by, busy_refusal, is_full, limit_refusal, came_late, written, if_late, put_from, put_by}
+use Rattle.xa_model.specs.Phases.{doom_refusal, doomed, doom_by}
+use Rattle.xa_model.specs.Data.{having_done, got, get_from, get_by, busy_refusal, is_full, limit_refusal, came_late, written, if_late, put_from, put_by}
 use Rattle.xa_model.specs.Durable.{durable}
 use Rattle.xa_model.specs.Listed.{list_after}
 use Rattle.xa_model.specs.TimeLimits.{timed_out, with_limit, tick_by, timeout_by}

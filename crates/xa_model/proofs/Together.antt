@@ -20,7 +20,7 @@ use Rattle.xa_model.specs.declared.outcome.Appending.TheVariants.{Kept, Refused}
 use Rattle.xa_model.specs.State.{State, Session, Association, Branch, Decided, Standing, Up, Known, Unknown, AtWork, InDoubt, Completed, known_as, known_among, known_of, decided_of, is_known_as, holders_of, session_of, change, without}
 use Rattle.xa_model.specs.Answer.{Answer, plain, answer, ok}
 use Rattle.xa_model.specs.Associations.{mark_in, timestamp_by, timestamp_in}
-use Rattle.xa_model.specs.Branches.{as_committed, as_prepared, is_associated, is_decision_of, unprepared_refusal, two_phase_refusal, rollback_refusal, heuristic_refusal, rolled_back, committed}
+use Rattle.xa_model.specs.Phases.{as_committed, as_prepared, is_associated, is_decision_of, unprepared_refusal, two_phase_refusal, rollback_refusal, heuristic_refusal, rolled_back, committed}
 use Rattle.xa_model.specs.Completions.{prepare_turn, commit_one_phase_turn, commit_two_phase_turn, rollback_turn, roll_back_turn, decide_refusal, decide_turn, forget_refusal, forget_turn}
 use Rattle.xa_model.specs.Early.{Context, early_refusal}
 use Rattle.xa_model.specs.Fold.{is_empty}

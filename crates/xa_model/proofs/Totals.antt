@@ -20,7 +20,7 @@ use Rattle.xa_model.specs.declared.outcome.Appending.TheVariants.{Kept, Refused,
 use Rattle.xa_model.specs.State.{State, Standing, Up, Down, Ended, Known, Unknown, AtWork, InDoubt, Completed, known_as}
 use Rattle.xa_model.specs.Answer.{Answer, answer, plain, ok}
 use Rattle.xa_model.specs.Associations.{mark_in, timestamp_in}
-use Rattle.xa_model.specs.Branches.{is_associated, unprepared_refusal, two_phase_refusal, rollback_refusal, heuristic_refusal, rolled_back, committed}
+use Rattle.xa_model.specs.Phases.{is_associated, unprepared_refusal, two_phase_refusal, rollback_refusal, heuristic_refusal, rolled_back, committed}
 use Rattle.xa_model.specs.Completions.{prepare_turn, prepare_written, commit_one_phase_turn, commit_written, commit_two_phase_turn, rollback_turn, roll_back_turn, decide_refusal, forget_refusal}
 use Rattle.xa_model.specs.Early.{early_refusal}
 use Rattle.xa_model.specs.Fold.{is_empty}

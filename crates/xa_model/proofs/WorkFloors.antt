@@ -3,7 +3,7 @@ use Rattle.std.proofs.Common.{◌≡◌, ℕ, ◌+◌, ◌≤◌, Bool, true, fa
 use Rattle.std.specs.List.{AllByRecursion}
 use Rattle.xa_xid.specs.Triple.{Triple}
 use Rattle.xa_model.specs.State.{State, Branch, Operation, is_known_as, is_working, timestamp_of, change, new_work, new_branch}
-use Rattle.xa_model.specs.Records.{having_done, did}
+use Rattle.xa_model.specs.Data.{having_done, did}
 use Rattle.xa_model.specs.Step.{turn}
 use Rattle.xa_model.specs.Invariants.LowWater.{lesser, least_working, work_floor}
 use Rattle.xa_model.specs.Laws.LowWater.{WorksAbove, BeginsAbove, FloorNeverFalls}

@@ -9,8 +9,8 @@ use Rattle.xa_record.specs.declared.record.Record.TheVariants as logged
 use Rattle.xa_model.specs.State.{State, Known, InDoubt, Completed, known_as}
 use Rattle.xa_model.specs.Answer.{plain, answer, ok, first}
 use Rattle.xa_model.specs.Associations.{is_unknown, mark_in, timestamp_in}
-use Rattle.xa_model.specs.Branches.{is_associated, unprepared_refusal, two_phase_refusal, rollback_refusal}
-use Rattle.xa_model.specs.Branches.{heuristic_refusal, rolled_back, committed}
+use Rattle.xa_model.specs.Phases.{is_associated, unprepared_refusal, two_phase_refusal, rollback_refusal}
+use Rattle.xa_model.specs.Phases.{heuristic_refusal, rolled_back, committed}
 use Rattle.xa_model.specs.Fold.{is_empty}
 use Rattle.xa_model.specs.Turn.{Turn, Now, unless_now, marked_now}
 use Rattle.xa_model.specs.Logging.{logs, has_room, log_full, writes_in}

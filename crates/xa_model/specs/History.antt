@@ -16,10 +16,6 @@ pub record Entry : Type 0 where
   pub outcome : Outcome
   pub reply : Reply
 
-pub record History : Type 0 where
-  pub start : State
-  pub entries : List Entry
-
 -- the state of a manager that was opened on an empty log, and asked nothing
 abbrev pub fresh : List ℕ → ℕ → State
 fresh name log_bytes = opening nothing name log_bytes 1
@@ -33,10 +29,6 @@ Steps before entry after =
 abbrev pub Leads : State → List Entry → State → Type 0
 Leads first [] last = last ≡ first
 Leads first (entry ∷ entries) last = (mid : State) × Steps first entry mid × Leads mid entries last
-
--- each reply is the step's, replayed from the start
-abbrev pub IsLegal : History → Type 0
-IsLegal h = (last : State) × Leads h.start h.entries last
 
 -- the replies to a list of happenings with their outcomes; None where an outcome doesn't fit
 abbrev pub replay : State → List (Happening × Outcome) → Option (List Reply)

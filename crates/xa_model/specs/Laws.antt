@@ -6,7 +6,7 @@ use Rattle.xa_model.specs.declared.event.Event.{Event}
 use Rattle.xa_model.specs.declared.outcome.Outcome.{Outcome}
 use Rattle.xa_model.specs.State.{State, InDoubt, known_as}
 use Rattle.xa_model.specs.Answer.{Answer}
-use Rattle.xa_model.specs.Branches.{is_associated, prepared, decided_by, forgotten}
+use Rattle.xa_model.specs.Phases.{is_associated, prepared, decided_by, forgotten}
 use Rattle.xa_model.specs.Turn.{Happening, Asked}
 use Rattle.xa_model.specs.Step.{step}
 use Rattle.xa_model.specs.Invariants.Sound.{IsSound}

@@ -6,8 +6,8 @@ pub mod Early
 pub mod Associations
 pub mod TimeLimits
 pub mod Source
-pub mod Records
-pub mod Branches
+pub mod Data
+pub mod Phases
 pub mod Durable
 pub mod Fold
 pub mod Listed

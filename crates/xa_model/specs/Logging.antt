@@ -12,7 +12,7 @@ use Rattle.xa_model.specs.declared.outcome.Appending.{Appending}
 use Rattle.xa_model.specs.declared.outcome.Appending.TheVariants.{Kept, Refused, Lost}
 use Rattle.xa_model.specs.State.{State, Branch, Phase, Working, Prepared, Committed, Up, Down, count, known_of}
 use Rattle.xa_model.specs.Answer.{Answer, detailed, answer, ok}
-use Rattle.xa_model.specs.Branches.{prepared, committed, completed, decided_by, forgotten, rolled_back}
+use Rattle.xa_model.specs.Phases.{prepared, committed, completed, decided_by, forgotten, rolled_back}
 use Rattle.xa_model.specs.Durable.{durable, writes_of}
 use Rattle.xa_model.specs.Fold.{snapshot, size_of, sizes}
 use Rattle.xa_model.specs.Turn.{Turn, Appends}

@@ -17,10 +17,10 @@ use Rattle.xa_model.specs.Turn.{Happening, Asked, Reopened, Turn, Nobody, Now, A
 use Rattle.xa_model.specs.Logging.{supposed, lost_too, takes_more}
 use Rattle.xa_model.specs.Early.{Context, early_refusal}
 use Rattle.xa_model.specs.Associations.{connect_by, open_by, close_by, hang_up_by, start_by, end_by}
-use Rattle.xa_model.specs.Branches.{doom_by}
+use Rattle.xa_model.specs.Phases.{doom_by}
 use Rattle.xa_model.specs.Completions.{prepare_turn, commit_one_phase_turn, commit_two_phase_turn, rollback_turn}
 use Rattle.xa_model.specs.Completions.{decide_turn, forget_turn}
-use Rattle.xa_model.specs.Records.{get_by, put_by}
+use Rattle.xa_model.specs.Data.{get_by, put_by}
 use Rattle.xa_model.specs.Recovering.{recover_by}
 use Rattle.xa_model.specs.Restarting.{restart_turn, reopen_turn}
 use Rattle.xa_model.specs.Trimming.{trim_turn}

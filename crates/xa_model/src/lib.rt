@@ -6,7 +6,7 @@
 //! The definitions, in an order to read; docs/MODEL.md retells them:
 //!
 //! - `State`, the state; `Source`, which version of a key a timestamp reads
-//! - `Early`, the refusals before a call's row. The rows: `Associations`, `TimeLimits`, `Branches`, `Records`,
+//! - `Early`, the refusals before a call's row. The rows: `Associations`, `TimeLimits`, `Phases`, `Data`,
 //!   `Recovering`
 //! - `Turn`, what is asked of the device, and what comes of its answers; `Completions` and `Logging`, of the calls that
 //!   log

@@ -29,7 +29,7 @@ use Rattle.xa_model.proofs.RoomyRows.{AsksRoom, events_ask_room}
 use Rattle.xa_model.specs.Early.{early_refusal}
 use Rattle.xa_model.specs.Logging.{applied, append_became, logs, has_room, log_full, writes_in, down}
 use Rattle.xa_model.specs.Associations.{failed, mark_in, timestamp_in}
-use Rattle.xa_model.specs.Branches.{unprepared_refusal, two_phase_refusal, rollback_refusal, heuristic_refusal, is_associated, rolled_back, committed}
+use Rattle.xa_model.specs.Phases.{unprepared_refusal, two_phase_refusal, rollback_refusal, heuristic_refusal, is_associated, rolled_back, committed}
 use Rattle.xa_model.specs.Completions.{prepare_turn, commit_one_phase_turn, commit_two_phase_turn, rollback_turn, roll_back_turn, decide_turn, decide_refusal, forget_turn, forget_refusal}
 use Rattle.xa_model.specs.Trimming.{trim_turn, trim_refusal, trim_became}
 use Rattle.xa_model.specs.Restarting.{restart_turn, restarting, boot_became, looked, with_first, survived, reopening, can_open, reopen_became, refused_opening}

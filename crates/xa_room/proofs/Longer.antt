@@ -16,8 +16,8 @@ use Rattle.xa_model.specs.Step.{step}
 use Rattle.xa_model.specs.Events.{HaveHappened, IsEvent, begins_boot}
 use Rattle.xa_model.specs.declared.outcome.Appending.{Appending}
 use Rattle.xa_model.specs.History.{Leads, HasGroups, JoinAfter, append_in, joins}
-use Rattle.xa_room.specs.declared.book.Entry.{Entry}
-use Rattle.xa_room.specs.declared.book.Receipt.{Receipt}
+use Rattle.xa_room.specs.declared.entry.Entry.{Entry}
+use Rattle.xa_room.specs.declared.receipt.Receipt.{Receipt}
 use Rattle.xa_room.specs.declared.manages.Manages.{Ghosts}
 use Rattle.xa_room.specs.Book.{AreNumbered, HasNoBoot, entry_of, plain_entries, receipt_of, unplaced}
 use Rattle.xa_room.specs.Manages.{Acts, Counts, StepsTo}

@@ -1,8 +1,8 @@
 -- What an audit answers.
 use Rattle.std.specs.Prelude.{◌≡◌, ◌≢◌, ℕ, ◌+◌, ◌-◌, ◌<◌, ◌⊎◌, Bool, true, false, ◌==◌, List, [], ◌∷◌, length, Some, slice_get, Result, Ok, Err}
 use Rattle.std.specs.List.{list_any}
-use Rattle.xa_room.specs.declared.book.Entry.{Entry}
-use Rattle.xa_room.specs.declared.book.Receipt.{Receipt}
+use Rattle.xa_room.specs.declared.entry.Entry.{Entry}
+use Rattle.xa_room.specs.declared.receipt.Receipt.{Receipt}
 use Rattle.xa_room.specs.declared.auditing.AuditFault.{AuditFault}
 use Rattle.xa_room.specs.declared.auditing.AuditFault.TheVariants.{Count, Place, Repeats, Differs}
 use Rattle.xa_room.specs.Book.{receipt_of}

@@ -6,8 +6,8 @@ use Rattle.xa_model.specs.declared.outcome.Outcome.{Outcome}
 use Rattle.xa_model.specs.Events.{begins_boot}
 use Rattle.xa_model.specs.Turn.{Asked}
 use Rattle.xa_model.specs.History as history
-use Rattle.xa_room.specs.declared.book.Entry.{Entry}
-use Rattle.xa_room.specs.declared.book.Receipt.{Receipt}
+use Rattle.xa_room.specs.declared.entry.Entry.{Entry}
+use Rattle.xa_room.specs.declared.receipt.Receipt.{Receipt}
 
 abbrev pub placed : ℕ → Reply → Reply
 placed n r = record r { place = n }

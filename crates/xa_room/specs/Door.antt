@@ -8,7 +8,7 @@ use Rattle.xa_frame.specs.declared.reply.Reply.{Reply}
 use Rattle.xa_frame.specs.declared.status.Status.{Status}
 use Rattle.xa_manager.specs.Answered.{wanted_memory}
 use Rattle.xa_model.specs.declared.event.Event.TheVariants.{Hangup, Call}
-use Rattle.xa_room.specs.declared.book.Receipt.{Receipt}
+use Rattle.xa_room.specs.declared.receipt.Receipt.{Receipt}
 use Rattle.xa_room.specs.declared.manages.Manages.{Ghosts}
 use Rattle.xa_room.specs.Upholds.{Adds, Leaves}
 use Rattle.xa_room.specs.Told.{Told}

@@ -3,7 +3,7 @@ use Rattle.std.specs.Prelude.{◌⊎◌, List}
 use Rattle.xa_manager.specs.Promises.{IsOpening, IsReached, ListsPrepared, ListsNoCompleted}
 use Rattle.xa_model.specs.State.{State}
 use Rattle.xa_model.specs.OneCopy.{HasOneCopy}
-use Rattle.xa_room.specs.declared.book.Entry.{Entry}
+use Rattle.xa_room.specs.declared.entry.Entry.{Entry}
 use Rattle.xa_room.specs.declared.manages.Manages.{Ghosts}
 use Rattle.xa_room.specs.Book.{HasNoBoot, plain_entries}
 

@@ -3,7 +3,7 @@ use Rattle.std.specs.Prelude.{ℕ, ◌≡◌, List, length}
 use Rattle.xa_frame.specs.declared.status.Status.{Status}
 use Rattle.xa_manager.specs.Status.{status_behind}
 use Rattle.xa_model.specs.State.{State}
-use Rattle.xa_room.specs.declared.book.Entry.{Entry}
+use Rattle.xa_room.specs.declared.entry.Entry.{Entry}
 use Rattle.xa_room.specs.declared.manages.Manages.{Ghosts}
 use Rattle.xa_room.specs.Upholds.{IsLegal}
 

@@ -6,8 +6,8 @@ use Rattle.xa_model.specs.State.{State}
 use Rattle.xa_model.specs.Events.{HaveHappened}
 use Rattle.xa_model.specs.History.{Leads, HasGroups}
 use Rattle.xa_manager.specs.Counted.{RiseBy, failures_of}
-use Rattle.xa_room.specs.declared.book.Entry.{Entry}
-use Rattle.xa_room.specs.declared.book.Receipt.{Receipt}
+use Rattle.xa_room.specs.declared.entry.Entry.{Entry}
+use Rattle.xa_room.specs.declared.receipt.Receipt.{Receipt}
 use Rattle.xa_room.specs.declared.manages.Manages.{Ghosts}
 use Rattle.xa_room.specs.Book.{AreNumbered, HasNoBoot, entry_of, plain_entries, unplaced}
 use Rattle.xa_room.specs.Manages.{Stays, StepsTo, Calls, Counts}

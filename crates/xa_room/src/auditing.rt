@@ -2,9 +2,10 @@ ghost use Rattle.std.specs.Prelude.{◌≡◌, ℕ, ◌-◌, ◌<◌, ◌≤◌,
 ghost use Rattle.xa_room.specs.Audit.{Audits, HasFault, IsSound, Judges};
 ghost use Rattle.xa_room.specs.HasMet.{HasMet};
 
-use crate::book::{Entry, Receipt};
 use crate::comparing::is_receipt_of;
+use crate::entry::Entry;
 use crate::manages::Manages;
+use crate::receipt::Receipt;
 use crate::room::Room;
 use crate::share::Share;
 use crate::start::Start;

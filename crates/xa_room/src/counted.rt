@@ -8,8 +8,8 @@ ghost use Rattle.xa_room.specs.Upholds.{Adds, Leaves};
 ghost use Rattle.xa_room.specs.Share.{Records};
 ghost use Rattle.xa_room.specs.Status.{IsTold};
 
-use crate::book::Receipt;
 use crate::manages::Manages;
+use crate::receipt::Receipt;
 use crate::room::Room;
 use crate::share::Share;
 use crate::start::Start;

@@ -7,10 +7,10 @@ ghost use Rattle.xa_room.specs.Gone.{WasGone};
 ghost use Rattle.xa_room.specs.Share.{Records};
 ghost use Rattle.xa_room.specs.Status.{IsTold};
 
-use crate::book::Receipt;
 use crate::copies::two_copies;
 use crate::counted::Counted;
 use crate::manages::Manages;
+use crate::receipt::Receipt;
 use crate::room::Room;
 use crate::share::Share;
 use crate::start::Start;

@@ -6,7 +6,7 @@
 //!
 //! - `room`: `Room`, which asks its manager and notes each event; `start`: `Start`, where its history begins
 //! - `manages`: `Manages`, what a room asks of a manager; `manager`: that the manager over a log does it
-//! - `book`: `Entry`, one event of the history, and `Receipt`, what whoever asked is given of it
+//! - `entry`: `Entry`, one event of the history; `receipt`: `Receipt`, what whoever asked is given of it
 //! - `notes`: room for entries, and an entry more; `copies`, `spare`, `replies`: the copies of a request and of a reply
 //!   that the entry and the receipt take, and a reply's place
 //! - `door`: a room as the door of a connection
@@ -22,15 +22,16 @@
 #![tactic(auto)]
 
 mod auditing;
-mod book;
 mod comparing;
 mod copies;
 mod counted;
 mod desk;
 mod door;
+mod entry;
 mod manager;
 mod manages;
 mod notes;
+mod receipt;
 mod replies;
 mod room;
 mod share;
@@ -40,9 +41,10 @@ mod taking;
 mod uptime;
 
 pub use auditing::{AuditFault, audit};
-pub use book::{Entry, Receipt};
 pub use desk::Desk;
+pub use entry::Entry;
 pub use manages::Manages;
+pub use receipt::Receipt;
 pub use replies::{is_memory, placed};
 pub use room::Room;
 pub use share::{Share, agree};

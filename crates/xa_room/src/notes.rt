@@ -2,7 +2,8 @@ ghost use Rattle.std.specs.Prelude.{◌≡◌, ℕ, ◌+◌, ◌<◌, ◌≤◌,
 ghost use Rattle.xa_room.specs.Book.{entry_of, receipt_of};
 ghost use Rattle.xa_room.specs.Spare.{HasRoom};
 
-use crate::book::{Entry, Receipt};
+use crate::entry::Entry;
+use crate::receipt::Receipt;
 use crate::spare::Spare;
 use xa_frame::Reply;
 use xa_model::{Event, Outcome};

@@ -10,10 +10,11 @@ ghost use Rattle.xa_room.specs.Upholds.{IsLegal, IsCounted, Adds, Leaves};
 ghost use Rattle.xa_room.specs.Promises.{Promises};
 ghost use Rattle.xa_room.specs.Status.{Tells};
 
-use crate::book::{Entry, Receipt};
 use crate::copies::two_copies;
+use crate::entry::Entry;
 use crate::manages::Manages;
 use crate::notes::{make_ready, make_room, note};
+use crate::receipt::Receipt;
 use crate::replies::{is_memory, placed};
 use crate::spare::Spare;
 use crate::start::Start;

@@ -14,7 +14,7 @@ use Rattle.xa_room.proofs.Longer.{kept_noted, not_memory}
 use Rattle.xa_room.specs.Book.{entry_of, placed, plain_entries, unplaced}
 use Rattle.xa_room.specs.Manages.{Acts, Stays, StepsTo}
 use Rattle.xa_room.specs.Upholds.{Upholds}
-use Rattle.xa_room.specs.declared.book.Entry.{Entry}
+use Rattle.xa_room.specs.declared.entry.Entry.{Entry}
 use Rattle.xa_room.specs.declared.manages.Manages.{Ghosts}
 use Rattle.xa_sequencer.specs.Numbers.{Adds, Leaves}
 use Rattle.xa_sequencer.specs.Stands.{AllPromise, GoesOn, GoesOnTwice, HasHistory, Numbered, Stands, most_numbers}

@@ -1,7 +1,7 @@
 -- Which histories a sequencer stands for. None of them is kept: what it has is its manager, and their length.
 use Rattle.std.specs.Prelude.{ℕ, ◌≡◌, ◌-◌, ◌^◌, List, ◌++◌, length}
 use Rattle.xa_model.specs.State.{State}
-use Rattle.xa_room.specs.declared.book.Entry.{Entry}
+use Rattle.xa_room.specs.declared.entry.Entry.{Entry}
 use Rattle.xa_room.specs.declared.manages.Manages.{Ghosts}
 use Rattle.xa_room.specs.Promises.{Promises}
 use Rattle.xa_room.specs.Upholds.{Upholds}

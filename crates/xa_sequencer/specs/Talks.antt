@@ -9,7 +9,7 @@ use Rattle.xa_frame.specs.declared.reply.Reply.{Reply}
 use Rattle.xa_frame.specs.declared.request.Request.{Request}
 use Rattle.xa_model.specs.State.{State}
 use Rattle.xa_model.specs.declared.event.Event.TheVariants.{Call}
-use Rattle.xa_room.specs.declared.book.Entry.{Entry}
+use Rattle.xa_room.specs.declared.entry.Entry.{Entry}
 use Rattle.xa_room.specs.declared.manages.Manages.{Ghosts}
 use Rattle.xa_sequencer.specs.Numbers.{Asked}
 use Rattle.xa_sequencer.specs.Stands.{GoesOn, Numbered}

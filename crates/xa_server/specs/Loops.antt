@@ -11,7 +11,7 @@ use Rattle.xa_manager.specs.declared.manager.Manager.{Manager}
 use Rattle.xa_manager.specs.Opening.{HasBegun}
 use Rattle.xa_model.specs.State.{State}
 use Rattle.xa_reactor.specs.Tending.{HasTended}
-use Rattle.xa_room.specs.declared.book.Entry.{Entry}
+use Rattle.xa_room.specs.declared.entry.Entry.{Entry}
 use Rattle.xa_room.specs.declared.manages.Manages.{Ghosts}
 use Rattle.xa_room.specs.Upholds.{IsLegal, IsCounted}
 use Rattle.xa_room.specs.Promises.{Promises}

@@ -7,7 +7,7 @@ use Rattle.xa_manager.specs.Promises.{IsOpening, IsReached, ListsPrepared, Lists
 use Rattle.xa_model.specs.OneCopy.{HasOneCopy}
 use Rattle.xa_model.specs.State.{State}
 use Rattle.xa_room.specs.declared.auditing.AuditFault.{AuditFault}
-use Rattle.xa_room.specs.declared.book.Entry.{Entry}
+use Rattle.xa_room.specs.declared.entry.Entry.{Entry}
 use Rattle.xa_room.specs.declared.manages.Manages.{Ghosts}
 use Rattle.xa_room.specs.Audit.{Audits}
 use Rattle.xa_room.specs.Book.{HasNoBoot, plain_entries}

@@ -16,7 +16,7 @@ use Rattle.xa_room.specs.Share.{Held, Records}
 use Rattle.xa_room.specs.Status.{IsTold}
 use Rattle.xa_room.specs.declared.manages.Manages.{Ghosts}
 use Rattle.xa_room.specs.Book.{placed}
-use Rattle.xa_room.specs.declared.book.Receipt.{Receipt}
+use Rattle.xa_room.specs.declared.receipt.Receipt.{Receipt}
 use Rattle.xa_workers.specs.declared.report.Report.{Report}
 
 -- how many events it tells of: their receipts, and those that found no memory

@@ -20,7 +20,7 @@ use Rattle.xa_model.specs.declared.outcome.Outcome.{Outcome}
 use Rattle.xa_model.specs.declared.outcome.Outcome.TheVariants.{Appended, Joined}
 use Rattle.xa_model.specs.State.{State, Up, count, known_of, decided_of}
 use Rattle.xa_model.specs.Answer.{Answer, plain, detailed, answer, ok}
-use Rattle.xa_model.specs.Branches.{rolled_back}
+use Rattle.xa_model.specs.Phases.{rolled_back}
 use Rattle.xa_model.specs.Turn.{Asked, Now, Appends}
 use Rattle.xa_model.specs.Durable.{durable}
 use Rattle.xa_model.specs.Events.{IsEvent}

@@ -4,7 +4,7 @@ use Rattle.xa_codes.specs.declared.direction.Direction.TheVariants as direction
 use Rattle.xa_xid.specs.Triple.{Triple}
 use Rattle.xa_model.specs.State.{State}
 use Rattle.xa_model.specs.Associations.{begun, ended}
-use Rattle.xa_model.specs.Branches.{rolled_back, committed, prepared, decided_by}
+use Rattle.xa_model.specs.Phases.{rolled_back, committed, prepared, decided_by}
 use Rattle.xa_model.specs.History.{fresh}
 use Rattle.xa_model.specs.Invariants.LowWater.{low_water}
 use Rattle.xa_model.specs.Worked.{xarm, xid}

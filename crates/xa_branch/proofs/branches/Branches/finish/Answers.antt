@@ -1,5 +1,5 @@
 use Rattle.std.proofs.Common.{◌≡◌, Some, None, refl, sym, rules}
-use Rattle.xa_model.specs.Branches.{rolled_back, committed}
+use Rattle.xa_model.specs.Phases.{rolled_back, committed}
 use Rattle.xa_branch.specs.declared.lasting.Lasting.TheVariants as lasts
 use Rattle.xa_branch.specs.Branches.{working_at, lasting_at}
 use Rattle.xa_branch.proofs.Finishing.{rolled_finishes, committed_finishes, finished_stands, unknown_stands, settled_stands, stayed_stands}

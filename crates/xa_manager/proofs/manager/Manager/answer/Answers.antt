@@ -2,9 +2,9 @@ use Rattle.std.proofs.Common.{◌≡◌, ℕ, List, false, Option, Some, None, r
 use Rattle.std.specs.Prelude.{option_copied}
 use Rattle.xa_xid.specs.Triple.{Triple}
 use Rattle.xa_model.specs.Associations.{open_by, close_by, start_by, end_by}
-use Rattle.xa_model.specs.Branches.{doom_by}
+use Rattle.xa_model.specs.Phases.{doom_by}
 use Rattle.xa_model.specs.Events.{asks_boot}
-use Rattle.xa_model.specs.Records.{get_by, put_by}
+use Rattle.xa_model.specs.Data.{get_by, put_by}
 use Rattle.xa_model.specs.KnownBranches.{branches_by}
 use Rattle.xa_model.specs.Recovering.{recover_by}
 use Rattle.xa_model.specs.State.{own_branch}

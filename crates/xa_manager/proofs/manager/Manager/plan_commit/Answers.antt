@@ -5,7 +5,7 @@ use Rattle.xa_record.specs.Spelling.{spelled}
 use Rattle.xa_record.specs.declared.record.Record.TheVariants as logged
 use Rattle.xa_record.proofs.Sizes.{completed}
 use Rattle.xa_model.specs.State.{InDoubt, known_as}
-use Rattle.xa_model.specs.Branches.{two_phase_refusal, heuristic_refusal}
+use Rattle.xa_model.specs.Phases.{two_phase_refusal, heuristic_refusal}
 use Rattle.xa_model.specs.Logging.{logs}
 use Rattle.xa_model.specs.Turn.{unless_now}
 use Rattle.xa_manager.specs.declared.row.Row.TheVariants.{CommitTwoPhase}

@@ -8,7 +8,7 @@ use Rattle.xa_record.specs.declared.record.Record.TheVariants as logged
 use Rattle.xa_record.proofs.Sizes.{completed}
 use Rattle.xa_model.specs.State.{InDoubt, known_as}
 use Rattle.xa_model.specs.Answer.{plain}
-use Rattle.xa_model.specs.Branches.{rollback_refusal, heuristic_refusal, is_associated}
+use Rattle.xa_model.specs.Phases.{rollback_refusal, heuristic_refusal, is_associated}
 use Rattle.xa_model.specs.Completions.{roll_back_turn}
 use Rattle.xa_model.specs.Turn.{unless_now}
 use Rattle.xa_manager.specs.declared.row.Row.TheVariants as row

@@ -1,7 +1,7 @@
 use Rattle.std.proofs.Common.{refl, subst}
 use Rattle.xa_limits.specs.declared.TheConstants.{MOST_VALUE}
 use Rattle.mv_chain.specs.declared.fate.Fate.{Fate}
-use Rattle.xa_model.specs.Branches.{rolled_back, committed}
+use Rattle.xa_model.specs.Phases.{rolled_back, committed}
 use Rattle.xa_assoc.proofs.Follows.{unmoved}
 use Rattle.xa_manager.specs.Stands.{ending}
 use Rattle.xa_manager.proofs.Finishing.{Settles, moved_end, committed_records, gone_records}

@@ -2,7 +2,7 @@ use Rattle.std.proofs.Common.{◌+◌, ap}
 use Rattle.xa_codes.specs.declared.codes.TheConstants.{XA_RETRY, XAER_RMERR}
 use Rattle.xa_codes.specs.declared.direction.Direction.TheVariants as direction
 use Rattle.xa_record.specs.declared.record.Record.TheVariants as logged
-use Rattle.xa_model.specs.Branches.{decided_by}
+use Rattle.xa_model.specs.Phases.{decided_by}
 use Rattle.xa_model.specs.Fold.{size_of}
 use Rattle.xa_manager.specs.View.{view_of}
 use Rattle.xa_manager.proofs.Completing.{takes_small}

@@ -1,5 +1,5 @@
 use Rattle.std.proofs.Common.{[], refl}
-use Rattle.xa_model.specs.Branches.{prepared}
+use Rattle.xa_model.specs.Phases.{prepared}
 use Rattle.xa_assoc.proofs.Follows.{unmoved}
 use Rattle.xa_manager.specs.Stands.{ending}
 use Rattle.xa_manager.proofs.Finishing.{moved_end, moved_rooms}

@@ -4,7 +4,7 @@ use Rattle.xa_frame.specs.declared.request.Request.{Request}
 use Rattle.xa_assoc.specs.Refusals.{is_memory}
 use Rattle.xa_model.specs.declared.event.Event.TheVariants.{Call}
 use Rattle.xa_model.specs.Events.{IsAsked}
-use Rattle.xa_room.specs.declared.book.Receipt.{Receipt}
+use Rattle.xa_room.specs.declared.receipt.Receipt.{Receipt}
 use Rattle.xa_room.specs.Book.{placed}
 use Rattle.xa_room.specs.Upholds.{Adds}
 use Rattle.xa_room.specs.Manages.{Acts}

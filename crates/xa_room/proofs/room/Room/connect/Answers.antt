@@ -2,7 +2,7 @@ use Rattle.std.proofs.Common.{◌≡◌, ◌∙◌, false, refl, sym, ap, subst,
 use Rattle.xa_frame.specs.declared.reply.Reply.{Reply}
 use Rattle.xa_assoc.specs.Refusals.{is_memory}
 use Rattle.xa_model.specs.declared.event.Event.TheVariants.{Connect}
-use Rattle.xa_room.specs.declared.book.Receipt.{Receipt}
+use Rattle.xa_room.specs.declared.receipt.Receipt.{Receipt}
 use Rattle.xa_room.specs.Book.{placed}
 use Rattle.xa_room.specs.Manages.{Acts}
 use Rattle.xa_room.specs.Told.{Told}

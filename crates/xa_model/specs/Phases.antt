@@ -1,4 +1,4 @@
--- The branch table: how branches are completed, and marked.
+-- What becomes of a branch: how it is prepared, completed, marked and forgotten.
 use Rattle.std.specs.Prelude.{ℤ, Bool, not, ◌||◌, Option, Some, None, [], ◌∷◌, nat_lt}
 use Rattle.xa_codes.specs.declared.codes.TheConstants.{XAER_PROTO, XAER_NOTA, XA_HEURCOM, XA_HEURRB, XA_RBOTHER}
 use Rattle.xa_codes.specs.declared.direction.Direction.{Direction}

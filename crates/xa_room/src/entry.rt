@@ -10,11 +10,3 @@ pub struct Entry {
     pub outcome: Outcome,
     pub reply: Reply,
 }
-
-/// What whoever asked is given of an entry.
-#[derive(Debug, Drop)]
-pub struct Receipt {
-    pub place: u64,
-    pub event: Event,
-    pub reply: Reply,
-}

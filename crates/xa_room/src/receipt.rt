@@ -1,0 +1,10 @@
+use xa_frame::Reply;
+use xa_model::Event;
+
+/// What whoever asked is given of an entry.
+#[derive(Debug, Drop)]
+pub struct Receipt {
+    pub place: u64,
+    pub event: Event,
+    pub reply: Reply,
+}
