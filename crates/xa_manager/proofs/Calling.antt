@@ -92,7 +92,7 @@ wants r e true is h = refl
 wants (Ok x) e false is h = absurd (cc is)
 wants (Err x) e false is h = absurd (cc (h refl))
 
-up_by : (up passes : Bool) → passes ≡ false → (up ≡ false → passes ≡ true) → up ≡ true
+pub up_by : (up passes : Bool) → passes ≡ false → (up ≡ false → passes ≡ true) → up ≡ true
 up_by true passes stops h = refl
 up_by false passes stops h = absurd (cc (stops, h refl))
 
@@ -147,7 +147,7 @@ module _ {D : Type 0} (disks : Ghosts D) where
     served = served;
   }
 
-  passed_row : (m : Manager D) (s : State) (n : ℕ) (request : Request) → None ≡ early_refusal (context_at m.up (view m) n) request → ManagerStandsFor disks m s
+  pub passed_row : (m : Manager D) (s : State) (n : ℕ) (request : Request) → None ≡ early_refusal (context_at m.up (view m) n) request → ManagerStandsFor disks m s
       → respond s (Call n request) ≡ row s n request
   passed_row m s n request h st = passed_turn (early_refusal (context_of s n) request) s (row s n request) (h ∙ sym (early_same m s n request st))
 

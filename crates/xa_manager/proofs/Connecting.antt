@@ -12,7 +12,7 @@ use Rattle.xa_assoc.specs.declared.fault.ConnectFault.TheVariants.{Memory, Full}
 use Rattle.xa_assoc.specs.declared.sessions.Sessions.{Sessions}
 use Rattle.xa_branch.proofs.Elsewhere.{stands_elsewhere}
 use Rattle.xa_model.specs.State.{State}
-use Rattle.xa_model.specs.Answer.{Answer, answer, carrying, detailed, unless}
+use Rattle.xa_model.specs.Answer.{Answer, carrying, detailed, unless}
 use Rattle.xa_model.specs.Associations.{connected, connect_refusal, connect_by}
 use Rattle.xa_model.specs.Invariants.Loggable.{IsRecoverable}
 use Rattle.xa_manager.specs.Answered.{connect_reply}

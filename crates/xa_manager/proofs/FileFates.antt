@@ -1,5 +1,5 @@
 -- What the records of two files come to.
-use Rattle.std.proofs.Common.{◌≡◌, ℕ, Ok, List, ap, sym, ◌∙◌}
+use Rattle.std.proofs.Common.{◌≡◌, Ok, List, ap, sym, ◌∙◌}
 use Rattle.std.specs.Prelude.{Contains}
 use Rattle.xa_record.specs.declared.record.Record.{Record}
 use Rattle.xa_model.specs.State.{State}

@@ -18,6 +18,7 @@ use Rattle.xa_branch.specs.Branches.{BranchesStandFor, lasting_known}
 use Rattle.xa_branch.specs.Room.{HaveRooms, kept_twice, lasting_with}
 use Rattle.xa_branch.specs.declared.lasting.Lasting.{Lasting}
 use Rattle.xa_branch.proofs.Elsewhere.{stands_elsewhere}
+use Rattle.xa_branch.proofs.Rooms.{no_rooms_left}
 use Rattle.xa_codes.specs.declared.direction.Direction.{Direction}
 use Rattle.xa_codes.specs.declared.direction.Direction.TheVariants.{Commit, Rollback}
 use Rattle.xa_model.specs.Invariants.Loggable.{IsRecoverable}
@@ -26,7 +27,7 @@ use Rattle.xa_assoc.specs.Sessions.{SessionsStandFor}
 use Rattle.xa_assoc.proofs.Follows.{unmoved}
 use Rattle.xa_manager.specs.View.{View}
 use Rattle.xa_manager.specs.Changes.{fate_of as direction_fate}
-use Rattle.xa_manager.specs.Stands.{StandsFor, ending}
+use Rattle.xa_manager.specs.Stands.{StandsFor, StandsWithRooms, ending}
 use Rattle.xa_manager.proofs.Lows.{rises_with}
 use Rattle.xa_model.specs.State.{State, Branch, Phase, Working, Prepared, Committed, InDoubt, name_of, is_with, known_as, known_among, known_in, is_at_work, decided_of, or_completed, known_of, is_known_as, without, timestamp_of}
 use Rattle.xa_model.specs.Associations.{timestamp_in, timestamp_by}
@@ -113,6 +114,18 @@ moved_rooms xids m s end st = record {
   known = st.known ∙ ap (λ (n : ℕ). known_in s + n) (twice_moved xids s end);
   prepared = st.prepared;
   completed = st.completed;
+}
+
+-- all rooms were taken, or given back
+pub without_rooms : (m : View) (s : State) → StandsWithRooms [] m s → StandsFor m s
+without_rooms m s st = record {
+  name = st.name;
+  log_bytes = st.log_bytes;
+  up = st.up;
+  sessions = st.sessions;
+  branches = no_rooms_left m.branches s st.branches;
+  records = st.records;
+  recoverable = st.recoverable;
 }
 
 -- The operator completes a prepared branch.

@@ -4,6 +4,7 @@ pub mod WhatLasts
 pub mod Histories
 pub mod Changed
 pub mod Finishing
+pub mod Distinct
 pub mod Beginning
 pub mod Rows
 pub mod Lows
@@ -56,6 +57,14 @@ pub mod Rereads
 pub mod Rescanned
 pub mod Results
 pub mod Standing
+pub mod GroupStepping
+pub mod TookAnswers
+pub mod GroupFacts
+pub mod CarriedOut
+pub mod Once
+pub mod AskedTogether
+pub mod Grouping
+pub mod GroupReplies
 pub mod Trims
 pub mod Driving
 pub mod Promised

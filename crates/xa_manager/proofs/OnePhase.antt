@@ -182,12 +182,12 @@ pub record WasTold (m : View) (xid : Triple) (t : ℕ) (ws : List Write) : Type 
   pub writes : (h : Accesses) → RecordsStandFor h m.records → IsUndecided t h.writes → IsWritesOf t h.writes ws
 
 abbrev IsRoom : State → ℕ → ℕ → Bool → Type 0
-IsRoom s n more room = n ≤ MOST_BODY → more ≤ 1 → room ≡ log_room s.log_bytes (s.end + (n + 36)) (prepared_count s + more) (length s.decided)
+IsRoom s n more room = n ≤ MOST_BODY → room ≡ log_room s.log_bytes (s.end + (n + 36)) (prepared_count s + more) (length s.decided)
 
 has_record : (m : View) (s : State) (xid : Triple) (t : ℕ) (ws : List Write) (record_of : Triple → ℕ → List Write → Record) (more n : ℕ) (body : List ℕ) (room : Bool) → StandsFor m s → WasTold m xid t ws
-    → ((t : ℕ) (ws : List Write) → IsBranch xid t ws → length (spelled (record_of xid t ws)) ≤ MOST_BODY) → body ≡ spelled (record_of xid t ws) → n ≡ length body → more ≤ 1 → IsRoom s n more room
+    → ((t : ℕ) (ws : List Write) → IsBranch xid t ws → length (spelled (record_of xid t ws)) ≤ MOST_BODY) → body ≡ spelled (record_of xid t ws) → n ≡ length body → IsRoom s n more room
     → HasRecord s xid (record_of xid (timestamp_in s xid) (writes_in s xid)) more body room
-has_record m s xid t ws record_of more n body room st w short spells size few is_room =
+has_record m s xid t ws record_of more n body room st w short spells size is_room =
     let free = w.free s st in
     let known = worked_known s xid free in
     let time = w.time s st in
@@ -202,21 +202,17 @@ has_record m s xid t ws record_of more n body room st w short spells size few is
       unmarked = w.unmarked s st;
       some = some;
       body_is = e;
-      room_is = room_of s (record_of xid (timestamp_in s xid) (writes_in s xid)) n more room (ap length e ∙ sym size) (is_room long few);
+      room_is = room_of s (record_of xid (timestamp_in s xid) (writes_in s xid)) n more room (ap length e ∙ sym size) (is_room long);
     }
 
 written_short : (w : Writing) (xid : Triple) (t : ℕ) (ws : List Write) → IsBranch xid t ws → length (spelled (written_record w xid t ws)) ≤ MOST_BODY
 written_short Prepare xid t ws h = (any (logged.Prepared xid t ws) h).1
 written_short CommitOnePhase xid t ws h = (any (logged.Committed xid t ws) h).1
 
-few_more : (w : Writing) → more_of w ≤ 1
-few_more Prepare = omega arith
-few_more CommitOnePhase = omega arith
-
 pub has_written : (m : View) (s : State) (w : Writing) (xid : Triple) (t : ℕ) (ws : List Write) (n : ℕ) (body : List ℕ) (room : Bool) → StandsFor m s → WasTold m xid t ws → body ≡ spelled (written_record w xid t ws) → n ≡ length body
     → IsRoom s n (more_of w) room → HasRecord s xid (record_of (Writes w) xid s) (more_of w) body room
 has_written m s w xid t ws n body room st told spells size is_room =
-    has_record m s xid t ws (λ x u us. written_record w x u us) (more_of w) n body room st told (written_short w xid) spells size (few_more w) is_room
+    has_record m s xid t ws (λ x u us. written_record w x u us) (more_of w) n body room st told (written_short w xid) spells size is_room
 
 -- both rows are one
 abbrev pub unwritten : Writing → State → Triple → Answer

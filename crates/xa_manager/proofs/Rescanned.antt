@@ -1,5 +1,5 @@
 -- The log behind a state, once it was read again.
-use Rattle.std.proofs.Common.{◌≡◌, ◌+◌, ℕ, List, [], ◌∷◌, map, length, refl, ap, sym, ◌∙◌, subst, arith, inl, inr}
+use Rattle.std.proofs.Common.{◌≡◌, ◌+◌, ℕ, List, [], ◌∷◌, map, length, refl, ap, sym, ◌∙◌, subst, arith}
 use Rattle.std.proofs.lemmas.List.{length-append}
 use Rattle.xa_disk.specs.declared.disk.Disk.{Ghosts}
 use Rattle.xa_record.specs.Spelling.{spelled}
@@ -14,7 +14,6 @@ use Rattle.xa_model.specs.State.{State}
 use Rattle.xa_model.specs.Fold.{sizes}
 use Rattle.xa_model.specs.Invariants.Backing.{Backs, settled_first}
 use Rattle.xa_model.specs.Invariants.Loggable.{IsRecoverable}
-use Rattle.xa_model.specs.Restarting.{survived}
 use Rattle.xa_model.proofs.AppliedAll.{finds_first}
 use Rattle.xa_model.proofs.Booted.{backs_found}
 use Rattle.xa_manager.specs.LogStands.{HasRecords, IsSettled, LogStandsFor}

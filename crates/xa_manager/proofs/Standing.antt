@@ -18,7 +18,6 @@ use Rattle.xa_model.specs.Invariants.Backing.{Backs}
 use Rattle.xa_model.specs.Restarting.{restarted}
 use Rattle.xa_limits.specs.declared.TheConstants.{MOST_BOOTS}
 use Rattle.xa_model.specs.Invariants.Restored.{IsRestored}
-use Rattle.xa_model.specs.Invariants.Room.{HasRoom}
 use Rattle.xa_model.specs.Fold.{sizes}
 use Rattle.xa_model.specs.Logging.{snapshot_end, prepared_count}
 use Rattle.xa_model.specs.Restarting.{without_scan}

@@ -53,7 +53,7 @@ use Rattle.xa_manager.specs.Turns.{HasDone, HasAppended, TakesNow, TakesAppendin
 
 -- what the tables say of a state, up or down
 
-recoverable_by : (b : Bool) (m : Tables) (s : State) → TablesStandFor b m s → IsRecoverable s
+pub recoverable_by : (b : Bool) (m : Tables) (s : State) → TablesStandFor b m s → IsRecoverable s
 recoverable_by true m s st = st.recoverable
 recoverable_by false m s st = st.recoverable
 
@@ -92,28 +92,29 @@ module _ {D : Type 0} (disks : Ghosts D) where
   pub log_same : (log : Log D) (s t : State) → AreOneGroup s.open_records → KeepsLog s t → ((rs : List Record) → Backs rs s → Backs rs t) → LogStandsFor disks log s → LogStandsFor disks log t
   log_same log s t group k backs l = stands_alike disks log s t group k.lasts k.open_records backs l
 
-  -- the log behind the state, after an append
-  log_after : (log log' : Log D) (s t : State) (r : Record) (a : Appending) → s.open_records ≡ [] → is_boot r ≡ false → HasAppended disks (spelled r ∷ []) a log log' → disks.honest
-      → (a ≡ Lost → t.open_records ≡ r ∷ [])
-      → (a ≡ Kept → (rs : List Record) → Backs rs s → Backs (rs ++ r ∷ []) t) → (a ≡ Refused → (rs : List Record) → Backs rs s → Backs rs t) → (a ≡ Lost → (rs : List Record) → Backs rs s → Backs rs t)
+  -- the log behind the state, after an append of these records
+  pub log_after : (log log' : Log D) (s t : State) (group : List Record) (a : Appending) → s.open_records ≡ [] → AllByRecursion (λ (r : Record). is_boot r ≡ false) group
+      → HasAppended disks (map spelled group) a log log' → disks.honest
+      → (a ≡ Lost → t.open_records ≡ group)
+      → (a ≡ Kept → (rs : List Record) → Backs rs s → Backs (rs ++ group) t) → (a ≡ Refused → (rs : List Record) → Backs rs s → Backs rs t) → (a ≡ Lost → (rs : List Record) → Backs rs s → Backs rs t)
       → LogStandsFor disks log s → LogStandsFor disks log' t
-  log_after log log' s t r Kept none boot h disk lost_ backs bref blost l =
+  log_after log log' s t group Kept none others h disk lost_ backs bref blost l =
       let here : HasRecords disks l.records log = only_records disks log s none l in
-      let there : Pair disks (map spelled l.records ++ spelled r ∷ []) here.0 log' = h.pair disk (map spelled l.records) here.0 here.1 in
-      stands_whole disks log' t (l.records ++ r ∷ []) (backs refl l.records l.backs)
-      (here.0, subst (λ (bs : List (List ℕ)). Pair disks bs here.0 log') (sym (map-append spelled l.records (r ∷ []))) there)
-  log_after log log' s t r Refused none boot h disk lost_ backs bref blost l =
+      let there : Pair disks (map spelled l.records ++ map spelled group) here.0 log' = h.pair disk (map spelled l.records) here.0 here.1 in
+      stands_whole disks log' t (l.records ++ group) (backs refl l.records l.backs)
+      (here.0, subst (λ (bs : List (List ℕ)). Pair disks bs here.0 log') (sym (map-append spelled l.records group)) there)
+  log_after log log' s t group Refused none others h disk lost_ backs bref blost l =
       let here : HasRecords disks l.records log = only_records disks log s none l in
       stands_whole disks log' t l.records (bref refl l.records l.backs) (here.0, h.pair disk (map spelled l.records) here.0 here.1)
-  log_after log log' s t r Lost none boot h disk lost_ backs bref blost l =
+  log_after log log' s t group Lost none others h disk lost_ backs bref blost l =
       let here : HasRecords disks l.records log = only_records disks log s none l in
-      stands_append disks log' t l.records (r ∷ []) here.0 (blost refl l.records l.backs) (lost_ refl) (boot, tt) (h.pair disk (map spelled l.records) here.0 here.1)
+      stands_append disks log' t l.records group here.0 (blost refl l.records l.backs) (lost_ refl) others (h.pair disk (map spelled l.records) here.0 here.1)
 
   bytes_by : (s : State) (direction : Direction) (xid : Triple) → (completed s direction xid).log_bytes ≡ s.log_bytes
   bytes_by s Commit xid = refl
   bytes_by s Rollback xid = refl
 
-  applied_bytes : (s : State) (r : Record) → (applied r s).log_bytes ≡ s.log_bytes
+  pub applied_bytes : (s : State) (r : Record) → (applied r s).log_bytes ≡ s.log_bytes
   applied_bytes s (logged.Opened boot) = refl
   applied_bytes s (logged.Prepared xid ts ws) = refl
   applied_bytes s (logged.Committed xid ts ws) = refl
@@ -128,7 +129,7 @@ module _ {D : Type 0} (disks : Ghosts D) where
   completed_end s Commit xid = refl
   completed_end s Rollback xid = refl
 
-  applied_end : (s : State) (r : Record) → MayLog s r → is_boot r ≡ false → (applied r s).end ≡ s.end + (36 + length (spelled r))
+  pub applied_end : (s : State) (r : Record) → MayLog s r → is_boot r ≡ false → (applied r s).end ≡ s.end + (36 + length (spelled r))
   applied_end s (logged.Opened boot) may e = absurd (cc e)
   applied_end s (logged.Prepared xid ts ws) may e = omega arith
   applied_end s (logged.Committed xid ts ws) may e = omega arith
@@ -189,39 +190,40 @@ module _ {D : Type 0} (disks : Ghosts D) where
 
   -- the manager after an append
 
-  end_after : (log log' : Log D) (s t : State) (r : Record) (a : Appending) → log.end ≡ s.end → HasAppended disks (spelled r ∷ []) a log log'
-      → (a ≡ Kept → t.end ≡ s.end + (36 + length (spelled r))) → (a ≡ Refused → t.end ≡ s.end) → up_after a ≡ true → log'.end ≡ t.end
-  end_after log log' s t r Kept same h ok_ refused_ up = h.moves.0 ∙ ap (λ (n : ℕ). n + (36 + as_one (spelled r ∷ []))) same ∙ ap (λ (n : ℕ). s.end + (36 + n)) (alone (spelled r)) ∙ sym (ok_ refl)
-  end_after log log' s t r Refused same h ok_ refused_ up = h.moves.0 ∙ same ∙ sym (refused_ refl)
-  end_after log log' s t r Lost same h ok_ refused_ up = absurd (cc up)
+  pub end_after : (log log' : Log D) (s t : State) (group : List Record) (a : Appending) → log.end ≡ s.end → HasAppended disks (map spelled group) a log log'
+      → (a ≡ Kept → t.end ≡ s.end + (36 + as_one (map spelled group))) → (a ≡ Refused → t.end ≡ s.end) → up_after a ≡ true → log'.end ≡ t.end
+  end_after log log' s t group Kept same h ok_ refused_ up = h.moves.0 ∙ ap (λ (n : ℕ). n + (36 + as_one (map spelled group))) same ∙ sym (ok_ refl)
+  end_after log log' s t group Refused same h ok_ refused_ up = h.moves.0 ∙ same ∙ sym (refused_ refl)
+  end_after log log' s t group Lost same h ok_ refused_ up = absurd (cc up)
 
-  alive_after : (log log' : Log D) (r : Record) (a : Appending) → log.lost ≡ false → HasAppended disks (spelled r ∷ []) a log log' → up_after a ≡ true → log'.lost ≡ false
-  alive_after log log' r Kept same h up = h.moves.2 ∙ same
-  alive_after log log' r Refused same h up = h.moves.3 ∙ same
-  alive_after log log' r Lost same h up = absurd (cc up)
+  pub alive_after : (log log' : Log D) (group : List (List ℕ)) (a : Appending) → log.lost ≡ false → HasAppended disks group a log log' → up_after a ≡ true → log'.lost ≡ false
+  alive_after log log' group Kept same h up = h.moves.2 ∙ same
+  alive_after log log' group Refused same h up = h.moves.3 ∙ same
+  alive_after log log' group Lost same h up = absurd (cc up)
 
-  format_after : (log log' : Log D) (r : Record) (a : Appending) → HasAppended disks (spelled r ∷ []) a log log' → log'.format ≡ log.format
-  format_after log log' r Kept h = h.moves.1
-  format_after log log' r Refused h = h.moves.1
-  format_after log log' r Lost h = h.moves.1
+  pub format_after : (log log' : Log D) (group : List (List ℕ)) (a : Appending) → HasAppended disks group a log log' → log'.format ≡ log.format
+  format_after log log' group Kept h = h.moves.1
+  format_after log log' group Refused h = h.moves.1
+  format_after log log' group Lost h = h.moves.1
 
-  doubt_stands : (s t : State) (r : Record) (a : Appending) (end : ℕ) → is_boot r ≡ false → end ≡ s.end → (a ≡ Kept → t.open_records ≡ []) → (a ≡ Refused → t.open_records ≡ []) → (a ≡ Lost → t.open_records ≡ r ∷ [])
+  pub doubt_stands : (s t : State) (group : List Record) (a : Appending) (end : ℕ) → 1 ≤ length group → AllByRecursion (λ (q : Record). is_boot q ≡ false) group → end ≡ s.end
+      → (a ≡ Kept → t.open_records ≡ []) → (a ≡ Refused → t.open_records ≡ []) → (a ≡ Lost → t.open_records ≡ group)
       → (a ≡ Lost → t.end ≡ s.end) → Doubts (doubt_after a end) t
-  doubt_stands s t r Kept end boot same ok_ refused_ lost_ ends = ok_ refl
-  doubt_stands s t r Refused end boot same ok_ refused_ lost_ ends = refused_ refl
-  doubt_stands s t r Lost end boot same ok_ refused_ lost_ ends =
+  doubt_stands s t group Kept end some others same ok_ refused_ lost_ ends = ok_ refl
+  doubt_stands s t group Refused end some others same ok_ refused_ lost_ ends = refused_ refl
+  doubt_stands s t group Lost end some others same ok_ refused_ lost_ ends =
       subst (λ (rs : List Record). (1 ≤ length rs) × AllByRecursion (λ (q : Record). is_boot q ≡ false) rs × (end ≡ t.end)) (sym (lost_ refl))
-      (omega arith, (boot, tt), same ∙ sym (ends refl))
+      (some, others, same ∙ sym (ends refl))
 
   bytes_after : (s : State) (r : Record) (after : Appending → Answer) (a : Appending) → (after Kept ≡ ok (applied r s)) → ((after Refused).after.log_bytes ≡ s.log_bytes) → (after Lost ≡ lost s r) → (after a).after.log_bytes ≡ s.log_bytes
   bytes_after s r after Kept k f l = ap (λ (x : Answer). x.after.log_bytes) k ∙ applied_bytes s r
   bytes_after s r after Refused k f l = f
   bytes_after s r after Lost k f l = ap (λ (x : Answer). x.after.log_bytes) l
 
-  settled_up : (m' : Tables) (s : State) → StandsFor m' s → s.open_records ≡ []
+  pub settled_up : (m' : Tables) (s : State) → StandsFor m' s → s.open_records ≡ []
   settled_up m' s st = st.recoverable.settled st.up
 
-  tables_at : (m' : Tables) (s : State) (a : Appending) → TablesStandFor (up_after a) m' s → (a ≡ Kept → s.open_records ≡ []) × (a ≡ Refused → s.open_records ≡ [])
+  pub tables_at : (m' : Tables) (s : State) (a : Appending) → TablesStandFor (up_after a) m' s → (a ≡ Kept → s.open_records ≡ []) × (a ≡ Refused → s.open_records ≡ [])
   tables_at m' s Kept st = (λ e. settled_up m' s st, λ e. settled_up m' s st)
   tables_at m' s Refused st = (λ e. settled_up m' s st, λ e. settled_up m' s st)
   tables_at m' s Lost st = (λ e. absurd (cc e), λ e. absurd (cc e))
@@ -254,16 +256,17 @@ module _ {D : Type 0} (disks : Ghosts D) where
         stands = record {
           tables = tables;
           roomy = keeps_room s e outcome (after a) event before st.roomy (restarts_none e other) steps;
-          end = λ up. end_after m.log m'.log s next r a (st.end is_up) x.log (λ q. ap (λ (u : State). u.end) (kept_ q) ∙ applied_end s r logs.0 last.1)
+          end = λ up. end_after m.log m'.log s next (r ∷ []) a (st.end is_up) x.log
+              (λ q. ap (λ (u : State). u.end) (kept_ q) ∙ applied_end s r logs.0 last.1 ∙ ap (λ (n : ℕ). s.end + (36 + n)) (sym (alone (spelled r))))
               (λ q. of_answer after (λ y. y.after.end ≡ s.end) a Refused q logs.2.end) (sym x.up ∙ up);
-          alive = λ up. alive_after m.log m'.log r a (st.alive is_up) x.log (sym x.up ∙ up);
-          modern = λ up. format_after m.log m'.log r a x.log ∙ st.modern is_up;
+          alive = λ up. alive_after m.log m'.log (spelled r ∷ []) a (st.alive is_up) x.log (sym x.up ∙ up);
+          modern = λ up. format_after m.log m'.log (spelled r ∷ []) a x.log ∙ st.modern is_up;
           log_bytes = x.log.log_bytes ∙ st.log_bytes ∙ sym (bytes_after s r after a logs.1 asks.1 logs.3);
           doubt = rw x.doubt
-              (doubt_stands s next r a m.log.end last.1 (st.end is_up) opens.0 opens.1 (λ q. ap (λ (u : State). u.open_records) (lost_ q)) (λ q. ap (λ (u : State). u.end) (lost_ q)));
+              (doubt_stands s next (r ∷ []) a m.log.end (omega arith) (last.1, tt) (st.end is_up) opens.0 opens.1 (λ q. ap (λ (u : State). u.open_records) (lost_ q)) (λ q. ap (λ (u : State). u.end) (lost_ q)));
           log = λ trusts.
               let backed = λ (rs : List Record) (b : Backs rs s). subst (BacksTurn rs s) t (keeps_backed rs s (Asked e) event before b) in
-              log_after m.log m'.log s next r a none last.1 x.log trusts.disk (λ q. ap (λ (u : State). u.open_records) (lost_ q))
+              log_after m.log m'.log s next (r ∷ []) a none (last.1, tt) x.log trusts.disk (λ q. ap (λ (u : State). u.open_records) (lost_ q))
               (λ q rs b. of_answer after (λ y. Backs (rs ++ r ∷ []) y.after) a Kept q (backed rs b).0) (λ q rs b. of_answer after (λ y. Backs rs y.after) a Refused q (backed rs b).1)
               (λ q rs b. of_answer after (λ y. Backs rs y.after) a Lost q (backed rs b).2) (st.log trusts);
         };

@@ -97,3 +97,22 @@ abbrev pub GivesFirstRoomBack : Tables → Triple → Tables → Type 0
 GivesFirstRoomBack t xid t' =
     (xids : List Triple) (s : State) → IsApart xid xids → StandsWithRooms (xid ∷ xids) (view_of t) s
     → StandsWithRooms xids (view_of t') s
+
+-- branches of distinct XIDs
+abbrev pub AreDistinct : List Triple → Type 0
+AreDistinct [] = Unit {0}
+AreDistinct (xid ∷ xids) = IsApart xid xids × AreDistinct xids
+
+-- all of them get their rooms
+abbrev pub MakeRooms : Tables → List Triple → Tables → Type 0
+MakeRooms t xids t' =
+    (s : State) → AreDistinct xids → StandsFor (view_of t) s → StandsWithRooms xids (view_of t') s
+
+-- all of them give their rooms back
+abbrev pub GiveRoomsBack : Tables → List Triple → Tables → Type 0
+GiveRoomsBack t xids t' =
+    (s : State) → AreDistinct xids → StandsWithRooms xids (view_of t) s → StandsFor (view_of t') s
+
+-- whichever of them have their rooms, the tables stand for what they stood for
+abbrev pub StaysIfDistinct : Tables → List Triple → Tables → Type 0
+StaysIfDistinct t xids t' = (s : State) → AreDistinct xids → StandsFor (view_of t) s → StandsFor (view_of t') s

@@ -25,3 +25,6 @@ pub mod CrashOpening
 pub mod Promises
 pub mod Rows
 pub mod Plans
+pub mod Together
+pub mod GroupAnswers
+pub mod Once

@@ -1,10 +1,12 @@
 -- The rows that log: the turn of each, the record that it appends, and what becomes of the append.
-use Rattle.std.specs.Prelude.{ℕ, ℤ, Bool, true, false, List, if◌then◌else◌}
+use Rattle.std.specs.Prelude.{ℕ, ℤ, Bool, true, false, Option, Some, None, List, if◌then◌else◌}
 use Rattle.xa_codes.specs.Flags.{has}
 use Rattle.xa_codes.specs.declared.codes.TheConstants.{XA_OK, XA_RDONLY, XA_RETRY, XAER_RMERR}
 use Rattle.xa_codes.specs.declared.direction.Direction.TheVariants as direction
 use Rattle.xa_codes.specs.declared.flags.TheConstants.{TMONEPHASE}
 use Rattle.xa_codes.specs.declared.write.Write.{Write}
+use Rattle.xa_frame.specs.declared.request.Request.{Request}
+use Rattle.xa_frame.specs.declared.request.Request.TheVariants as request
 use Rattle.xa_xid.specs.Triple.{Triple}
 use Rattle.xa_record.specs.declared.record.Record.{Record}
 use Rattle.xa_record.specs.declared.record.Record.TheVariants as logged
@@ -24,6 +26,15 @@ use Rattle.xa_manager.specs.declared.row.Writing.TheVariants.{Prepare, CommitOne
 
 abbrev pub commit_row : ℕ → Row
 commit_row flags = if has flags TMONEPHASE then Writes CommitOnePhase else CommitTwoPhase
+
+-- the row of a request that logs, with its XID
+abbrev pub asked_row : Request → Option (Row × Triple)
+asked_row (request.Prepare flags xid) = Some (Writes Prepare, xid)
+asked_row (request.Commit flags xid) = Some (commit_row flags, xid)
+asked_row (request.Rollback flags xid) = Some (Rollback, xid)
+asked_row (request.Forget flags xid) = Some (Forget, xid)
+asked_row (request.Decide direction xid) = Some (Decide direction, xid)
+asked_row _ = None
 
 -- the turn of the model's row
 abbrev pub row_turn : Row → Triple → State → Turn

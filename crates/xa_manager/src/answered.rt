@@ -5,6 +5,7 @@ ghost use Rattle.xa_manager.specs.Tables.{TablesStay};
 ghost use Rattle.xa_manager.specs.Acts.{BranchBecomes, Decides, Forgets, GivesFirstRoomBack, GivesRoomBack, KeepsRooms, MakesRoom, MakesRoomAfter};
 ghost use Rattle.xa_manager.specs.Acts.{TakesFirstPrepared, TakesPrepared};
 ghost use Rattle.xa_manager.specs.Plans.{LeavesReady, MakesReady, TakesAnswer};
+ghost use Rattle.xa_manager.specs.GroupAnswers.{TakesFirst};
 
 use crate::acts::fate_of;
 use crate::row::{Row, Writing};
@@ -43,6 +44,7 @@ impl Tables {
     /// What the device's answer to the row's record makes of the branch.
     pub fn take_answer(&mut self, row: Row, xid: &Xid, answer: Appending)
         ensures takes { TakesAnswer self.old row xid.now answer self.new }
+        ensures first { TakesFirst self.old row xid.now answer self.new }
         ensures company { company_of self.new.sessions ≡ company_of self.old.sessions }
     {
         match row {
@@ -56,6 +58,7 @@ impl Tables {
 
     fn take_written(&mut self, writing: Writing, xid: &Xid, answer: Appending)
         ensures takes { TakesAnswer self.old (Row.Writes writing) xid.now answer self.new }
+        ensures first { TakesFirst self.old (Row.Writes writing) xid.now answer self.new }
         ensures company { company_of self.new.sessions ≡ company_of self.old.sessions }
     {
         match writing {

@@ -20,7 +20,7 @@ use xa_frame::{Reply, Request};
 /// The way of a request.
 impl<D: Disk> Manager<D> {
     /// How a request of a session is refused before its row is looked at.
-    fn refusal(&self, session: u64, request: &Request) -> Option<Reply>
+    pub(crate) fn refusal(&self, session: u64, request: &Request) -> Option<Reply>
         ensures value { result
             ≡ early_refusal (context_at self.now.up (view_of self.now.tables) session) request.now }
         ensures served { IfSome result (λ r. is_memory r.detail ≡ false) }

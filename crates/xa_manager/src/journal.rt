@@ -24,7 +24,6 @@ impl<D: Disk> Manager<D> {
     /// that of a manager that is up always is.
     pub(crate) fn has_room(&self, len: usize, more: u64) -> bool
         ensures room { (s : State) → ManagerStandsFor D.Disk self.now s → self.now.up ≡ true → len ≤ MOST_BODY
-            → more ≤ 1
             → result ≡ log_room s.log_bytes (s.end + (len + AROUND_BODY)) (prepared_count s + more) (length s.decided) }
         ensures fits { result ≡ true → len ≤ MOST_BODY }
         ensures modern { result ≡ true → self.now.log.format ≡ newest }

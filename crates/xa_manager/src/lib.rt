@@ -11,6 +11,8 @@
 //! - rows that log: `row`, `Row`; `plan`, `Plan`, what one comes to before its append; `logging`, its way, `journal`, how
 //!   its record comes into the log, and `answered`, what the tables make of the device's answer; `log_space`, the room that the
 //!   log keeps free; `doubt`: `Doubt`, what is kept of a record that was lost; `done`, what a call comes to
+//! - calls that are asked together, and share one append: `together`, `Asked`, and how a group is answered; `gathering`,
+//!   which calls form one; `prepares`, the rooms of its prepares; `answers`, what becomes of its branches
 //! - a boot: `settings`, `Settings`; `opening`, `restarting` or `trimming`, how it begins; `boots`, what is made
 //!   ready for it, and `rebuilding` its tables; `first_records`, how an opening logs it; `fault`: `ManagerFault`, why
 //!   there is no manager, and `refused`: `RefusedOpening`, with the disks
@@ -22,6 +24,7 @@
 
 mod acts;
 mod answered;
+mod answers;
 mod boots;
 mod calls;
 mod checkpointed;
@@ -34,6 +37,7 @@ mod early;
 mod facts;
 mod fault;
 mod first_records;
+mod gathering;
 mod journal;
 mod known_list;
 mod laws;
@@ -44,6 +48,7 @@ mod opening;
 mod operator;
 mod plan;
 mod planning;
+mod prepares;
 mod rebuilding;
 mod recovery;
 mod refusals;
@@ -55,6 +60,7 @@ mod settings;
 mod status;
 mod tables;
 mod time_limits;
+mod together;
 mod trimming;
 mod work;
 
@@ -68,3 +74,4 @@ pub use manager::Manager;
 pub use refused::RefusedOpening;
 pub use replies::{connect_reply, memory_reply};
 pub use settings::Settings;
+pub use together::Asked;

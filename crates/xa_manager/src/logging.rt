@@ -48,7 +48,7 @@ impl<D: Disk> Manager<D> {
     }
 
     /// What it comes to before the append. Nothing has changed yet.
-    fn plan(&self, row: Row, xid: &Xid) -> Result<Plan, AllocError>
+    pub(crate) fn plan(&self, row: Row, xid: &Xid) -> Result<Plan, AllocError>
         requires name { IsWithinLimits xid.now }
         ensures ok { IfOk result (IsPlan D.Disk self.now row xid.now) }
         ensures memory { takes_memory row ≡ false → IsOk result }

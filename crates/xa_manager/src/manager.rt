@@ -159,7 +159,7 @@ impl<D: Disk> Manager<D> {
 
     /// Gives the records the low water, once a request is answered: the tables' change, said of a manager that is up or
     /// down. Connects and hang-ups leave the low water as it is.
-    fn give_low_water(&mut self)
+    pub(crate) fn give_low_water(&mut self)
         ensures stays { StaysFor D.Disk self.old self.new }
         ensures log { self.new.log ≡ self.old.log }
         ensures outcome { self.new.outcome ≡ self.old.outcome }

@@ -1,5 +1,5 @@
 //! What a row that logs comes to before its append.
-ghost use Rattle.std.specs.Prelude.{◌≡◌, length};
+ghost use Rattle.std.specs.Prelude.{◌≡◌, length, IfOk};
 ghost use Rattle.xa_record.specs.Small.{IsSmall};
 ghost use Rattle.xa_record.specs.Spelling.{spelled};
 ghost use Rattle.xa_manager.specs.Plans.{bytes_of};
@@ -7,6 +7,7 @@ ghost use Rattle.xa_manager.specs.Plans.{bytes_of};
 use crate::row::{Row, Writing};
 use arrayvec::ArrayVec;
 use mv_chain::Fate;
+use std::alloc::{AllocError, Global};
 use xa_frame::Reply;
 use xa_limits::MOST_SMALL;
 use xa_record::{Record, write_small};
@@ -83,6 +84,16 @@ impl Body {
         match self {
             Body::Small(body) => body.as_slice(),
             Body::Long(body) => body.as_slice(),
+        }
+    }
+
+    /// The bytes in a list: of a record without writes, a copy.
+    pub fn into_vec(self, alloc: Global) -> Result<Vec<u8>, AllocError>
+        ensures { IfOk result (λ bytes. bytes.items ≡ bytes_of self) }
+    {
+        match self {
+            Body::Small(body) => body.as_slice().to_vec(alloc),
+            Body::Long(body) => Ok(body),
         }
     }
 }

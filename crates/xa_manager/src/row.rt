@@ -1,8 +1,9 @@
 //! The rows that log: what each appends, and what it answers.
-ghost use Rattle.std.specs.Prelude.{◌≡◌};
-ghost use Rattle.xa_manager.specs.Rows.{commit_row, more_of, refused_code, unwritten_code, written_record};
+ghost use Rattle.std.specs.Prelude.{◌≡◌, option_map};
+ghost use Rattle.xa_manager.specs.Rows.{asked_row, commit_row, more_of, refused_code, unwritten_code, written_record};
 
 use xa_codes::{Code, Direction, TMONEPHASE, XA_OK, XA_RDONLY, XA_RETRY, XAER_RMERR};
+use xa_frame::Request;
 use xa_record::{Record, Writes};
 use xa_xid::Xid;
 
@@ -25,6 +26,33 @@ pub enum Writing {
 }
 
 impl Row {
+    /// That of a request, with its XID, if its row logs.
+    pub fn of(request: &Request) -> Option<(Row, &Xid)>
+        ensures { option_map (λ x. (x.0, x.1.now)) result ≡ asked_row request.now }
+    {
+        match request {
+            Request::Prepare { xid, .. } => Some((Row::Writes(Writing::Prepare), xid)),
+            Request::Commit { flags, xid } => Some((Row::of_commit(*flags), xid)),
+            Request::Rollback { xid, .. } => Some((Row::Rollback, xid)),
+            Request::Forget { xid, .. } => Some((Row::Forget, xid)),
+            Request::Decide { direction, xid } => Some((Row::Decide(*direction), xid)),
+            Request::Open { .. }
+            | Request::Close { .. }
+            | Request::Start { .. }
+            | Request::End { .. }
+            | Request::Recover { .. }
+            | Request::Get { .. }
+            | Request::Put { .. }
+            | Request::Delete { .. }
+            | Request::Doom { .. }
+            | Request::Restart
+            | Request::Timeout { .. }
+            | Request::Tick { .. }
+            | Request::Trim
+            | Request::Branches { .. } => None,
+        }
+    }
+
     /// That of a commit with these flags.
     pub fn of_commit(flags: u32) -> Row
         ensures { result ≡ commit_row flags }

@@ -73,7 +73,7 @@ returns-then-not-has_room g c =
     settled_at_once _ m (Writes w) xid (detailed XA_RBOTHER detail.LogFull) RolledBack refl (refl, refl)
     (λ s whole is_up st.
     let r = record_of (Writes w) xid s in
-    let h = has_written (view m) s w xid t ws c.len.result c.in_ok-body.body.items c.has_room.result st told spells long (λ short few. rw (← c.more.ensures) (c.has_room.ensures.room s whole is_up short (rw c.more.ensures few))) in
+    let h = has_written (view m) s w xid t ws c.len.result c.in_ok-body.body.items c.has_room.result st told spells long (λ short. rw (← c.more.ensures) (c.has_room.ensures.room s whole is_up short)) in
     record {
       turn_is = of_row w s xid _ (turn_full s xid (unwritten w s xid) (has_room s r (more_of w)) (logs s r XAER_RMERR (written_left w xid s)) h.free h.unmarked h.some (h.room_is ∙ full));
       may = worked_known s xid h.free;
@@ -106,7 +106,7 @@ returns g c =
     (λ s whole is_up.
     let st = tables_up _ m s is_up whole in
     let r = record_of (Writes w) xid s in
-    let h = has_written (view m) s w xid t ws c.len.result c.in_ok-body.body.items c.has_room.result st told spells long (λ short few. rw (← c.more.ensures) (c.has_room.ensures.room s whole is_up short (rw c.more.ensures few))) in
+    let h = has_written (view m) s w xid t ws c.len.result c.in_ok-body.body.items c.has_room.result st told spells long (λ short. rw (← c.more.ensures) (c.has_room.ensures.room s whole is_up short)) in
     let there : HasRecord s xid r (more_of w) c.in_ok-body.body.items true =
     record { free = h.free; unmarked = h.unmarked; some = h.some; body_is = h.body_is; room_is = h.room_is ∙ fits } in
     written_appends w s xid c.in_ok-body.body.items there)
