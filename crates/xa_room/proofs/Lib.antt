@@ -1,3 +1,4 @@
 pub mod Judging
 pub mod Longer
 pub mod Managing
+pub mod Together

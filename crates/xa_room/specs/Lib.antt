@@ -1,4 +1,5 @@
 pub mod Manages
+pub mod Together
 pub mod Book
 pub mod Told
 pub mod Upholds

@@ -1,8 +1,9 @@
 use crate::manages::Manages;
+use std::alloc::AllocError;
 use xa_assoc::ConnectFault;
 use xa_disk::Disk;
 use xa_frame::{Reply, Request, Status};
-use xa_manager::Manager;
+use xa_manager::{Asked, Manager};
 use xa_model::Outcome;
 
 /// The manager over a log on two disks. Its counts of failures are those of the two.
@@ -15,6 +16,7 @@ impl<D: Disk> Manages for Manager<D> {
     ghost use Rattle.xa_manager.specs.LogStands.{Trusts};
     ghost use Rattle.xa_manager.specs.Managed.{ManagerStandsFor};
     ghost use Rattle.xa_manager.specs.Status.{versions_of};
+    ghost use Rattle.xa_room.specs.Together.{CrashesTogether};
 
     ghost stands = { ManagerStandsFor D.Disk };
 
@@ -25,6 +27,8 @@ impl<D: Disk> Manages for Manager<D> {
     ghost has_called = { λ event outcome old new. HasCalledFor D.Disk (is_trim event) outcome old.log new.log };
 
     ghost crashes = { λ event outcome old new. CrashesAs D.Disk old event outcome new };
+
+    ghost crashes_together = { λ events old new. CrashesTogether D.Disk events old new };
 
     ghost failures = { λ m. counted_by D.failures m.log };
 
@@ -41,6 +45,10 @@ impl<D: Disk> Manages for Manager<D> {
 
     fn call(&mut self, session: u64, request: Request) -> Reply {
         self.call(session, request)
+    }
+
+    fn call_together(&mut self, calls: &[Asked]) -> Result<Vec<(usize, Reply)>, AllocError> {
+        self.call_together(calls)
     }
 
     #[tactic(auto, using(crate::proofs::Managing::acted))]

@@ -65,7 +65,7 @@ rises_no_more n a b c p q = λ first second.
     (earlier.0, earlier.1, omega (arith, earlier.2, later.2))
 
 -- what wanted memory keeps what a room keeps
-stayed : {M : Type 0} (m : Ghosts M) (start : State → Type 0) (base : ℕ × ℕ) (now then : M) (entries : List Entry) (cap : ℕ)
+pub stayed : {M : Type 0} (m : Ghosts M) (start : State → Type 0) (base : ℕ × ℕ) (now then : M) (entries : List Entry) (cap : ℕ)
     → Upholds m start base now entries cap → Stays m.stands now then
     → ((s : State) → m.stands now s → RiseBy 0 (m.failures now) (m.failures then)) → m.sessions then ≤ m.sessions now
     → Upholds m start base then entries cap

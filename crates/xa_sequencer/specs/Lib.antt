@@ -1,5 +1,6 @@
 pub mod Stands
 pub mod Numbers
+pub mod Together
 pub mod Shared
 pub mod Talks
 pub mod Associates

@@ -1,5 +1,5 @@
 -- What a call says of a sequencer that many threads share.
-use Rattle.std.specs.Prelude.{ℕ, ◌≡◌, ◌+◌, ◌≤◌, Bool, not, MatchBool, Result}
+use Rattle.std.specs.Prelude.{ℕ, ◌≡◌, ◌⊎◌, ◌+◌, ◌≤◌, ◌<◌, Bool, not, List, length, MatchBool, Result, Some, slice_get}
 use Rattle.xa_assoc.specs.Refusals.{is_memory}
 use Rattle.xa_assoc.specs.declared.fault.ConnectFault.{ConnectFault}
 use Rattle.xa_frame.specs.Made.{doing}
@@ -9,11 +9,14 @@ use Rattle.xa_frame.specs.declared.reply.Reply.{Reply}
 use Rattle.xa_frame.specs.declared.request.Request.{Request}
 use Rattle.xa_frame.specs.declared.status.Status.{Status}
 use Rattle.xa_manager.specs.Answered.{connect_reply}
+use Rattle.xa_manager.specs.Together.{asked_at}
+use Rattle.xa_manager.specs.declared.together.Asked.{Asked}
 use Rattle.xa_model.specs.State.{State}
 use Rattle.xa_room.specs.Status.{Tells}
 use Rattle.xa_room.specs.declared.manages.Manages.{Ghosts}
 use Rattle.xa_sequencer.specs.Numbers.{Called, Connected, Left}
 use Rattle.xa_sequencer.specs.Stands.{HasHistory, Numbered}
+use Rattle.xa_sequencer.specs.Together.{CalledTogether}
 
 -- There is a sequencer that stood for a history, of at least so many entries, and that did so next. Which one it was is
 -- not said: a proof over any manager can take none but the one that was asked.
@@ -36,11 +39,36 @@ ConnectedBy m start base old result new =
     Did m start base old.1 (λ a b. Connected m start base a result b)
     × Takes (is_memory (connect_reply result).detail) old new
 
--- a call, by a share
+-- Calls that are asked together, by a share: it counts as many more as were replied.
+abbrev pub CalledTogetherBy : {M : Type 0} → Ghosts M → (State → Type 0) → ℕ × ℕ → ℕ × ℕ → List Asked
+    → List (ℕ × Reply) → ℕ × ℕ → Type 0
+CalledTogetherBy m start base old calls replies new =
+    Did m start base old.1 (λ a b. CalledTogether m start base a calls replies b)
+    × (new.0 ≡ old.0) × (new.1 ≡ old.1 + length replies)
+
+-- There is a sequencer that stood for a history, and that next answered calls together, of which this one had this reply.
+-- Behind them its history has more than so many entries.
+pub record DidAmong {M : Type 0} (m : Ghosts M) (start : State → Type 0) (base : ℕ × ℕ) (least session : ℕ)
+    (request : Request) (reply : Reply) : Type 0 where
+  pub old : Numbered M
+  pub new : Numbered M
+  pub history : HasHistory m start base old
+  pub calls : List Asked
+  pub replies : List (ℕ × Reply)
+  pub did : CalledTogether m start base old calls replies new
+  pub at : ℕ
+  pub call : ℕ
+  pub told : slice_get replies at ≡ Some (call, reply)
+  pub asked : asked_at calls call ≡ record { session = session; request = request }
+  pub behind : least < new.count
+
+-- a call, by a share: it was asked by itself, or was one of a group
 abbrev pub CalledBy : {M : Type 0} → Ghosts M → (State → Type 0) → ℕ × ℕ → ℕ → ℕ × ℕ → Request → Reply → ℕ × ℕ
     → Type 0
 CalledBy m start base session old request reply new =
-    Did m start base old.1 (λ a b. Called m start base session a request reply b) × Takes (is_memory reply.detail) old new
+    (Did m start base old.1 (λ a b. Called m start base session a request reply b)
+    ⊎ DidAmong m start base old.1 session request reply)
+    × Takes (is_memory reply.detail) old new
 
 -- There is a sequencer that stood for a history, and it is told of its manager and its count.
 pub record IsTold {M : Type 0} (m : Ghosts M) (start : State → Type 0) (base : ℕ × ℕ) (status : Status) : Type 0 where
@@ -60,3 +88,15 @@ abbrev pub LeftBy : {M : Type 0} → Ghosts M → (State → Type 0) → ℕ × 
 LeftBy m start base session old was new =
     Did m start base old.1 (λ a b. (was ≡ m.has_session a.now session) × Left m start base session a b)
     × Takes (not was) old new
+
+-- ---- law
+
+-- Each call of a group was called so, by shares that count one after another from the share before it, in any order.
+abbrev pub EachOfGroup : {M : Type 0} → Ghosts M → (State → Type 0) → ℕ × ℕ → Type 0
+EachOfGroup m start base =
+    (calls : List Asked) (replies : List (ℕ × Reply)) (old new : ℕ × ℕ)
+    → CalledTogetherBy m start base old calls replies new
+    → (at : ℕ) (told : ℕ × Reply) → slice_get replies at ≡ Some told
+    → (k : ℕ) → k < length replies
+    → CalledBy m start base (asked_at calls told.0).session (old.0, old.1 + k) (asked_at calls told.0).request told.1
+    (old.0, old.1 + k + 1)

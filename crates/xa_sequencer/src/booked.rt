@@ -1,14 +1,18 @@
-ghost use Rattle.std.specs.Prelude.{◌≡◌, ◌<◌};
+ghost use Rattle.std.specs.Prelude.{◌≡◌, ◌<◌, IfOk, OnErr};
+ghost use Rattle.std.specs.List.{AllByRecursion};
 ghost use Rattle.xa_frame.specs.Limits.{IsReply, IsRequest};
-ghost use Rattle.xa_sequencer.specs.Shared.{CalledBy, ConnectedBy, IsTold, LeftBy};
+ghost use Rattle.xa_manager.specs.Once.{AreOnce};
+ghost use Rattle.xa_room.specs.Together.{IsToldOf};
+ghost use Rattle.xa_sequencer.specs.Shared.{CalledBy, CalledTogetherBy, ConnectedBy, IsTold, LeftBy};
 
 use crate::associates::Associates;
 use crate::sequencer::Sequencer;
+use std::alloc::AllocError;
 use std::marker::Model;
 use std::sync::ledger::{Blank, Book, Ledger, Share};
 use xa_assoc::ConnectFault;
 use xa_frame::{Reply, Request, Status};
-use xa_manager::connect_reply;
+use xa_manager::{Asked, connect_reply};
 use xa_room::{Manages, Start, is_memory};
 
 /// What lies under the lock: a sequencer, and the ledger's book, whose total is the sequencer's count.
@@ -82,6 +86,28 @@ impl<M: Manages, S: Start, L: Ledger> Booked<M, S, L> {
         }
         book.add(share, 1);
         reply
+    }
+
+    pub(crate) fn call_together(
+        &mut self,
+        share: &mut Share<L>,
+        calls: &[Asked],
+    ) -> Result<Vec<(usize, Reply)>, AllocError>
+        requires share { 0 < share.old.parts }
+        requires asked { AllByRecursion (λ c. IsRequest c.request) calls.now }
+        ensures ok { IfOk result (λ replies.
+            CalledTogetherBy M.Manages S.start S.base (share.old.parts, share.old.amount) calls.now replies.items
+            (share.new.parts, share.new.amount)) }
+        ensures told { IfOk result (λ replies. AllByRecursion (IsToldOf calls.now) replies.items) }
+        ensures once { IfOk result (λ replies. AreOnce replies.items) }
+        ensures err { OnErr result ((share.new.parts ≡ share.old.parts) × (share.new.amount ≡ share.old.amount)) }
+    {
+        let Booked { sequencer, book } = self;
+        sequencer.promises();
+        book.audit(share);
+        let replies = sequencer.call_together(calls)?;
+        book.add(share, replies.len() as u64);
+        Ok(replies)
     }
 
     pub(crate) fn hangup(&mut self, share: &mut Share<L>, session: u64) -> bool

@@ -1,14 +1,16 @@
-ghost use Rattle.std.specs.Prelude.{◌≡◌, ◌<◌};
+ghost use Rattle.std.specs.Prelude.{◌≡◌, ◌<◌, IfOk, OnErr};
 
 use crate::associates::Associates;
 use crate::held::Held;
 use crate::shared::SharedSequencer;
+use std::alloc::AllocError;
 use std::fmt;
 use std::sync::Wait;
 use std::sync::ledger::{Ledger, Share};
 use xa_assoc::ConnectFault;
 use xa_desk::Door;
 use xa_frame::{Reply, Request, Status};
+use xa_manager::Asked;
 use xa_room::{Manages, Start};
 
 /// A thread's handle of a sequencer that it shares with others: a door, with a share that counts what is asked at it.
@@ -21,8 +23,11 @@ pub struct Handle<'a, M: Manages, S: Start, L: Ledger, R> {
 }
 
 impl<'a, M: Manages, S: Start, L: Ledger, R: Wait> Handle<'a, M, S, L, R> {
+    ghost use Rattle.std.specs.List.{AllByRecursion};
     ghost use Rattle.xa_frame.specs.Limits.{IsReply, IsRequest};
-    ghost use Rattle.xa_sequencer.specs.Shared.{CalledBy, ConnectedBy, IsTold};
+    ghost use Rattle.xa_manager.specs.Once.{AreOnce};
+    ghost use Rattle.xa_room.specs.Together.{IsToldOf};
+    ghost use Rattle.xa_sequencer.specs.Shared.{CalledBy, CalledTogetherBy, ConnectedBy, IsTold};
 
     pub fn new(
         rt: &'a R,
@@ -67,6 +72,29 @@ impl<'a, M: Manages, S: Start, L: Ledger, R: Wait> Handle<'a, M, S, L, R> {
         ensures limits { IsReply result }
     {
         held.call(&mut self.share, session, request)
+    }
+
+    /// Answers calls of sessions together, by the lock that was taken: those that may share one append. Gives their
+    /// replies in the order in which they were answered, each with the place of its call among those that were asked. Of
+    /// a call that has none nothing has been done: it is to be called by itself afterwards.
+    ///
+    /// # Errors
+    /// Out of memory, or there aren't numbers left for all calls: then no call was answered.
+    pub fn call_together_held(
+        &mut self,
+        held: &mut Held<'_, M, S, L>,
+        calls: &[Asked],
+    ) -> Result<Vec<(usize, Reply)>, AllocError>
+        requires { AllByRecursion (λ c. IsRequest c.request) calls.now }
+        ensures ok { IfOk result (λ replies.
+            CalledTogetherBy M.Manages S.start S.base (self.old.share.parts, self.old.share.amount) calls.now
+            replies.items (self.new.share.parts, self.new.share.amount)) }
+        ensures told { IfOk result (λ replies. AllByRecursion (IsToldOf calls.now) replies.items) }
+        ensures once { IfOk result (λ replies. AreOnce replies.items) }
+        ensures err { OnErr result ((self.new.share.parts ≡ self.old.share.parts)
+            × (self.new.share.amount ≡ self.old.share.amount)) }
+    {
+        held.call_together(&mut self.share, calls)
     }
 
     /// How the manager is doing. The share doesn't count it.

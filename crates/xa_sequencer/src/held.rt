@@ -1,12 +1,17 @@
-ghost use Rattle.std.specs.Prelude.{◌<◌};
+ghost use Rattle.std.specs.Prelude.{◌≡◌, ◌<◌, IfOk, OnErr};
+ghost use Rattle.std.specs.List.{AllByRecursion};
 ghost use Rattle.xa_frame.specs.Limits.{IsReply, IsRequest};
-ghost use Rattle.xa_sequencer.specs.Shared.{CalledBy};
+ghost use Rattle.xa_manager.specs.Once.{AreOnce};
+ghost use Rattle.xa_room.specs.Together.{IsToldOf};
+ghost use Rattle.xa_sequencer.specs.Shared.{CalledBy, CalledTogetherBy};
 
 use crate::booked::Booked;
+use std::alloc::AllocError;
 use std::fmt;
 use std::sync::MutexGuard;
 use std::sync::ledger::{Ledger, Share};
 use xa_frame::{Reply, Request};
+use xa_manager::Asked;
 use xa_room::{Manages, Start};
 
 /// The lock of a sequencer that many threads share, while one of them has it: several calls under one hold of it.
@@ -29,6 +34,24 @@ impl<'a, M: Manages, S: Start, L: Ledger> Held<'a, M, S, L> {
         ensures limits { IsReply result }
     {
         self.booked.call(share, session, request)
+    }
+
+    /// Answers calls of sessions together, as `Sequencer::call_together` does.
+    pub(crate) fn call_together(
+        &mut self,
+        share: &mut Share<L>,
+        calls: &[Asked],
+    ) -> Result<Vec<(usize, Reply)>, AllocError>
+        requires share { 0 < share.old.parts }
+        requires asked { AllByRecursion (λ c. IsRequest c.request) calls.now }
+        ensures ok { IfOk result (λ replies.
+            CalledTogetherBy M.Manages S.start S.base (share.old.parts, share.old.amount) calls.now replies.items
+            (share.new.parts, share.new.amount)) }
+        ensures told { IfOk result (λ replies. AllByRecursion (IsToldOf calls.now) replies.items) }
+        ensures once { IfOk result (λ replies. AreOnce replies.items) }
+        ensures err { OnErr result ((share.new.parts ≡ share.old.parts) × (share.new.amount ≡ share.old.amount)) }
+    {
+        self.booked.call_together(share, calls)
     }
 }
 

@@ -1,3 +1,4 @@
+ghost use Rattle.xa_sequencer.specs.Shared.{EachOfGroup};
 ghost use Rattle.xa_sequencer.specs.Stands.{GoesOnTwice};
 ghost use Rattle.xa_sequencer.specs.Talks.{TalksGoOn};
 
@@ -12,4 +13,9 @@ pub fn goes_on_twice<M: Manages, S: Start>()
 /// call that found its memory, in their order, and nothing else. It does nothing.
 pub fn talks_go_on<M: Manages, S: Start>()
     ensures { TalksGoOn M.Manages S.start S.base }
+{}
+
+/// Each call of a group is told by itself, by shares that count one after another, in whichever order. It does nothing.
+pub fn each_of_group<M: Manages, S: Start>()
+    ensures { EachOfGroup M.Manages S.start S.base }
 {}

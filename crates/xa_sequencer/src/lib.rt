@@ -6,9 +6,9 @@
 //! - `shared`: `SharedSequencer`, a sequencer behind a lock, which many threads share; `booked`: the sequencer and the
 //!   ledger's book under it; `held`: `Held`, its lock while a thread has it; `handle`: `Handle`, a thread's door of it
 //! - `associates`: `Associates`, a manager that tells which sessions have an association, and where its log ends
-//! - `numbers`: whether there are numbers left
+//! - `together`: calls that are asked together, as a group; `numbers`: whether there are numbers left
 //! - `laws`: `goes_on_twice`, that histories go on with the entries of one event and of another; `talks_go_on`, with those
-//!   of a connection's calls
+//!   of a connection's calls; `each_of_group`, that each call of a group is told by itself
 //!
 //! A room of `xa_room` asks the same of a manager, and keeps each entry.
 #![tactic(auto)]
@@ -22,10 +22,11 @@ mod laws;
 mod numbers;
 mod sequencer;
 mod shared;
+mod together;
 
 pub use associates::Associates;
 pub use handle::Handle;
 pub use held::Held;
-pub use laws::{goes_on_twice, talks_go_on};
+pub use laws::{each_of_group, goes_on_twice, talks_go_on};
 pub use sequencer::Sequencer;
 pub use shared::SharedSequencer;

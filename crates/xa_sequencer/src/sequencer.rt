@@ -1,17 +1,23 @@
-ghost use Rattle.std.specs.Prelude.{◌≡◌, ℕ, []};
+ghost use Rattle.std.specs.Prelude.{◌≡◌, ℕ, [], IfOk, OnErr};
+ghost use Rattle.std.specs.List.{AllByRecursion};
 ghost use Rattle.xa_frame.specs.Limits.{IsRequest, IsReply};
+ghost use Rattle.xa_manager.specs.Once.{AreOnce};
 ghost use Rattle.xa_model.specs.State.{State};
 ghost use Rattle.xa_room.specs.Status.{Tells};
+ghost use Rattle.xa_room.specs.Together.{IsToldOf};
 ghost use Rattle.xa_sequencer.specs.Numbers.{Called, Connected, Left};
 ghost use Rattle.xa_sequencer.specs.Stands.{AllPromise, HasHistory, Stands};
+ghost use Rattle.xa_sequencer.specs.Together.{CalledTogether};
 
 use crate::associates::Associates;
 use crate::numbers::are_left;
+use crate::together::{hold_all, number_all};
+use std::alloc::AllocError;
 use std::fmt;
 use std::marker::{Model, PhantomData};
 use xa_assoc::ConnectFault;
 use xa_frame::{Reply, Request, Status};
-use xa_manager::{connect_reply, memory_reply, reached_promises};
+use xa_manager::{Asked, connect_reply, memory_reply, reached_promises};
 use xa_room::{Manages, Start, is_memory, placed};
 
 /// A manager whose events are numbered, from 1 on. To a contract it is the manager as it is now, and the count.
@@ -86,6 +92,30 @@ impl<M: Manages, S: Start> Sequencer<M, S> {
         }
         self.count += 1;
         placed(reply, self.count)
+    }
+
+    /// Answers calls of sessions together, those that may share one append, and gives their replies, with their numbers,
+    /// in the order in which they were answered, each with the place of its call among those that were asked. Of a call
+    /// that has none nothing has been done: it is to be called by itself afterwards.
+    ///
+    /// # Errors
+    /// Out of memory, or there aren't numbers left for all calls: then no call was answered.
+    pub fn call_together(&mut self, calls: &[Asked]) -> Result<Vec<(usize, Reply)>, AllocError>
+        requires { AllByRecursion (λ c. IsRequest c.request) calls.now }
+        ensures ok { IfOk result (λ replies.
+            CalledTogether M.Manages S.start S.base self.old calls.now replies.items self.new) }
+        ensures told { IfOk result (λ replies. AllByRecursion (IsToldOf calls.now) replies.items) }
+        ensures once { IfOk result (λ replies. AreOnce replies.items) }
+        ensures err { OnErr result (CalledTogether M.Manages S.start S.base self.old calls.now [] self.new) }
+    {
+        hold_all(calls);
+        if !are_left(self.count, self.manager.connected(), calls.len() as u64) {
+            return Err(AllocError);
+        }
+        let mut replies = self.manager.call_together(calls)?;
+        number_all(&mut replies, self.count);
+        self.count += replies.len() as u64;
+        Ok(replies)
     }
 
     /// Hangs a session up, and says whether it was connected.

@@ -1,0 +1,168 @@
+-- A manager over a log answers calls together as a room asks.
+use Rattle.std.proofs.Common.{◌≡◌, ◌∙◌, ℕ, Bool, true, false, List, [], ◌∷◌, map, Some, Result, Ok, Err, IfOk, OnErr, refl, sym, ap, subst}
+use Rattle.std.specs.List.{AllByRecursion}
+use Rattle.xa_assoc.specs.Refusals.{is_memory}
+use Rattle.xa_codes.specs.declared.codes.TheConstants.{XAER_RMFAIL}
+use Rattle.xa_codes.specs.declared.detail.Detail.TheVariants as detail
+use Rattle.xa_disk.specs.declared.disk.Disk.{Ghosts}
+use Rattle.xa_frame.specs.Limits.{IsReply}
+use Rattle.xa_frame.specs.declared.reply.Reply.{Reply}
+use Rattle.xa_frame.specs.declared.request.Request.{Request}
+use Rattle.xa_frame.specs.declared.request.Request.TheVariants.{Open, Close, Start, End, Prepare, Commit, Rollback, Forget, Recover, Get, Put, Delete, Decide, Doom, Restart, Timeout, Tick, Trim, Branches}
+use Rattle.xa_log.specs.declared.log.Log.{Log}
+use Rattle.xa_xid.specs.Triple.{Triple}
+use Rattle.xa_model.specs.Answer.{detailed}
+use Rattle.xa_model.specs.Events.{asks_trim, is_trim}
+use Rattle.xa_model.specs.History.{Entry, Leads}
+use Rattle.xa_model.specs.Laws.Together.{entry_of, group_entries, replied, xid_of}
+use Rattle.xa_model.specs.State.{State}
+use Rattle.xa_model.specs.Turn as turn
+use Rattle.xa_model.specs.declared.event.Event.TheVariants.{Call}
+use Rattle.xa_model.specs.declared.outcome.Appending.{Appending}
+use Rattle.xa_model.specs.declared.outcome.Appending.TheVariants.{Kept, Refused, Lost}
+use Rattle.xa_model.specs.declared.outcome.Outcome.{Outcome}
+use Rattle.xa_model.specs.declared.outcome.Outcome.TheVariants.{Appended, Joined}
+use Rattle.xa_manager.specs.Answered.{HasCalledFor, StaysFor}
+use Rattle.xa_manager.specs.Counted.{RiseBy, counted_by}
+use Rattle.xa_manager.specs.Managed.{ManagerStandsFor}
+use Rattle.xa_manager.specs.GroupAnswers as manager
+use Rattle.xa_manager.specs.GroupAnswers.{AreReplies, IsReplyTo}
+use Rattle.xa_manager.specs.Reserving.{HasReserved}
+use Rattle.xa_manager.specs.Together.{Member, TakesTogether, part_of, parts_of}
+use Rattle.xa_manager.specs.declared.manager.Manager.{Manager}
+use Rattle.xa_manager.specs.declared.together.Asked.{Asked}
+use Rattle.xa_manager.proofs.Counting.{called_for, none_by}
+use Rattle.xa_manager.proofs.Reserved.{none_reserved, none_rises}
+use Rattle.xa_room.specs.Together.{ActsTogether, AnswersTogether, AreUnplaced, CrashesTogether, IsToldOf, Rests, event_at, events_of, lost_entries, lost_entry, told_entries, told_entry}
+
+pub if_ok : {A E : Type 0} (r : Result A E) (P Q : A → Type 0) → ((x : A) → P x → Q x) → IfOk r P → IfOk r Q
+if_ok (Ok x) P Q f h = f x h
+if_ok (Err e) P Q f h = h
+
+pub if_err : {A E : Type 0} (r : Result A E) (P Q R : Type 0) → (P → Q → R) → OnErr r P → OnErr r Q → OnErr r R
+if_err (Ok x) P Q R f g h = g
+if_err (Err e) P Q R f g h = f g h
+
+-- no reply of a group tells of a want of memory, and each is short and has no place
+reply_found : (a : Appending) (q : Request) → is_memory (replied a q).detail ≡ false
+reply_found Kept q = refl
+reply_found Refused q = refl
+reply_found Lost q = refl
+
+reply_short : (a : Appending) (q : Request) → IsReply (replied a q)
+reply_short Kept q = tt
+reply_short Refused q = tt
+reply_short Lost q = tt
+
+reply_unplaced : (a : Appending) (q : Request) → (replied a q).place ≡ 0
+reply_unplaced Kept q = refl
+reply_unplaced Refused q = refl
+reply_unplaced Lost q = refl
+
+one_told : (calls : List Asked) (a : Appending) (c : Member) (r : ℕ × Reply) → IsReplyTo calls a c r → IsToldOf calls r
+one_told calls a c r h = record {
+  within = h.within;
+  found = ap (λ (x : Reply). is_memory x.detail) h.reply ∙ reply_found a c.request;
+  limits = subst IsReply (sym h.reply) (reply_short a c.request);
+}
+
+all_told : (calls : List Asked) (a : Appending) (cs : List Member) (rs : List (ℕ × Reply)) → AreReplies calls a cs rs → AllByRecursion (IsToldOf calls) rs
+all_told calls a [] [] h = tt
+all_told calls a [] (r ∷ rs) h = absurd h
+all_told calls a (c ∷ cs) [] h = absurd h
+all_told calls a (c ∷ cs) (r ∷ rs) h = (one_told calls a c r h.0, all_told calls a cs rs h.1)
+
+all_unplaced : (calls : List Asked) (a : Appending) (cs : List Member) (rs : List (ℕ × Reply)) → AreReplies calls a cs rs → AreUnplaced rs
+all_unplaced calls a [] [] h = tt
+all_unplaced calls a [] (r ∷ rs) h = absurd h
+all_unplaced calls a (c ∷ cs) [] h = absurd h
+all_unplaced calls a (c ∷ cs) (r ∷ rs) h =
+    (ap (λ (x : Reply). x.place) h.0.reply ∙ reply_unplaced a c.request, all_unplaced calls a cs rs h.1)
+
+-- the entries of its calls are those that the replies tell of
+one_entry : (s : State) (calls : List Asked) (o : Outcome) (a : Appending) (c : Member) (r : ℕ × Reply) → IsReplyTo calls a c r
+    → entry_of o a (part_of s c) ≡ told_entry calls o r
+one_entry s calls o a c r h = λ i. record { happening = turn.Asked (Call (sym h.session i) (sym h.request i)); outcome = o; reply = sym h.reply i }
+
+all_entries : (s : State) (calls : List Asked) (o : Outcome) (a : Appending) (cs : List Member) (rs : List (ℕ × Reply)) → AreReplies calls a cs rs
+    → map (entry_of o a) (parts_of s cs) ≡ map (told_entry calls o) rs
+all_entries s calls o a [] [] h = refl
+all_entries s calls o a [] (r ∷ rs) h = absurd h
+all_entries s calls o a (c ∷ cs) [] h = absurd h
+all_entries s calls o a (c ∷ cs) (r ∷ rs) h = λ i. one_entry s calls o a c r h.0 i ∷ all_entries s calls o a cs rs h.1 i
+
+group_told : (s : State) (calls : List Asked) (a : Appending) (c : Member) (cs : List Member) (r : ℕ × Reply) (rs : List (ℕ × Reply))
+    → AreReplies calls a (c ∷ cs) (r ∷ rs) → group_entries a (part_of s c) (parts_of s cs) ≡ told_entries calls a r rs
+group_told s calls a c cs r rs h = λ i. one_entry s calls (Appended a) a c r h.0 i ∷ all_entries s calls (Joined a) a cs rs h.1 i
+
+-- the same of records that are lost
+one_lost : (s : State) (calls : List Asked) (o : Outcome) (a : Appending) (c : Member) (r : ℕ × Reply) → IsReplyTo calls a c r
+    → entry_of o Lost (part_of s c) ≡ lost_entry o (event_at calls r.0)
+one_lost s calls o a c r h = λ i.
+    record { happening = turn.Asked (Call (sym h.session i) (sym h.request i)); outcome = o; reply = detailed XAER_RMFAIL detail.Device }
+
+all_lost : (s : State) (calls : List Asked) (o : Outcome) (a : Appending) (cs : List Member) (rs : List (ℕ × Reply)) → AreReplies calls a cs rs
+    → map (entry_of o Lost) (parts_of s cs) ≡ map (lost_entry o) (events_of calls rs)
+all_lost s calls o a [] [] h = refl
+all_lost s calls o a [] (r ∷ rs) h = absurd h
+all_lost s calls o a (c ∷ cs) [] h = absurd h
+all_lost s calls o a (c ∷ cs) (r ∷ rs) h = λ i. one_lost s calls o a c r h.0 i ∷ all_lost s calls o a cs rs h.1 i
+
+group_lost : (s : State) (calls : List Asked) (a : Appending) (c : Member) (cs : List Member) (r : ℕ × Reply) (rs : List (ℕ × Reply))
+    → AreReplies calls a (c ∷ cs) (r ∷ rs) → group_entries Lost (part_of s c) (parts_of s cs) ≡ lost_entries (events_of calls (r ∷ rs))
+group_lost s calls a c cs r rs h = λ i. one_lost s calls (Appended Lost) a c r h.0 i ∷ all_lost s calls (Joined Lost) a cs rs h.1 i
+
+-- a call that has an XID is no trim
+no_trim : (q : Request) (xid : Triple) → xid_of q ≡ Some xid → asks_trim q ≡ false
+no_trim (Open flags info) xid h = refl
+no_trim (Close flags) xid h = refl
+no_trim (Start flags x) xid h = refl
+no_trim (End flags x) xid h = refl
+no_trim (Prepare flags x) xid h = refl
+no_trim (Commit flags x) xid h = refl
+no_trim (Rollback flags x) xid h = refl
+no_trim (Forget flags x) xid h = refl
+no_trim (Recover flags n) xid h = refl
+no_trim (Get key) xid h = refl
+no_trim (Put key value) xid h = refl
+no_trim (Delete key) xid h = refl
+no_trim (Decide direction x) xid h = refl
+no_trim (Doom x) xid h = refl
+no_trim Restart xid h = refl
+no_trim (Timeout seconds) xid h = refl
+no_trim (Tick moment) xid h = refl
+no_trim Trim xid h = absurd (cc h)
+no_trim (Branches n after) xid h = refl
+
+module _ {D : Type 0} (disks : Ghosts D) where
+  pub rests : (old new : Manager D) → StaysFor disks old new → HasReserved disks old.log new.log → Rests (ManagerStandsFor disks) (λ m. counted_by disks.failures m.log) old new
+  rests old new stays r = record { stays = stays; counted = none_by disks old.log new.log (none_rises disks old.log new.log r old.log (refl, refl)) }
+
+  acted_together : (old new : Manager D) (calls : List Asked) (first : Member) (rest : List Member) (a : Appending) (r : ℕ × Reply) (rs : List (ℕ × Reply))
+      → AreReplies calls a (first ∷ rest) (r ∷ rs) → TakesTogether disks old first rest a new
+      → ActsTogether (ManagerStandsFor disks)
+      (λ event outcome a b. HasCalledFor disks (is_trim event) outcome a.log b.log) (λ events a b. CrashesTogether disks events a b) (λ m. counted_by disks.failures m.log)
+      old calls r rs a new
+  acted_together old new calls first rest a r rs are takes = record {
+    told = all_told calls a (first ∷ rest) (r ∷ rs) are;
+    unplaced = all_unplaced calls a (first ∷ rest) (r ∷ rs) are;
+    leads = λ s stands.
+        let to = takes.leads s stands in
+        (to.0, subst (λ (es : List Entry). Leads s es to.0) (group_told s calls a first rest r rs are) to.1, to.2);
+    called = λ s stands.
+        let may = takes.together s stands in
+        let same : is_trim (event_at calls r.0) ≡ asks_trim first.request = ap asks_trim are.0.request in
+        let none = no_trim first.request first.xid may.appends.0.of_xid in
+        subst (λ (b : Bool). HasCalledFor disks b (Appended a) old.log new.log) (sym (same ∙ none)) (takes.called s stands);
+    crash = λ s stands trusts.
+        let to = takes.crash s stands trusts in
+        (to.0, subst (λ (es : List Entry). Leads s es to.0) (group_lost s calls a first rest r rs are) to.1, to.2);
+    counted = λ s stands. called_for disks false (Appended a) old.log new.log (takes.called s stands);
+  }
+
+  pub answered_together : (old new : Manager D) (calls : List Asked) (replies : List (ℕ × Reply)) → manager.AnswersTogether disks old calls replies new
+      → AnswersTogether (ManagerStandsFor disks)
+      (λ event outcome a b. HasCalledFor disks (is_trim event) outcome a.log b.log) (λ events a b. CrashesTogether disks events a b) (λ m. counted_by disks.failures m.log)
+      old calls replies new
+  answered_together old new calls [] h = rests old new h.0 (subst (λ (l : Log D). HasReserved disks old.log l) (sym h.1) (none_reserved disks old.log))
+  answered_together old new calls (r ∷ rs) h = (h.2, acted_together old new calls h.0 h.1 h.2 r rs h.3 h.4)
