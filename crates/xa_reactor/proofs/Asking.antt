@@ -1,78 +1,88 @@
 -- Asks that are answered together.
-use Rattle.std.proofs.Common.{◌≡◌, ◌∙◌, ℕ, List, [], ◌∷◌, Option, Some, None, Result, refl, sym, ap, subst}
-use Rattle.std.specs.Prelude.{All}
-use Rattle.std.proofs.lemmas.List.Elements.{All-cons, All-head, All-nil, All-tail, All-weaker}
+use Rattle.std.proofs.Common.{◌≡◌, ◌∙◌, ℕ, ◌+◌, List, [], ◌∷◌, drop, get_or, length, set, take, Option, Some, None, Result, refl, sym, ap, inl, subst}
+use Rattle.std.specs.Prelude.{All, IsSomeAnd}
+use Rattle.std.proofs.lemmas.List.Elements.{All-cons, All-get_or, All-head, All-nil, All-same, All-set, All-tail, All-weaker}
 use Rattle.xa_assoc.specs.declared.fault.ConnectFault.{ConnectFault}
-use Rattle.xa_connection.specs.declared.answering.Answering.{Answering}
 use Rattle.xa_connection.specs.declared.connection.Connection.{Connection}
 use Rattle.xa_connection.specs.declared.front.Front.{Front}
 use Rattle.xa_connection.specs.declared.front.Front.TheVariants.{Whole, Cut, TooLong}
-use Rattle.xa_connection.specs.Calls as calls
-use Rattle.xa_connection.specs.Calls.{Replies, Turns}
 use Rattle.xa_connection.specs.Fronts.{IsShortFront}
-use Rattle.xa_connection.specs.declared.asked.Asked.TheVariants.{One}
-use Rattle.xa_connection.proofs.Turning.{turns-called}
+use Rattle.xa_frame.specs.Limits.{IsReply, IsRequest}
+use Rattle.xa_frame.specs.Questions.{SpellsQuestion}
 use Rattle.xa_frame.specs.declared.question.Question.{Question}
 use Rattle.xa_frame.specs.declared.question.Question.TheVariants.{Call}
 use Rattle.xa_frame.specs.declared.reply.Reply.{Reply}
 use Rattle.xa_frame.specs.declared.request.Request.{Request}
 use Rattle.xa_reactor.specs.declared.ask.Ask.{Ask}
-use Rattle.xa_reactor.specs.Asking.{Each, HasRequest, IsAsking, IsLent, IsOpen, IsTold, Puts, Tells, Turned}
+use Rattle.xa_reactor.specs.Asking.{HasRequest, IsAnswered, IsAsking, IsLent, IsOpen, IsTold, PutsAll, Tells, TellsAll, TellsEach, TellsOne, TurnedAll}
 use Rattle.xa_reactor.specs.Opening.{Opens, OpensAt}
 use Rattle.xa_reactor.specs.Tending.{Table, Tends}
+use Rattle.xa_reactor.specs.Turning.{HasAnswered}
 use Rattle.xa_reactor.specs.declared.peer.Opened.{Opened}
 use Rattle.xa_reactor.specs.declared.peer.Opened.TheVariants.{Asks, Over}
 use Rattle.xa_reactor.specs.declared.peer.Peer.{Peer}
 use Rattle.xa_reactor.proofs.Doing.{tends_answered, tends_none, tends_twice}
-use Rattle.xa_reactor.proofs.Turning.{has_answered}
+
+-- what a connection asked was answered at the door
+asked : {D : Type 0} (called : D → Question → Reply → D → Type 0) (front : Front) (request : Option Request) (q : Request) (reply : Reply) (c : Connection) (d e : D)
+    → IsAsking c front request → request ≡ Some q → called d (Call q) reply e → HasAnswered called d e
+asked called (Whole count) (Some r) q reply c d e asks is told =
+    let same : q ≡ r = cc is in
+    let spells : SpellsQuestion (take count (drop 4 c.input)) (Call r) = asks.2 in
+    (take count (drop 4 c.input) ∷ [], reply ∷ [], (e, inl (r, spells, subst (λ (x : Request). called d (Call x) reply e) same told), refl))
+asked called (Whole count) None q reply c d e asks is told = absurd asks
+asked called Cut request q reply c d e asks is told = absurd asks
+asked called TooLong request q reply c d e asks is told = absurd asks
+
+-- the session is served under its key, and as long as its request is left, the connection asks so
+abbrev Stays : Table → Ask → Type 0
+Stays table a = (table a.key ≡ Some a.session) × ((q : Request) → a.request ≡ Some q → IsAsking a.connection a.front a.request)
+
+-- its reply may be put to its connection, once its request is gone
+abbrev Ready : Ask → Type 0
+Ready a = IsShortFront a.front × (IsAnswered a → IsReply a.reply)
 
 module _ {D : Type 0} (called : ℕ → D → Question → Reply → D → Type 0) where
-  -- what a connection asked was answered at the door, and the reply put to it
-  asked : (session : ℕ) (front : Front) (request : Option Request) (q : Request) (reply : Reply) (answering : Answering) (c c' : Connection) (d e : D)
-      → IsAsking c front request → request ≡ Some q → called session d (Call q) reply e → Replies c front reply answering c'
-      → Turns (called session) c d answering c' e
-  asked session (Whole count) (Some r) q reply answering c c' d e asks is told put =
-      let same : r ≡ q = cc is in
-      turns-called (called session) c c' d e answering count (Call q) reply (subst (λ (x : Request). calls.Asks c (One count (Call x))) same asks) told put
-  asked session (Whole count) None q reply answering c c' d e asks is told put = absurd asks
-  asked session Cut request q reply answering c c' d e asks is told put = absurd asks
-  asked session TooLong request q reply answering c c' d e asks is told put = absurd asks
+  -- what an answer leaves true is left true by those of some
+  left_true : (P : Ask → Type 0) → ((d e : D) (a b : Ask) → P a → Tells called d a b e → P b) → (asks told : List Ask) (d e : D)
+      → TellsOne called d asks told e → All P asks → All P told
+  left_true P one asks told d e tells all =
+      All-same P told (set asks tells.place tells.ask) tells.others
+      (All-set P asks tells.place tells.ask (one d e _ tells.ask (All-get_or P asks tells.place tells.ask tells.within all) tells.tells) all)
 
-  turned_one : (a b c : Ask) (d e : D) → IsOpen a → Tells called d a b e → Puts b c → Turned called d a c e
-  turned_one a b c d e opened tells puts =
-      let put : Replies a.connection a.front b.reply puts.answering c.connection =
-      subst (λ (x : Connection). Replies x a.front b.reply puts.answering c.connection) tells.connection
-      (subst (λ (x : Front). Replies b.connection x b.reply puts.answering c.connection) tells.front puts.replies) in
-      record {
-        key = puts.key ∙ tells.key;
-        session = puts.session ∙ tells.session;
-        answering = puts.answering;
-        turns = asked a.session a.front a.request tells.request b.reply puts.answering a.connection c.connection d e opened.1 tells.asked tells.told put;
-      }
+  pub all_left_true : (P : Ask → Type 0) → ((d e : D) (a b : Ask) → P a → Tells called d a b e → P b) → (asks told : List Ask) (d e : D)
+      → (before : List (List Ask × D)) → TellsEach called d asks before told e → All P asks → All P told
+  all_left_true P one asks told d e [] tells all = All-same P told asks (sym tells.0) all
+  all_left_true P one asks told d e (m ∷ ms) tells all =
+      left_true P one m.0 told m.1 e tells.1 (all_left_true P one asks m.0 d m.1 ms tells.0 all)
 
-  -- so were all
-  pub turned_all : (asks told put : List Ask) (d e : D) → All IsOpen asks → Each (Tells called) d asks told e
-      → Each {D = Unit {0}} (λ _ a b _. Puts a b) tt told put tt → Each (Turned called) d asks put e
-  turned_all [] [] [] d e opened tells puts = tells
-  turned_all [] [] (c ∷ cs) d e opened tells puts = absurd puts
-  turned_all [] (b ∷ bs) put d e opened tells puts = absurd tells
-  turned_all (a ∷ rest) [] put d e opened tells puts = absurd tells
-  turned_all (a ∷ rest) (b ∷ bs) [] d e opened tells puts = absurd puts
-  turned_all (a ∷ rest) (b ∷ bs) (c ∷ cs) d e opened tells puts =
-      (tells.0, turned_one a b c d tells.0 (All-head IsOpen a rest opened) tells.1 puts.1, turned_all rest bs cs tells.0 e (All-tail IsOpen a rest opened) tells.2 puts.2)
+  still_stays : (table : Table) (d e : D) (a b : Ask) → Stays table a → Tells called d a b e → Stays table b
+  still_stays table d e a b stays tells =
+      (ap table tells.key ∙ stays.0 ∙ ap Some (sym tells.session), λ q is. absurd (cc (sym tells.gone ∙ is)))
+
+  still_ready : (d e : D) (a b : Ask) → Ready a → Tells called d a b e → Ready b
+  still_ready d e a b ready tells = (subst IsShortFront (sym tells.front) ready.0, λ _. tells.limits)
 
   -- the connections are those of sessions that are served
   module _ (connected : D → Result ℕ ConnectFault → D → Type 0) (left : ℕ → D → D → Type 0) where
-    pub tends_turned : (table : Table) (asks put : List Ask) (d e : D) → All (IsLent table) asks → Each (Turned called) d asks put e
+    tends_told : (table : Table) (asks told : List Ask) (d e : D) (before : List (List Ask × D)) → TellsEach called d asks before told e
+        → All (Stays table) asks → Tends connected called left table d table e
+    tends_told table asks told d e [] tells stay = subst (λ (x : D). Tends connected called left table d table x) tells.1 (tends_none connected called left table table d refl)
+    tends_told table asks told d e (m ∷ ms) tells stay =
+        let one : TellsOne called m.1 m.0 told e = tells.1 in
+        let a : Ask = get_or m.0 one.place one.ask in
+        let now : Stays table a = All-get_or (Stays table) m.0 one.place one.ask one.within (all_left_true (Stays table) (still_stays table) asks m.0 d m.1 ms tells.0 stay) in
+        tends_twice connected called left table table table d m.1 e
+        (tends_told table asks m.0 d m.1 ms tells.0 stay)
+        (tends_answered connected called left table table m.1 e a.key a.session now.0
+        (asked (called a.session) a.front a.request one.tells.request one.ask.reply a.connection m.1 e
+        (now.1 one.tells.request one.tells.asked) one.tells.asked one.tells.told) refl)
+
+    pub tends_turned : (table : Table) (asks put : List Ask) (d e : D) → All (IsLent table) asks → TurnedAll called d asks put e
         → Tends connected called left table d table e
-    tends_turned table [] [] d e lent turned = subst (λ (x : D). Tends connected called left table d table x) turned (tends_none connected called left table table d refl)
-    tends_turned table [] (c ∷ cs) d e lent turned = absurd turned
-    tends_turned table (a ∷ rest) [] d e lent turned = absurd turned
-    tends_turned table (a ∷ rest) (c ∷ cs) d e lent turned =
-        tends_twice connected called left table table table d turned.0 e
-        (tends_answered connected called left table table d turned.0 a.key a.session (All-head (IsLent table) a rest lent).0
-        (has_answered (called a.session) turned.1.answering a.connection c.connection d turned.0 turned.1.turns) refl)
-        (tends_turned table rest cs turned.0 e (All-tail (IsLent table) a rest lent) turned.2)
+    tends_turned table asks put d e lent turned =
+        let stay : All (Stays table) asks = All-weaker (IsLent table) (Stays table) (λ a h. (h.0, λ q is. h.1.1)) asks lent in
+        tends_told table asks turned.told d e turned.tells.some.0 turned.tells.some.1 stay
 
 -- a turn was opened of a connection whose session is served
 pub opens_at : {D : Type 0} (called : ℕ → D → Question → Reply → D → Type 0) (connected : D → Result ℕ ConnectFault → D → Type 0) (left : ℕ → D → D → Type 0)
@@ -97,12 +107,27 @@ short c (Whole count) None h = absurd h
 short c Cut request h = absurd h
 short c TooLong request h = absurd h
 
+all_told : (told : List Ask) → All Ready told → All IsAnswered told → All IsTold told
+all_told [] ready gone = All-nil IsTold
+all_told (a ∷ rest) ready gone =
+    let one : Ready a = All-head Ready a rest ready in
+    All-cons IsTold a rest (one.0, one.1 (All-head IsAnswered a rest gone))
+    (all_told rest (All-tail Ready a rest ready) (All-tail IsAnswered a rest gone))
+
+opened_ready : (a : Ask) (request : Option Request) → a.request ≡ request → IsSomeAnd request IsRequest → IsShortFront a.front → Ready a
+opened_ready a (Some q) is has is_short = (is_short, λ gone. absurd (cc (sym is ∙ gone)))
+opened_ready a None is has is_short = absurd has
+
 pub are_told : {D : Type 0} (called : ℕ → D → Question → Reply → D → Type 0) (asks told : List Ask) (d e : D) → All IsOpen asks
-    → Each (Tells called) d asks told e → All IsTold told
-are_told called [] [] d e opened tells = All-nil IsTold
-are_told called [] (b ∷ bs) d e opened tells = absurd tells
-are_told called (a ∷ rest) [] d e opened tells = absurd tells
-are_told called (a ∷ rest) (b ∷ bs) d e opened tells =
-    let one : IsOpen a = All-head IsOpen a rest opened in
-    All-cons IsTold b bs (subst IsShortFront (sym tells.1.front) (short a.connection a.front a.request one.1), tells.1.limits)
-    (are_told called rest bs tells.0 e (All-tail IsOpen a rest opened) tells.2)
+    → TellsAll called d asks told e → All IsTold told
+are_told called asks told d e opened tells =
+    let ready : All Ready asks = All-weaker IsOpen Ready (λ a h. opened_ready a a.request refl h.0 (short a.connection a.front a.request h.1)) asks opened in
+    all_told told (all_left_true called Ready (still_ready called) asks told d e tells.some.0 tells.some.1 ready) tells.none
+
+-- there was none
+pub none_turned : {D : Type 0} (called : ℕ → D → Question → Reply → D → Type 0) (asks : List Ask) (d : D) → asks ≡ [] → TurnedAll called d asks asks d
+none_turned called asks d none = record {
+  told = asks;
+  tells = record { some = ([], (refl, refl)); none = All-same IsAnswered asks [] none (All-nil IsAnswered) };
+  puts = subst (λ (xs : List Ask). PutsAll xs xs) (sym none) tt;
+}

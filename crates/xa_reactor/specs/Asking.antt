@@ -1,11 +1,12 @@
 -- Requests of connections that are answered together.
-use Rattle.std.specs.Prelude.{ℕ, ◌≡◌, List, [], ◌∷◌, Option, Some, IsSomeAnd}
+use Rattle.std.specs.Prelude.{ℕ, ◌≡◌, ◌<◌, All, List, [], ◌∷◌, get_or, length, set, Option, Some, None, IsSomeAnd}
+use Rattle.std.specs.List.{AllZip}
 use Rattle.xa_connection.specs.declared.answering.Answering.{Answering}
 use Rattle.xa_connection.specs.declared.asked.Asked.TheVariants.{One}
 use Rattle.xa_connection.specs.declared.connection.Connection.{Connection}
 use Rattle.xa_connection.specs.declared.front.Front.{Front}
 use Rattle.xa_connection.specs.declared.front.Front.TheVariants.{Whole}
-use Rattle.xa_connection.specs.Calls.{Asks, Replies, Turns}
+use Rattle.xa_connection.specs.Calls.{Asks, Replies}
 use Rattle.xa_connection.specs.Fronts.{IsShortFront}
 use Rattle.xa_frame.specs.Limits.{IsReply, IsRequest}
 use Rattle.xa_frame.specs.declared.question.Question.{Question}
@@ -14,13 +15,6 @@ use Rattle.xa_frame.specs.declared.reply.Reply.{Reply}
 use Rattle.xa_frame.specs.declared.request.Request.{Request}
 use Rattle.xa_reactor.specs.declared.ask.Ask.{Ask}
 use Rattle.xa_reactor.specs.Tending.{Table}
-
--- one step after another, each from an item of one list to the item of the other in its place
-abbrev pub Each : {D A B : Type 0} → (D → A → B → D → Type 0) → D → List A → List B → D → Type 0
-Each step d [] [] e = d ≡ e
-Each step d [] (y ∷ ys) e = ⊥
-Each step d (x ∷ xs) [] e = ⊥
-Each {D} step d (x ∷ xs) (y ∷ ys) e = (m : D) × step d x y m × Each step m xs ys e
 
 -- its request is left, and is within the limits
 abbrev pub HasRequest : Ask → Type 0
@@ -39,7 +33,7 @@ IsOpen a = HasRequest a × IsAsking a.connection a.front a.request
 abbrev pub IsLent : Table → Ask → Type 0
 IsLent table a = (table a.key ≡ Some a.session) × IsOpen a
 
--- the request of an ask was answered at the door; whose it is stays
+-- the request of an ask was answered at the door, and is gone; whose it is stays
 pub record Tells {D : Type 0} (called : ℕ → D → Question → Reply → D → Type 0) (d : D) (a b : Ask) (e : D) : Type 0 where
   pub key : b.key ≡ a.key
   pub session : b.session ≡ a.session
@@ -47,12 +41,37 @@ pub record Tells {D : Type 0} (called : ℕ → D → Question → Reply → D �
   pub front : b.front ≡ a.front
   pub request : Request
   pub asked : a.request ≡ Some request
+  pub gone : b.request ≡ None
   pub told : called a.session d (Call request) b.reply e
   pub limits : IsReply b.reply
 
--- so were all, in order
-abbrev pub TellsAll : {D : Type 0} → (ℕ → D → Question → Reply → D → Type 0) → D → List Ask → List Ask → D → Type 0
-TellsAll called d asks told e = Each (Tells called) d asks told e
+-- so was that of the ask at some place of a list; the others stay
+pub record TellsOne {D : Type 0} (called : ℕ → D → Question → Reply → D → Type 0) (d : D) (asks told : List Ask) (e : D)
+    : Type 0 where
+  pub place : ℕ
+  pub within : place < length asks
+  pub ask : Ask
+  pub tells : Tells called d (get_or asks place ask) ask e
+  pub others : told ≡ set asks place ask
+
+-- so were some, one behind the other, with the asks and the door before each, the last one's first
+abbrev pub TellsEach : {D : Type 0} → (ℕ → D → Question → Reply → D → Type 0) → D → List Ask → List (List Ask × D)
+    → List Ask → D → Type 0
+TellsEach called d asks [] told e = (asks ≡ told) × (d ≡ e)
+TellsEach called d asks (m ∷ ms) told e = TellsEach called d asks ms m.0 m.1 × TellsOne called m.1 m.0 told e
+
+abbrev pub TellsSome : {D : Type 0} → (ℕ → D → Question → Reply → D → Type 0) → D → List Ask → List Ask → D → Type 0
+TellsSome {D} called d asks told e = (before : List (List Ask × D)) × TellsEach called d asks before told e
+
+-- its request is gone
+abbrev pub IsAnswered : Ask → Type 0
+IsAnswered a = a.request ≡ None
+
+-- Each was answered, once, in whichever order: an answer takes a request, and none is left.
+pub record TellsAll {D : Type 0} (called : ℕ → D → Question → Reply → D → Type 0) (d : D) (asks told : List Ask) (e : D)
+    : Type 0 where
+  pub some : TellsSome called d asks told e
+  pub none : All IsAnswered told
 
 -- its reply may be put to its connection
 abbrev pub IsTold : Ask → Type 0
@@ -66,15 +85,11 @@ pub record Puts (a b : Ask) : Type 0 where
   pub replies : Replies a.connection a.front a.reply answering b.connection
 
 abbrev pub PutsAll : List Ask → List Ask → Type 0
-PutsAll told put = Each {D = Unit {0}} (λ _ a b _. Puts a b) tt told put tt
+PutsAll told put = AllZip Puts told put
 
--- the connection of an ask was answered at the door, for its session
-pub record Turned {D : Type 0} (called : ℕ → D → Question → Reply → D → Type 0) (d : D) (a b : Ask) (e : D) : Type 0 where
-  pub key : b.key ≡ a.key
-  pub session : b.session ≡ a.session
-  pub answering : Answering
-  pub turns : Turns (called a.session) a.connection d answering b.connection e
-
--- so were all, in order
-abbrev pub TurnedAll : {D : Type 0} → (ℕ → D → Question → Reply → D → Type 0) → D → List Ask → List Ask → D → Type 0
-TurnedAll called d asks turned e = Each (Turned called) d asks turned e
+-- all were answered at the door, and then the reply of each was put to its connection
+pub record TurnedAll {D : Type 0} (called : ℕ → D → Question → Reply → D → Type 0) (d : D) (asks turned : List Ask) (e : D)
+    : Type 0 where
+  pub told : List Ask
+  pub tells : TellsAll called d asks told e
+  pub puts : PutsAll told turned

@@ -21,7 +21,7 @@ pub trait Reception: Door {
     fn connect(&mut self) -> Result<u64, ConnectFault>
         ensures { connected self.old result self.new };
 
-    /// Answers requests in order, each as `call` does, with nothing of others in between.
+    /// Answers requests, each once and as `call` does, in an order of its own.
     fn call_all(&mut self, asks: &mut [Ask])
         requires { All HasRequest asks.old }
         ensures { TellsAll Self.called self.old asks.old asks.new self.new };

@@ -33,7 +33,7 @@ impl Together {
     }
 
     /// So many turns, of those that have one next, as far as there is room: each is opened, the requests that were brought
-    /// in are answered one after another, and then each turn is closed.
+    /// in are answered, and then each turn is closed.
     pub(crate) fn give_turns<D: Reception>(
         &mut self,
         peers: &mut Peers,
@@ -104,7 +104,7 @@ impl Together {
     }
 }
 
-// Answers requests at a door in order, and puts the replies to their connections.
+// Answers requests at a door, and puts the replies to their connections.
 fn answer_all<D: Reception>(asks: &mut [Ask], door: &mut D)
     requires { All IsOpen asks.old }
     ensures { TurnedAll D.called door.old asks.old asks.new door.new }

@@ -1,5 +1,5 @@
 -- A manager over a log answers calls together as a room asks.
-use Rattle.std.proofs.Common.{◌≡◌, ◌∙◌, ℕ, Bool, true, false, List, [], ◌∷◌, map, Some, Result, Ok, Err, IfOk, OnErr, refl, sym, ap, subst}
+use Rattle.std.proofs.Common.{◌≡◌, ◌∙◌, ℕ, Bool, false, List, [], ◌∷◌, map, Some, Result, Ok, Err, IfOk, OnErr, refl, sym, ap, subst}
 use Rattle.std.specs.List.{AllByRecursion}
 use Rattle.xa_assoc.specs.Refusals.{is_memory}
 use Rattle.xa_codes.specs.declared.codes.TheConstants.{XAER_RMFAIL}
@@ -23,7 +23,7 @@ use Rattle.xa_model.specs.declared.outcome.Appending.TheVariants.{Kept, Refused,
 use Rattle.xa_model.specs.declared.outcome.Outcome.{Outcome}
 use Rattle.xa_model.specs.declared.outcome.Outcome.TheVariants.{Appended, Joined}
 use Rattle.xa_manager.specs.Answered.{HasCalledFor, StaysFor}
-use Rattle.xa_manager.specs.Counted.{RiseBy, counted_by}
+use Rattle.xa_manager.specs.Counted.{counted_by}
 use Rattle.xa_manager.specs.Managed.{ManagerStandsFor}
 use Rattle.xa_manager.specs.GroupAnswers as manager
 use Rattle.xa_manager.specs.GroupAnswers.{AreReplies, IsReplyTo}

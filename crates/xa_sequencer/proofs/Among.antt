@@ -1,14 +1,13 @@
 -- Each call of a group, told by itself.
-use Rattle.std.proofs.Common.{◌≡◌, ℕ, ◌+◌, ◌≤◌, ◌<◌, suc, zero, inr, false, List, [], ◌∷◌, length, Some, None, refl, sym, ap, subst, arith, slice_get}
+use Rattle.std.proofs.Common.{◌≡◌, ℕ, ◌+◌, suc, zero, inr, List, [], ◌∷◌, length, Some, refl, subst, arith, slice_get}
 use Rattle.std.specs.List.{AllByRecursion}
 use Rattle.xa_assoc.specs.Refusals.{is_memory}
 use Rattle.xa_frame.specs.declared.reply.Reply.{Reply}
-use Rattle.xa_manager.specs.Together.{asked_at}
 use Rattle.xa_manager.specs.declared.together.Asked.{Asked}
 use Rattle.xa_model.specs.State.{State}
 use Rattle.xa_room.specs.Together.{IsToldOf}
 use Rattle.xa_room.specs.declared.manages.Manages.{Ghosts}
-use Rattle.xa_sequencer.specs.Shared.{CalledBy, EachOfGroup}
+use Rattle.xa_sequencer.specs.Shared.{EachOfGroup}
 use Rattle.xa_sequencer.specs.Stands.{Numbered}
 use Rattle.xa_sequencer.specs.Together.{CalledTogether}
 use Rattle.xa_sequencer.proofs.Sharing.{takes_one}

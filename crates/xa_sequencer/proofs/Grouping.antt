@@ -1,5 +1,5 @@
 -- Entries more: those of calls that were asked together.
-use Rattle.std.proofs.Common.{◌≡◌, ℕ, ◌+◌, ◌≤◌, ◌<◌, ◌⊎◌, ◌∙◌, inl, inr, true, false, List, [], ◌∷◌, ◌++◌, length, map, None, refl, sym, ap, subst, arith, length-append, append-nil, Option, Some, get_or}
+use Rattle.std.proofs.Common.{◌≡◌, ℕ, ◌+◌, ◌≤◌, ◌<◌, ◌⊎◌, ◌∙◌, inl, inr, List, [], ◌∷◌, ◌++◌, length, map, None, refl, sym, ap, subst, arith, length-append, append-nil, Option, Some}
 use Rattle.std.specs.List.{AllByRecursion}
 use Rattle.std.proofs.lemmas.List.Elements.{All-from_recursion, All-get_or}
 use Rattle.xa_frame.specs.declared.reply.Reply.{Reply}
@@ -17,7 +17,6 @@ use Rattle.xa_model.specs.declared.outcome.Appending.{Appending}
 use Rattle.xa_model.specs.declared.outcome.Outcome.{Outcome}
 use Rattle.xa_model.specs.declared.outcome.Outcome.TheVariants.{Appended, Joined}
 use Rattle.xa_room.specs.Book.{AreNumbered, HasNoBoot, placed, plain_entries}
-use Rattle.xa_room.specs.Manages.{Stays}
 use Rattle.xa_room.specs.Together as room
 use Rattle.xa_room.specs.Together.{ActsTogether, AreUnplaced, IsToldOf, event_at, events_of, told_entries, told_entry}
 use Rattle.xa_room.specs.Upholds.{Upholds}

@@ -1,4 +1,4 @@
-use Rattle.xa_reactor.proofs.Asking.{are_told, have_requests, turned_all}
+use Rattle.xa_reactor.proofs.Asking.{are_told, have_requests, none_turned}
 use Rattle.xa_reactor.proofs.together.answer_all.Goals as goal
 
 pub call_all-requires : goal.call_all-requires
@@ -9,6 +9,4 @@ put_all-requires g c =
     are_told g.D.Door.called c.args.asks.now c.call_all.new.asks c.args.door.now c.call_all.new.self c.requires c.call_all.ensures
 
 pub returns : goal.returns
-returns g c =
-    turned_all g.D.Door.called c.args.asks.now c.call_all.new.asks c.put_all.new.asks c.args.door.now c.call_all.new.self
-    c.requires c.call_all.ensures c.put_all.ensures
+returns g c = record { told = c.call_all.new.asks; tells = c.call_all.ensures; puts = c.put_all.ensures }

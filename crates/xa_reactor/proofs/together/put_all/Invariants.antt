@@ -3,4 +3,4 @@ use Rattle.xa_reactor.proofs.Each.{Partway}
 use Rattle.xa_reactor.proofs.together.put_all.Given as goal
 
 abbrev pub invariant-loop-ask : goal.invariant-loop-ask
-invariant-loop-ask l = Partway {D = Unit {0}} (λ _ a b _. Puts a b) tt l.ask-index l.fn.asks l.asks tt
+invariant-loop-ask l = Partway Puts l.ask-index l.fn.asks l.asks

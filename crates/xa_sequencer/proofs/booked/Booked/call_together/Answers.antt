@@ -1,4 +1,4 @@
-use Rattle.std.proofs.Common.{◌∙◌, ◌+◌, length, arith}
+use Rattle.std.proofs.Common.{◌∙◌, arith}
 use Rattle.xa_sequencer.specs.Together.{CalledTogether}
 use Rattle.xa_sequencer.proofs.Sharing.{did_next}
 use Rattle.xa_sequencer.proofs.booked.Booked.call_together.Goals as goal

@@ -1,11 +1,11 @@
-use Rattle.std.proofs.Common.{◌≡◌, ◌∙◌, ◌+◌, ◌≤◌, ◌++◌, ℕ, List, length, take, drop, refl, sym, ap, subst, arith}
+use Rattle.std.proofs.Common.{◌≡◌, ◌∙◌, ◌+◌, ◌++◌, ℕ, List, length, take, drop, refl, sym, ap, subst, arith}
 use Rattle.std.specs.List.{AllByRecursion}
 use Rattle.xa_frame.specs.declared.reply.Reply.{Reply}
 use Rattle.xa_manager.specs.Once.{AreOnce}
 use Rattle.xa_room.specs.Together.{IsToldOf}
 use Rattle.xa_sequencer.specs.Stands.{Numbered}
 use Rattle.xa_sequencer.specs.Together.{CalledTogether, placed_from}
-use Rattle.xa_sequencer.proofs.Grouping.{all_told, called_together, has_history, length_placed, no_more, placed_once, placed_told, rests, rests_still}
+use Rattle.xa_sequencer.proofs.Grouping.{all_told, called_together, has_history, length_placed, no_more, placed_once, placed_told}
 use Rattle.xa_sequencer.proofs.Placing.{whole}
 use Rattle.xa_sequencer.proofs.sequencer.Sequencer.call_together.Goals as goal
 
