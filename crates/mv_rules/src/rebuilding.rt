@@ -14,6 +14,11 @@ use std::alloc::AllocError;
 use xa_codes::Write;
 use xa_shared::SharedBytes;
 
+/// The room that the copy of a key has beside it. It takes memory of another size by this than the keys of the records
+/// that are let go meanwhile: in the places of those it would stand strewn among what their values leave, where no body of
+/// a later record would fit.
+const SPARE: usize = 16;
+
 /// How records are built anew of what lasted.
 impl Records {
     ghost use Rattle.mv_rules.specs.Calls.{IfStood, IfUnindexed, IfUnsettled};
@@ -38,7 +43,7 @@ impl Records {
         if let Some(i) = self.find(key) {
             return Ok(i);
         }
-        self.make(key)
+        self.make(key, SPARE)
     }
 
     /// Adds a branch's write, however many keys it has written.

@@ -76,8 +76,8 @@ impl Records {
         }
     }
 
-    /// Makes the chain of a key that has none.
-    pub(crate) fn make(&mut self, key: &[u8]) -> Result<usize, AllocError>
+    /// Makes the chain of a key that has none. The copy of the key has room for so many bytes more.
+    pub(crate) fn make(&mut self, key: &[u8], spare: usize) -> Result<usize, AllocError>
         ensures index { IfOk result (λ i. index_of key.now self.new ≡ Some i) }
         ensures there { IfOk result (λ i. IsSome (chain_in self.new.chains i)) }
         ensures stands { IfUnindexed key.now self.old (λ h. StandsFor h self.new) }
@@ -87,7 +87,7 @@ impl Records {
         ensures notes { self.new.notes ≡ self.old.notes }
         ensures within { KeepsWithin self.old self.new }
     {
-        let copy = key.to_vec(self.alloc)?;
+        let copy = key_copied(self.alloc, key, spare)?;
         self.chains.reserve(1)?;
         let i = self.chains.vacant_key();
         self.indices.insert(copy, i)?;
@@ -154,7 +154,7 @@ impl Records {
         if let Some(i) = self.find(key) {
             return self.get_at(i, ts, key);
         }
-        let Ok(i) = self.make(key) else {
+        let Ok(i) = self.make(key, 0) else {
             return Got::Memory;
         };
         let got = self.get_at(i, ts, key);
@@ -225,7 +225,7 @@ impl Records {
         if let Some(i) = self.find(key) {
             return self.put_at(i, ts, key, value);
         }
-        let Ok(i) = self.make(key) else {
+        let Ok(i) = self.make(key, 0) else {
             return Put::Memory;
         };
         let answer = self.put_at(i, ts, key, value);
@@ -346,4 +346,13 @@ impl Records {
             None => Ok(Vec::new(self.alloc)),
         }
     }
+}
+
+/// A copy of a key, with room for so many bytes more.
+fn key_copied(alloc: Global, key: &[u8], spare: usize) -> Result<Vec<u8>, AllocError>
+    ensures { IfOk result (λ v. v.items ≡ key.now) }
+{
+    let mut bytes = Vec::with_capacity(alloc, key.len().saturating_add(spare))?;
+    bytes.extend_from_slice(key)?;
+    Ok(bytes)
 }

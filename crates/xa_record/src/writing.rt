@@ -17,6 +17,16 @@ use xa_fields::{put_length, put_short, put_value, put_xid};
 use xa_limits::{MOST_SMALL, XID_BYTES};
 use xa_xid::Xid;
 
+/// What stands in a body before its writes: the kind, a timestamp and their number.
+const BEFORE_WRITES: usize = 11;
+
+/// What an XID has beside its two parts.
+const AROUND_PARTS: usize = 6;
+
+const BESIDE_KEY: usize = 2;
+
+const BEFORE_VALUE: usize = 2;
+
 /// The body of a record within its limits, as every record is that was read. Of another the lengths would be cut.
 pub fn write(alloc: Global, record: &Record) -> Result<Vec<u8>, AllocError>
     requires { IsRecord «record».now }
@@ -123,7 +133,8 @@ fn branch(
 ) -> Result<Vec<u8>, AllocError>
     ensures { IfOk result (λ v. v.items ≡ kind ∷ branch_bytes xid.now timestamp writes.now) }
 {
-    let mut out = Vec::new(alloc);
+    let len = branch_len(xid, writes.as_slice());
+    let mut out = Vec::with_capacity(alloc, len)?;
     out.push(kind)?;
     put_xid(&mut out, xid)?;
     put_stamped(&mut out, timestamp, writes)?;
@@ -133,7 +144,7 @@ fn branch(
 fn base(alloc: Global, timestamp: u64, writes: &Writes) -> Result<Vec<u8>, AllocError>
     ensures { IfOk result (λ v. v.items ≡ 7 ∷ stamped_bytes timestamp writes.now) }
 {
-    let mut out = Vec::new(alloc);
+    let mut out = Vec::with_capacity(alloc, stamped_len(writes.as_slice()))?;
     out.push(7)?;
     put_stamped(&mut out, timestamp, writes)?;
     Ok(out)
@@ -173,5 +184,31 @@ fn put_left(out: &mut Vec<u8>, value: &Option<Bytes>) -> Result<(), AllocError>
             out.push(1)?;
             put_value(out, value.as_slice())
         }
+    }
+}
+
+/// How many bytes the body of a base with these writes has. A wrong length costs memory and no more: the vector grows.
+fn stamped_len(writes: &[Write]) -> usize {
+    writes.iter().fold(
+        BEFORE_WRITES,
+        |len, write| len.saturating_add(write_len(write)),
+    )
+}
+
+/// How many bytes the body of a branch of this name with these writes has.
+fn branch_len(xid: &Xid, writes: &[Write]) -> usize {
+    let parts = xid.gtrid().len().saturating_add(xid.bqual().len());
+    stamped_len(writes)
+        .saturating_add(AROUND_PARTS)
+        .saturating_add(parts)
+}
+
+fn write_len(write: &Write) -> usize {
+    let key = write.key.as_slice().len().saturating_add(BESIDE_KEY);
+    match &write.value {
+        Some(value) => key
+            .saturating_add(BEFORE_VALUE)
+            .saturating_add(value.as_slice().len()),
+        None => key,
     }
 }

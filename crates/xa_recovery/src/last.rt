@@ -37,6 +37,14 @@ fn keep(last: &mut BTreeMap<u64, Writes>, timestamp: u64, writes: Writes) -> Res
     Ok(())
 }
 
+/// Lets the keys go from the greatest down. Where later branches wrote greater keys, that is the order in which they were
+/// added, so those that end the heap go last, and the system gets all of their memory back.
+fn let_go(mut written: BTreeSet<Bytes>) {
+    while let Some(key) = written.pop_last() {
+        drop(key);
+    }
+}
+
 /// Of branches by timestamp, the writes that are the last of their keys.
 pub(crate) fn last_writes(
     alloc: Global,
@@ -54,5 +62,6 @@ pub(crate) fn last_writes(
             keep(&mut last, timestamp, kept)?;
         }
     }
+    let_go(written);
     Ok(last)
 }

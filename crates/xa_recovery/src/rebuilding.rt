@@ -74,8 +74,12 @@ impl Rebuilding {
             committed,
             prepared,
             decided,
+            names,
+            timestamps,
             ..
         } = self;
+        drop(names);
+        drop(timestamps);
         let committed = last_writes(alloc, committed)?;
         Ok(Durable {
             boot,
