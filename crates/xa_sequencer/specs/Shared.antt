@@ -46,8 +46,8 @@ CalledTogetherBy m start base old calls replies new =
     Did m start base old.1 (λ a b. CalledTogether m start base a calls replies b)
     × (new.0 ≡ old.0) × (new.1 ≡ old.1 + length replies)
 
--- There is a sequencer that stood for a history, and that next answered calls together, of which this one had this reply.
--- Behind them its history has more than so many entries.
+-- There is a sequencer that stood for a history, and that next answered calls together, of which this one had this
+-- reply. Behind them its history has more than so many entries.
 pub record DidAmong {M : Type 0} (m : Ghosts M) (start : State → Type 0) (base : ℕ × ℕ) (least session : ℕ)
     (request : Request) (reply : Reply) : Type 0 where
   pub old : Numbered M

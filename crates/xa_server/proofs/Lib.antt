@@ -2,3 +2,5 @@ pub mod Opening
 pub mod Promising
 pub mod Failing
 pub mod Sharing
+pub mod Rounds
+pub mod Grouping

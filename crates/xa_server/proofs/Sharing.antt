@@ -1,5 +1,5 @@
 -- What loops did at their posts, said of their shares.
-use Rattle.std.proofs.Common.{◌≡◌, ◌∙◌, ℕ, ◌+◌, ◌<◌, suc, Bool, true, false, arith, length, map, List, [], ◌∷◌, Result, refl, sym, ap, inl, inr}
+use Rattle.std.proofs.Common.{◌≡◌, ◌∙◌, ℕ, suc, arith, length, map, List, [], ◌∷◌, Result, refl, sym, ap, inl, inr}
 use Rattle.std.specs.Prelude.{sum_by}
 use Rattle.std.proofs.lemmas.List.Sums.{sum_by-cons}
 use Rattle.xa_assoc.specs.declared.fault.ConnectFault.{ConnectFault}

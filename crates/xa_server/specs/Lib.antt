@@ -4,3 +4,4 @@ pub mod Served
 pub mod Serves
 pub mod Loops
 pub mod Logging
+pub mod Rounds

@@ -112,12 +112,13 @@ fn make_posts<'a, M: Manages, S: Start, L: Ledger, R: AllocGlobal + Clock + Wait
     ensures none { IfOk result (λ posts. sum_by (λ p. p.handle.share.amount) posts.items ≡ 0) }
 {
     let mut rest = share;
-    let mut posts = Vec::new(rt.alloc());
+    let alloc = rt.alloc();
+    let mut posts = Vec::new(alloc);
     for _i in 1..loops {
         let one = rest.split_off(1, 0);
-        posts.push(Post::new(rt, sequencer, watch, one))?;
+        posts.push(Post::new(rt, sequencer, watch, one, alloc))?;
     }
-    posts.push(Post::new(rt, sequencer, watch, rest))?;
+    posts.push(Post::new(rt, sequencer, watch, rest, alloc))?;
     Ok(posts)
 }
 

@@ -1,6 +1,8 @@
 ghost use Rattle.std.specs.Prelude.{◌≡◌};
 ghost use Rattle.xa_server.specs.Logging.{may_log};
 
+use crate::group::{Group, appends, put};
+use std::alloc::Global;
 use std::fmt;
 use std::rt::Clock;
 use std::sync::Wait;
@@ -21,20 +23,23 @@ pub(crate) struct Post<'a, M: Manages, S: Start, L: Ledger, R> {
     watch: &'a Watch,
     rt: &'a R,
     uptime: Uptime,
+    alloc: Global,
     /// How many calls there were that may have moved the log's end.
     logged: u64,
 }
 
 impl<'a, M: Manages, S: Start, L: Ledger, R: Clock + Wait> Post<'a, M, S, L, R> {
-    ghost use Rattle.std.specs.Prelude.{◌≡◌, ◌<◌};
-    ghost use Rattle.xa_reactor.specs.Asking.{HasRequest, Tells};
+    ghost use Rattle.std.specs.Prelude.{◌≡◌, ◌<◌, All};
+    ghost use Rattle.xa_reactor.specs.Asking.{IsAnswered, TellsSome};
     ghost use Rattle.xa_server.specs.Loops.{Called};
+    ghost use Rattle.xa_server.specs.Rounds.{IsWithin, TellsAtMost, put_all};
 
     pub(crate) fn new(
         rt: &'a R,
         sequencer: &'a SharedSequencer<M, S, L>,
         watch: &'a Watch,
         share: Share<L>,
+        alloc: Global,
     ) -> Post<'a, M, S, L, R>
         requires { 0 < share.parts }
         ensures { result.handle.share ≡ share }
@@ -45,24 +50,100 @@ impl<'a, M: Manages, S: Start, L: Ledger, R: Clock + Wait> Post<'a, M, S, L, R> 
             watch,
             rt,
             uptime: Uptime::new(rt),
+            alloc,
             logged: 0,
         }
     }
 
-    // Answers an ask, by the lock where it was taken before. The next one goes on by it, but not after a call that may have
-    // waited for the device: others have their turn first.
+    // Answers those that can't log, in order.
+    fn answer_quick(&mut self, held: &mut Option<Held<'a, M, S, L>>, asks: &mut [Ask])
+        requires { All IsWithin asks.old }
+        ensures { TellsSome (Called M.Manages S.start S.base) (self.old.handle.share.parts, self.old.handle.share.amount)
+            asks.old asks.new (self.new.handle.share.parts, self.new.handle.share.amount) }
+    {
+        for ask in asks.iter_mut() {
+            self.answer_if_quick(held, ask);
+        }
+    }
+
+    // Answers those that append to the log together, if there are several: they share one write and one sync. Those that
+    // have no room with the others are left, and so are all where there is no memory.
+    fn answer_together(&mut self, held: &mut Option<Held<'a, M, S, L>>, asks: &mut [Ask])
+        requires { All IsWithin asks.old }
+        ensures { TellsSome (Called M.Manages S.start S.base) (self.old.handle.share.parts, self.old.handle.share.amount)
+            asks.old asks.new (self.new.handle.share.parts, self.new.handle.share.amount) }
+    {
+        let Ok(group) = Group::of(asks, self.alloc) else {
+            return;
+        };
+        if group.calls.len() < 2 {
+            return;
+        }
+        let mut lock = self.lock(held);
+        let answered = self.handle.call_together_held(&mut lock, &group.calls);
+        let Ok(replies) = answered else {
+            *held = Some(lock);
+            return;
+        };
+        drop(lock);
+        yield_now();
+        self.put_all(asks, &group.places, replies);
+    }
+
+    // Puts the replies of a group to their asks.
+    fn put_all(&mut self, asks: &mut [Ask], places: &[usize], replies: Vec<(usize, Reply)>)
+        ensures same { self.new.handle ≡ self.old.handle }
+        ensures put { asks.new ≡ put_all asks.old places.now replies.items }
+    {
+        for (at, reply) in replies {
+            self.logged = self.logged.wrapping_add(1);
+            self.watch.see(false, &reply);
+            put(asks, places, at, reply);
+        }
+    }
+
+    // Answers those that are left, one by one.
+    fn answer_left(&mut self, held: &mut Option<Held<'a, M, S, L>>, asks: &mut [Ask])
+        requires { All IsWithin asks.old }
+        ensures some { TellsSome (Called M.Manages S.start S.base)
+            (self.old.handle.share.parts, self.old.handle.share.amount) asks.old asks.new
+            (self.new.handle.share.parts, self.new.handle.share.amount) }
+        ensures none { All IsAnswered asks.new }
+    {
+        for ask in asks.iter_mut() {
+            self.answer(held, ask);
+        }
+    }
+
+    // Answers an ask that can't log.
+    fn answer_if_quick(&mut self, held: &mut Option<Held<'a, M, S, L>>, ask: &mut Ask)
+        requires { IsWithin ask.old }
+        ensures { TellsAtMost (Called M.Manages S.start S.base)
+            (self.old.handle.share.parts, self.old.handle.share.amount) ask.old ask.new
+            (self.new.handle.share.parts, self.new.handle.share.amount) }
+    {
+        let is_quick = match &ask.request {
+            Some(request) => !may_log(request),
+            None => false,
+        };
+        if is_quick {
+            self.answer(held, ask);
+        }
+    }
+
+    // Answers an ask that is left. The next one goes on by the same lock, but not after a call that may have waited for the
+    // device: others have their turn first.
     fn answer(&mut self, held: &mut Option<Held<'a, M, S, L>>, ask: &mut Ask)
-        requires { HasRequest ask.old }
-        ensures { Tells (λ s a q r b. Called M.Manages S.start S.base s (a.handle.share.parts, a.handle.share.amount) q r
-            (b.handle.share.parts, b.handle.share.amount)) self.old ask.old ask.new self.new }
+        requires { IsWithin ask.old }
+        ensures told { TellsAtMost (Called M.Manages S.start S.base)
+            (self.old.handle.share.parts, self.old.handle.share.amount) ask.old ask.new
+            (self.new.handle.share.parts, self.new.handle.share.amount) }
+        ensures gone { IsAnswered ask.new }
     {
         if let Some(request) = ask.request.take() {
             let lets_go = may_log(&request);
             let is_restart = self.count(&request);
-            let mut lock = match held.take() {
-                Some(lock) => lock,
-                None => self.handle.hold(),
-            };
+            let mut lock = self.lock(held);
             ask.reply = self.handle.call_held(&mut lock, ask.session, request);
             if lets_go {
                 drop(lock);
@@ -71,6 +152,14 @@ impl<'a, M: Manages, S: Start, L: Ledger, R: Clock + Wait> Post<'a, M, S, L, R> 
                 *held = Some(lock);
             }
             self.watch.see(is_restart, &ask.reply);
+        }
+    }
+
+    // The lock, where it was taken before, or newly taken.
+    fn lock(&self, held: &mut Option<Held<'a, M, S, L>>) -> Held<'a, M, S, L> {
+        match held.take() {
+            Some(lock) => lock,
+            None => self.handle.hold(),
         }
     }
 
@@ -91,6 +180,7 @@ impl<'a, M: Manages, S: Start, L: Ledger, R: Clock + Wait> Post<'a, M, S, L, R> 
             watch: _,
             rt: _,
             uptime: _,
+            alloc: _,
             logged: _,
         } = self;
         handle.into_share()
@@ -144,10 +234,13 @@ impl<M: Associates, S: Start, L: Ledger, R: Clock + Wait> Reception for Post<'_,
     }
 
     fn call_all(&mut self, asks: &mut [Ask]) {
-        let mut held = None;
-        for ask in asks.iter_mut() {
-            self.answer(&mut held, ask);
+        if asks.is_empty() {
+            return;
         }
+        let mut held = None;
+        self.answer_quick(&mut held, asks);
+        self.answer_together(&mut held, asks);
+        self.answer_left(&mut held, asks);
     }
 
     fn has_association(&self, session: u64) -> bool {
@@ -167,16 +260,7 @@ impl<M: Associates, S: Start, L: Ledger, R: Clock + Wait> Reception for Post<'_,
 fn may_log(request: &Request) -> bool
     ensures { result ≡ may_log request.now }
 {
-    matches!(
-        request,
-        Request::Prepare { .. }
-            | Request::Commit { .. }
-            | Request::Rollback { .. }
-            | Request::Forget { .. }
-            | Request::Decide { .. }
-            | Request::Restart
-            | Request::Trim
-    )
+    appends(request) || matches!(request, Request::Restart | Request::Trim)
 }
 
 /// Shows the name alone.
