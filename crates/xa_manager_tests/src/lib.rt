@@ -8,6 +8,9 @@
 //!   `plays_known`: the list of known branches; `plays_limits`: time limits of branches; `plays_trimmed`: trims;
 //!   `plays_stopped`, `trims_stopped`: crashes after a disk has stopped at some device call;
 //!   `device_calls`: each call that logs and each restart, of which any device call fails
+//! - `groups`: calls that are asked together, and are kept or refused, and those that aren't in the group;
+//!   `groups_stopped`: groups behind which a disk stops; `grouped`: `Grouped`, which groups are asked; `group_play`:
+//!   `Player`, how they are asked between the lines of a script
 //! - `examples`: the scripts of examples/; `scripted`: how a table of lines and replies is played; `script`: `Script`,
 //!   what is played; `faults`: `Fault`, a device call that fails
 //! - `one_copy`: runs by chance, whose branches are executed one at a time; `one_copy_branches`, `one_copy_scripts`:
@@ -23,6 +26,14 @@ mod device_calls;
 mod examples;
 #[cfg(test)]
 mod faults;
+#[cfg(test)]
+mod group_play;
+#[cfg(test)]
+mod grouped;
+#[cfg(test)]
+mod groups;
+#[cfg(test)]
+mod groups_stopped;
 #[cfg(test)]
 mod lines;
 #[cfg(test)]

@@ -1,0 +1,217 @@
+//! Scripts in which calls are asked together, and how a manager on disks in memory plays them.
+ghost use Rattle.std.specs.List.{AllByRecursion};
+ghost use Rattle.std.specs.Prelude.{IfSome, IsSome};
+ghost use Rattle.xa_frame.specs.Limits.{IsRequest};
+ghost use Rattle.xa_model.specs.Events.{IsAsked};
+
+use std::alloc::Global;
+use xa_codes::{Bytes, XA_OK};
+use xa_disk::{Effect, MemDisk};
+use xa_frame::{Reply, Request};
+use xa_manager::{Asked, Manager, Settings, connect_reply};
+use xa_rows::Play;
+use xa_script::{CallEffect, Line, LogFile, read_line, reply_line};
+
+/// A reply that ends with the number of the branch that is started, whichever that is.
+pub const NUMBER: &str = "0 Nothing number";
+
+/// What a call of a group is replied, with its place among those that were asked.
+pub type Told = (usize, &'static str);
+
+/// A manager with a log of so many bytes in each of two disks in memory.
+#[derive(Drop)]
+pub struct Player {
+    alloc: Global,
+    log_bytes: u64,
+    manager: Manager<MemDisk>,
+}
+
+/// Reads one more call. None where the line is no call, or there is no memory.
+fn read_call(alloc: Global, calls: &mut Vec<Asked>, line: &str) -> Option<()>
+    requires { AllByRecursion (λ c. IsAsked c.request) calls.old.items }
+    ensures { IsSome result → AllByRecursion (λ c. IsAsked c.request) calls.new.items }
+{
+    match read_line(alloc, line.as_bytes()) {
+        Ok(Line::Call(session, request)) => {
+            request.hold();
+            calls.push(Asked { session, request }).ok()
+        }
+        _ => None,
+    }
+}
+
+/// The calls of these lines.
+fn read_calls(alloc: Global, lines: &[&str]) -> Option<Vec<Asked>>
+    ensures { IfSome result (λ calls. AllByRecursion (λ c. IsAsked c.request) calls.items) }
+{
+    let mut calls = Vec::new(alloc);
+    'lines: for line in lines {
+        read_call(alloc, &mut calls, line)?;
+    }
+    Some(calls)
+}
+
+fn opened(
+    alloc: Global,
+    first: MemDisk,
+    second: MemDisk,
+    log_bytes: u64,
+) -> Option<Manager<MemDisk>> {
+    let name = Bytes::from_slice(alloc, b"xarm").ok()?;
+    Manager::open(alloc, first, second, Settings { name, log_bytes }).ok()
+}
+
+/// Whether a reply is shown so.
+fn shows(alloc: Global, reply: &Reply, want: &str) -> bool {
+    let Ok(line) = reply_line(alloc, reply) else {
+        return false;
+    };
+    if want == NUMBER {
+        return line.starts_with(want.as_bytes());
+    }
+    match line.split_last() {
+        Some((_, line)) => line == want.as_bytes(),
+        None => false,
+    }
+}
+
+fn called(manager: &mut Manager<MemDisk>, session: u64, request: Request) -> Reply
+    requires { IsRequest request }
+{
+    request.hold();
+    manager.call(session, request)
+}
+
+/// What calls of a group were replied. Where memory was wanted nothing was answered, and they are asked again.
+fn asked(manager: &mut Manager<MemDisk>, calls: &[Asked]) -> Option<Vec<(usize, Reply)>>
+    requires { AllByRecursion (λ c. IsAsked c.request) calls.now }
+{
+    match manager.call_together(calls) {
+        Ok(replies) => Some(replies),
+        Err(_) => manager.call_together(calls).ok(),
+    }
+}
+
+fn fail(
+    manager: &mut Manager<MemDisk>,
+    file: LogFile,
+    call: u64,
+    effect: CallEffect,
+) -> Option<()> {
+    let effect = match effect {
+        CallEffect::Kept => Effect::Kept,
+        CallEffect::Lost => Effect::Lost,
+    };
+    match file {
+        LogFile::Current => manager.fail(call, effect).ok(),
+        LogFile::Other => manager.fail_other(call, effect).ok(),
+    }
+}
+
+fn stop(manager: &mut Manager<MemDisk>, file: LogFile, call: u64) {
+    match file {
+        LogFile::Current => manager.stop(call),
+        LogFile::Other => manager.stop_other(call),
+    }
+}
+
+fn crashed_disks(
+    manager: Manager<MemDisk>,
+    file: LogFile,
+    keeps: u64,
+) -> Option<(MemDisk, MemDisk)> {
+    match file {
+        LogFile::Current => manager.into_crashed_disks(keeps, 0).ok(),
+        LogFile::Other => manager.into_crashed_disks(0, keeps).ok(),
+    }
+}
+
+impl Player {
+    /// One whose disks are empty.
+    pub fn new(alloc: Global, log_bytes: u64) -> Option<Player> {
+        let manager = opened(alloc, MemDisk::new(alloc), MemDisk::new(alloc), log_bytes)?;
+        Some(Player {
+            alloc,
+            log_bytes,
+            manager,
+        })
+    }
+
+    fn crash(self, file: LogFile, keeps: u64) -> Option<Player> {
+        let (first, second) = crashed_disks(self.manager, file, keeps)?;
+        let manager = opened(self.alloc, first, second, self.log_bytes)?;
+        Some(Player { manager, ..self })
+    }
+
+    fn says(self, reply: &Reply, want: &str) -> Option<Player> {
+        if shows(self.alloc, reply, want) {
+            Some(self)
+        } else {
+            None
+        }
+    }
+
+    /// Plays a line. None where it is replied otherwise.
+    pub fn line(self, line: &str, want: &str) -> Option<Player> {
+        let mut player = self;
+        match read_line(player.alloc, line.as_bytes()).ok()? {
+            Line::Connect => {
+                let reply = connect_reply(player.manager.connect());
+                player.says(&reply, want)
+            }
+            Line::Call(session, request) => {
+                let reply = called(&mut player.manager, session, request);
+                player.says(&reply, want)
+            }
+            Line::Fail { file, call, effect } => {
+                fail(&mut player.manager, file, call, effect)?;
+                Some(player)
+            }
+            Line::Stop { file, call } => {
+                stop(&mut player.manager, file, call);
+                Some(player)
+            }
+            Line::Crash { file, keeps } => player.crash(file, keeps),
+            _ => None,
+        }
+    }
+
+    /// Plays these lines, of which each has to be replied so.
+    pub fn part(self, part: &[(&str, &str)]) -> Option<Player> {
+        let mut player = self;
+        for (line, want) in part {
+            player = player.line(line, want)?;
+        }
+        Some(player)
+    }
+
+    /// Plays lines. None where one is replied otherwise.
+    pub fn play(self, play: Play) -> Option<Player> {
+        let mut player = self;
+        for part in play {
+            player = player.part(part)?;
+        }
+        Some(player)
+    }
+
+    /// Asks calls together. None where those of the group, or what they are replied, are others.
+    pub fn together(self, lines: &[&str], told: &[Told]) -> Option<Player> {
+        let mut player = self;
+        let calls = read_calls(player.alloc, lines)?;
+        let replies = asked(&mut player.manager, &calls)?;
+        if are_told(player.alloc, &replies, told) {
+            Some(player)
+        } else {
+            None
+        }
+    }
+}
+
+fn are_told(alloc: Global, replies: &[(usize, Reply)], told: &[Told]) -> bool {
+    for ((place, reply), (at, want)) in replies.iter().zip(told) {
+        if place != at || !shows(alloc, reply, want) {
+            return false;
+        }
+    }
+    replies.len() == told.len()
+}
