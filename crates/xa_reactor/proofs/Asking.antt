@@ -123,11 +123,3 @@ pub are_told : {D : Type 0} (called : ℕ → D → Question → Reply → D →
 are_told called asks told d e opened tells =
     let ready : All Ready asks = All-weaker IsOpen Ready (λ a h. opened_ready a a.request refl h.0 (short a.connection a.front a.request h.1)) asks opened in
     all_told told (all_left_true called Ready (still_ready called) asks told d e tells.some.0 tells.some.1 ready) tells.none
-
--- there was none
-pub none_turned : {D : Type 0} (called : ℕ → D → Question → Reply → D → Type 0) (asks : List Ask) (d : D) → asks ≡ [] → TurnedAll called d asks asks d
-none_turned called asks d none = record {
-  told = asks;
-  tells = record { some = ([], (refl, refl)); none = All-same IsAnswered asks [] none (All-nil IsAnswered) };
-  puts = subst (λ (xs : List Ask). PutsAll xs xs) (sym none) tt;
-}

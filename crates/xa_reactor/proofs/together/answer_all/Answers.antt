@@ -1,4 +1,4 @@
-use Rattle.xa_reactor.proofs.Asking.{are_told, have_requests, none_turned}
+use Rattle.xa_reactor.proofs.Asking.{are_told, have_requests}
 use Rattle.xa_reactor.proofs.together.answer_all.Goals as goal
 
 pub call_all-requires : goal.call_all-requires
