@@ -9,8 +9,8 @@
 //!   of the list of known branches in `known_list`
 //! - `tables`: what a manager keeps; `facts` and `refusals`, what rows ask of it, `acts`, what they change
 //! - rows that log: `row`, `Row`; `plan`, `Plan`, what one comes to before its append; `logging`, its way, `journal`, how
-//!   its record comes into the log, and `answered`, what the tables make of the device's answer; `log_space`, the room that the
-//!   log keeps free; `doubt`: `Doubt`, what is kept of a record that was lost; `done`, what a call comes to
+//!   its record comes into the log, and `answered`, what the tables make of the device's answer; `log_space`, the room
+//!   that the log keeps free; `doubt`: `Doubt`, what is kept of a record that was lost; `done`, what a call comes to
 //! - calls that are asked together, and share one append: `together`, `Asked`, and how a group is answered; `gathering`,
 //!   which calls form one; `prepares`, the rooms of its prepares; `answers`, what becomes of its branches
 //! - a boot: `settings`, `Settings`; `opening`, `restarting` or `trimming`, how it begins; `boots`, what is made
