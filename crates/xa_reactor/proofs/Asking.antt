@@ -1,7 +1,7 @@
 -- Asks that are answered together.
-use Rattle.std.proofs.Common.{◌≡◌, ◌∙◌, ℕ, ◌+◌, List, [], ◌∷◌, drop, get_or, length, set, take, Option, Some, None, Result, refl, sym, ap, inl, subst}
+use Rattle.std.proofs.Common.{◌≡◌, ◌∙◌, ℕ, List, [], ◌∷◌, ◌++◌, drop, get_or, set, take, Option, Some, None, Result, refl, sym, ap, inl, subst}
 use Rattle.std.specs.Prelude.{All, IsSomeAnd}
-use Rattle.std.proofs.lemmas.List.Elements.{All-cons, All-get_or, All-head, All-nil, All-same, All-set, All-tail, All-weaker}
+use Rattle.std.proofs.lemmas.List.Elements.{All-cons, All-get_or, All-head, All-nil, All-push, All-same, All-set, All-tail, All-weaker}
 use Rattle.xa_assoc.specs.declared.fault.ConnectFault.{ConnectFault}
 use Rattle.xa_connection.specs.declared.connection.Connection.{Connection}
 use Rattle.xa_connection.specs.declared.front.Front.{Front}
@@ -95,6 +95,16 @@ opens_at called connected left table old key (Asks ask) new d e has (lends, same
 opens_at called connected left table old key (Over step) new d e has (answered, carried) =
     tends_answered connected called left table table d e key old.session has answered refl
 
+-- those that are lent stay so while the table stays
+pub lent_still : (old new : Table) (asks : List Ask) → new ≡ old → All (IsLent old) asks → All (IsLent new) asks
+lent_still old new asks same lent = subst (λ (t : Table). All (IsLent t) asks) (sym same) lent
+
+-- with one more
+pub lent_more : (old new : Table) (asks more : List Ask) (ask : Ask) → new ≡ old → more ≡ asks ++ ask ∷ [] → All (IsLent old) asks
+    → IsLent new ask → All (IsLent new) more
+lent_more old new asks more ask same is lent one =
+    All-same (IsLent new) more (asks ++ ask ∷ []) is (All-push (IsLent new) asks ask (lent_still old new asks same lent) one)
+
 pub are_open : (table : Table) (asks : List Ask) → All (IsLent table) asks → All IsOpen asks
 are_open table asks lent = All-weaker (IsLent table) IsOpen (λ a h. h.1) asks lent
 
@@ -123,3 +133,11 @@ pub are_told : {D : Type 0} (called : ℕ → D → Question → Reply → D →
 are_told called asks told d e opened tells =
     let ready : All Ready asks = All-weaker IsOpen Ready (λ a h. opened_ready a a.request refl h.0 (short a.connection a.front a.request h.1)) asks opened in
     all_told told (all_left_true called Ready (still_ready called) asks told d e tells.some.0 tells.some.1 ready) tells.none
+
+-- their requests are gone still
+pub put_answered : (told put : List Ask) → PutsAll told put → All IsAnswered told → All IsAnswered put
+put_answered [] [] puts gone = All-nil IsAnswered
+put_answered [] (b ∷ put) puts gone = absurd puts
+put_answered (a ∷ told) [] puts gone = absurd puts
+put_answered (a ∷ told) (b ∷ put) puts gone =
+    All-cons IsAnswered b put (puts.0.request ∙ All-head IsAnswered a told gone) (put_answered told put puts.1 (All-tail IsAnswered a told gone))

@@ -81,6 +81,7 @@ IsTold a = IsShortFront a.front × IsReply a.reply
 pub record Puts (a b : Ask) : Type 0 where
   pub key : b.key ≡ a.key
   pub session : b.session ≡ a.session
+  pub request : b.request ≡ a.request
   pub answering : Answering
   pub replies : Replies a.connection a.front a.reply answering b.connection
 

@@ -7,3 +7,4 @@ pub mod Trimmed
 pub mod Aside
 pub mod Asking
 pub mod Opening
+pub mod Together

@@ -6,7 +6,7 @@
 //! - `socket`, `listener`: a connection's socket, and what connections come from
 //! - `peer`: a connection with its socket, and its turn; `peers`: those of a loop, whose turns come one behind the other
 //! - `ask`: a request that a connection brought in; `together`: the turns of a round, with one call at the door for all
-//!   requests that they bring in
+//!   requests that wait for no device, whose replies are sent then, and another for the rest
 //! - `tending`: a loop, round by round (`round`, `timing`); `acceptor`: the one that accepts; `common`: what the loops
 //!   share, with a `mailbox` for each
 //! - `trims`: when the log is trimmed; `trimming`: by which session; `trimmed`: what became of that

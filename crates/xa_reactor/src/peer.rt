@@ -1,5 +1,6 @@
 ghost use Rattle.std.specs.Prelude.{◌≡◌};
 ghost use Rattle.xa_connection.specs.Calls.{new_connection};
+ghost use Rattle.xa_reactor.specs.Asking.{IsAnswered};
 ghost use Rattle.xa_reactor.specs.Opening.{Opens};
 ghost use Rattle.xa_reactor.specs.Turning.{CarriesOn, HasAnswered, HasFed, HasSent, HasTaken};
 
@@ -139,6 +140,7 @@ impl Peer {
 
     /// The rest of a turn whose request was answered: the connection is given back, and the reply sent.
     pub(crate) fn close_turn(&mut self, round: Round<'_>, ask: Ask) -> Step
+        requires { IsAnswered ask }
         ensures session { self.new.session ≡ self.old.session }
         ensures sent { HasSent ask.connection self.new.connection }
     {

@@ -1,5 +1,6 @@
 ghost use Rattle.std.specs.Prelude.{◌≡◌, ℕ, None, false, length};
 ghost use Rattle.slab.specs.Slab.{get};
+ghost use Rattle.xa_reactor.specs.Asking.{IsAnswered};
 ghost use Rattle.xa_reactor.specs.Opening.{OpensAt};
 ghost use Rattle.xa_reactor.specs.Tending.{Tends, nobody, sessions_of};
 ghost use Rattle.xa_reactor.specs.Timing.{IsToEnd};
@@ -90,13 +91,12 @@ impl Peers {
         open_in(&mut self.all, round, scratch, door, key)
     }
 
-    /// Closes the turn of a connection, whose request was answered.
-    pub(crate) fn close_turn<D: Reception>(&mut self, round: Round<'_>, door: &mut D, ask: Ask)
-        ensures { Tends D.connected D.called D.left (sessions_of self.old.all) door.old (sessions_of self.new.all) door.new }
+    /// Closes the turn of a connection, whose request was answered. What comes behind it.
+    pub(crate) fn close_turn(&mut self, round: Round<'_>, ask: Ask) -> Step
+        requires { IsAnswered ask }
+        ensures { sessions_of self.new.all ≡ sessions_of self.old.all }
     {
-        let key = ask.key;
-        let step = close_in(&mut self.all, round, ask);
-        self.go_on(door, key, step);
+        close_in(&mut self.all, round, ask)
     }
 
     /// The next connection that has a turn has it.
@@ -212,6 +212,7 @@ fn open_in<D: Reception>(
 }
 
 fn close_in(all: &mut Slab<Peer>, round: Round<'_>, ask: Ask) -> Step
+    requires { IsAnswered ask }
     ensures { sessions_of all.new ≡ sessions_of all.old }
 {
     match all.get_mut(ask.key) {

@@ -1,6 +1,7 @@
 use crate::ask::Ask;
 use xa_assoc::ConnectFault;
 use xa_desk::Door;
+use xa_frame::Request;
 
 /// A door at which sessions connect, too.
 pub trait Reception: Door {
@@ -25,6 +26,19 @@ pub trait Reception: Door {
     fn call_all(&mut self, asks: &mut [Ask])
         requires { All HasRequest asks.old }
         ensures { TellsAll Self.called self.old asks.old asks.new self.new };
+
+    /// Whether the answer to a request may wait for a device. A hint: the requests of a round that wait for none are answered
+    /// first.
+    fn may_wait(&self, request: &Request) -> bool;
+
+    /// This ask will be at this place among those of the next `call_all` whose requests may wait. So from now on its request
+    /// may be answered together with those of other doors, by whichever door comes first; its reply is given by that
+    /// `call_all`. A hint: an ask that wasn't posted is answered as well.
+    fn post(&self, place: usize, ask: &Ask)
+        requires { HasRequest ask.now };
+
+    /// Whether a request would be answered now without waiting for other doors. A hint.
+    fn is_free(&self) -> bool;
 
     /// Whether a session has an association of its own with a branch: it is at work for it, or has suspended that.
     fn has_association(&self, session: u64) -> bool

@@ -234,8 +234,8 @@ fn notice<D: Reception>(peers: &mut Peers, door: &mut D, event: &Event) -> bool
     false
 }
 
-// The turns of those that have one: of several together, where there is memory for that, else one by one. After them the
-// log is trimmed, where that is due.
+// The turns of those that have one: together, where there is memory for that, else one by one. After them the log is
+// trimmed, where that is due.
 fn give_turns<D: Reception, R: AllocGlobal + Clock + Eprint + Wait>(
     rt: &R,
     common: &Common<'_>,
@@ -247,10 +247,11 @@ fn give_turns<D: Reception, R: AllocGlobal + Clock + Eprint + Wait>(
     ensures { Tends D.connected D.called D.left (sessions_of peers.old.all) door.old (sessions_of peers.new.all) door.new }
 {
     let turns = peers.queued();
-    if turns > 1 && tools.together.reserve(turns) {
+    if turns > 0 && tools.together.begin(turns) {
         tools
             .together
-            .give_turns(peers, round, &mut tools.scratch, door, turns);
+            .open_all(peers, round, &mut tools.scratch, door, turns);
+        tools.together.close_all(peers, round, door);
         keep_short(rt, common, door, round.now, &mut tools.seen);
         return;
     }

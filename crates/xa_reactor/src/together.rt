@@ -1,7 +1,9 @@
 //! The turns of a round, with one call at the door for all requests that they bring in.
-ghost use Rattle.std.specs.Prelude.{All};
-ghost use Rattle.xa_reactor.specs.Asking.{IsLent, IsOpen, IsTold, Puts, PutsAll, TurnedAll};
-ghost use Rattle.xa_reactor.specs.Tending.{Tends, sessions_of};
+ghost use Rattle.std.specs.Prelude.{ℕ, ◌≡◌, ◌+◌, ◌≤◌, [], All};
+ghost use Rattle.std.specs.Vec.{vec_capacity, vec_len};
+ghost use Rattle.xa_reactor.specs.Asking.{IsAnswered, IsLent, IsOpen, IsTold, Puts, PutsAll, TurnedAll};
+ghost use Rattle.xa_reactor.specs.Tending.{Table, Tends, sessions_of};
+ghost use Rattle.xa_reactor.specs.Together.{HasLent, IsOver};
 
 use crate::ask::Ask;
 use crate::peer::{Opened, Step};
@@ -13,44 +15,37 @@ use std::alloc::Global;
 /// What the turns of a round came to, until all of them are over.
 #[derive(Drop)]
 pub(crate) struct Together {
-    /// The requests that were brought in.
-    asks: Vec<Ask>,
-    /// What comes after those turns that brought in none, by the connections' keys.
+    /// The requests that were brought in and wait for no device.
+    quick: Vec<Ask>,
+    /// Those that may wait for one.
+    waiting: Vec<Ask>,
+    /// What comes after those turns that need no answer any more, by the connections' keys.
     over: Vec<(usize, Step)>,
 }
 
 impl Together {
     pub(crate) fn new(alloc: Global) -> Together {
         Together {
-            asks: Vec::new(alloc),
+            quick: Vec::new(alloc),
+            waiting: Vec::new(alloc),
             over: Vec::new(alloc),
         }
     }
 
-    /// Makes room for so many turns. Whether there was memory for it.
-    pub(crate) fn reserve(&mut self, turns: usize) -> bool {
-        self.asks.reserve(turns).is_ok() && self.over.reserve(turns).is_ok()
-    }
-
-    /// So many turns, of those that have one next, as far as there is room: each is opened, the requests that were brought
-    /// in are answered, and then each turn is closed.
-    pub(crate) fn give_turns<D: Reception>(
-        &mut self,
-        peers: &mut Peers,
-        round: Round<'_>,
-        scratch: &mut [u8],
-        door: &mut D,
-        turns: usize,
-    )
-        ensures { Tends D.connected D.called D.left (sessions_of peers.old.all) door.old (sessions_of peers.new.all) door.new }
+    /// Begins a round with room for so many turns. Whether there was memory for it.
+    pub(crate) fn begin(&mut self, turns: usize) -> bool
+        ensures { (table : Table) → HasLent table self.new }
     {
-        self.open_all(peers, round, scratch, door, turns);
-        answer_all(&mut self.asks, door);
-        self.close_all(peers, round, door);
+        self.quick.clear();
+        self.waiting.clear();
+        self.over.clear();
+        self.quick.reserve(turns).is_ok()
+            && self.waiting.reserve(turns).is_ok()
+            && self.over.reserve(turns).is_ok()
     }
 
-    // Opens so many turns.
-    fn open_all<D: Reception>(
+    /// Opens so many turns, of those that have one next, as far as there is room.
+    pub(crate) fn open_all<D: Reception>(
         &mut self,
         peers: &mut Peers,
         round: Round<'_>,
@@ -58,10 +53,10 @@ impl Together {
         door: &mut D,
         turns: usize,
     )
+        requires { HasLent (sessions_of peers.old.all) self.old }
         ensures tends { Tends D.connected D.called D.left (sessions_of peers.old.all) door.old (sessions_of peers.new.all) door.new }
-        ensures asks { All (IsLent (sessions_of peers.new.all)) self.new.asks.items }
+        ensures lent { HasLent (sessions_of peers.new.all) self.new }
     {
-        self.asks.clear();
         for _ in 0..turns {
             self.open_turn(peers, round, scratch, door);
         }
@@ -75,39 +70,109 @@ impl Together {
         scratch: &mut [u8],
         door: &mut D,
     )
-        requires { All (IsLent (sessions_of peers.old.all)) self.old.asks.items }
+        requires { HasLent (sessions_of peers.old.all) self.old }
         ensures tends { Tends D.connected D.called D.left (sessions_of peers.old.all) door.old (sessions_of peers.new.all) door.new }
-        ensures asks { All (IsLent (sessions_of peers.new.all)) self.new.asks.items }
+        ensures lent { HasLent (sessions_of peers.new.all) self.new }
     {
-        if self.asks.len() == self.asks.capacity() || self.over.len() == self.over.capacity() {
+        let turns = self.over.len() + self.quick.len() + self.waiting.len();
+        if turns == self.over.capacity()
+            || self.quick.len() == self.quick.capacity()
+            || self.waiting.len() == self.waiting.capacity()
+        {
             return;
         }
         let Some(key) = peers.next() else {
             return;
         };
         match peers.open_turn(round, scratch, door, key) {
-            Opened::Asks(ask) => self.asks.push_reserved(ask),
+            Opened::Asks(ask) => {
+                if may_wait(door, &ask) {
+                    door.post(self.waiting.len(), &ask);
+                    self.waiting.push_reserved(ask);
+                } else {
+                    self.quick.push_reserved(ask);
+                }
+            }
             Opened::Over(step) => self.over.push_reserved((key, step)),
         }
     }
 
-    // Closes the turns.
-    fn close_all<D: Reception>(&mut self, peers: &mut Peers, round: Round<'_>, door: &mut D)
-        ensures { Tends D.connected D.called D.left (sessions_of peers.old.all) door.old (sessions_of peers.new.all) door.new }
+    /// Answers the requests that were brought in, and closes their turns. The replies to those that wait for no device are
+    /// sent before the others are answered. What comes after the turns comes last: until then each session stays under its
+    /// key.
+    pub(crate) fn close_all<D: Reception>(
+        &mut self,
+        peers: &mut Peers,
+        round: Round<'_>,
+        door: &mut D,
+    )
+        requires { HasLent (sessions_of peers.old.all) self.old }
+        ensures tends { Tends D.connected D.called D.left (sessions_of peers.old.all) door.old (sessions_of peers.new.all) door.new }
+        ensures over { IsOver self.new }
     {
-        for ask in self.asks.drain(..) {
-            peers.close_turn(round, door, ask);
-        }
-        for (key, step) in self.over.drain(..) {
-            peers.go_on(door, key, step);
-        }
+        give_replies(&mut self.quick, &mut self.over, peers, round, door);
+        give_replies(&mut self.waiting, &mut self.over, peers, round, door);
+        go_on_all(&mut self.over, peers, door);
+    }
+}
+
+// Whether the answer to an ask may wait for a device.
+fn may_wait<D: Reception>(door: &D, ask: &Ask) -> bool {
+    match &ask.request {
+        Some(request) => door.may_wait(request),
+        None => false,
+    }
+}
+
+// Answers requests at a door, and sends the replies. What comes after their turns is put with the rest of that.
+fn give_replies<D: Reception>(
+    asks: &mut Vec<Ask>,
+    over: &mut Vec<(usize, Step)>,
+    peers: &mut Peers,
+    round: Round<'_>,
+    door: &mut D,
+)
+    requires lent { All (IsLent (sessions_of peers.old.all)) asks.old.items }
+    requires room { vec_len over.old + vec_len asks.old ≤ vec_capacity over.old }
+    ensures tends { Tends D.connected D.called D.left (sessions_of peers.old.all) door.old (sessions_of peers.new.all) door.new }
+    ensures same { sessions_of peers.new.all ≡ sessions_of peers.old.all }
+    ensures none { asks.new.items ≡ [] }
+    ensures room { (vec_len over.new ≤ vec_len over.old + vec_len asks.old) × (vec_capacity over.new ≡ vec_capacity over.old) }
+{
+    answer_all(asks, door);
+    send_all(asks, over, peers, round);
+}
+
+// Gives the connections of asks that were answered back, and sends their replies.
+fn send_all(asks: &mut Vec<Ask>, over: &mut Vec<(usize, Step)>, peers: &mut Peers, round: Round<'_>)
+    requires answered { All IsAnswered asks.old.items }
+    requires room { vec_len over.old + vec_len asks.old ≤ vec_capacity over.old }
+    ensures same { sessions_of peers.new.all ≡ sessions_of peers.old.all }
+    ensures none { asks.new.items ≡ [] }
+    ensures room { (vec_len over.new ≤ vec_len over.old + vec_len asks.old) × (vec_capacity over.new ≡ vec_capacity over.old) }
+{
+    for ask in asks.drain(..) {
+        let key = ask.key;
+        let step = peers.close_turn(round, ask);
+        over.push_reserved((key, step));
+    }
+}
+
+// What comes after turns.
+fn go_on_all<D: Reception>(over: &mut Vec<(usize, Step)>, peers: &mut Peers, door: &mut D)
+    ensures tends { Tends D.connected D.called D.left (sessions_of peers.old.all) door.old (sessions_of peers.new.all) door.new }
+    ensures none { over.new.items ≡ [] }
+{
+    for (key, step) in over.drain(..) {
+        peers.go_on(door, key, step);
     }
 }
 
 // Answers requests at a door, and puts the replies to their connections.
 fn answer_all<D: Reception>(asks: &mut [Ask], door: &mut D)
     requires { All IsOpen asks.old }
-    ensures { TurnedAll D.called door.old asks.old asks.new door.new }
+    ensures turned { TurnedAll D.called door.old asks.old asks.new door.new }
+    ensures answered { All IsAnswered asks.new }
 {
     if asks.is_empty() {
         return;

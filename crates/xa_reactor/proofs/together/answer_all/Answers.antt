@@ -1,4 +1,4 @@
-use Rattle.xa_reactor.proofs.Asking.{are_told, have_requests}
+use Rattle.xa_reactor.proofs.Asking.{are_told, have_requests, put_answered}
 use Rattle.xa_reactor.proofs.together.answer_all.Goals as goal
 
 pub call_all-requires : goal.call_all-requires
@@ -8,5 +8,8 @@ pub put_all-requires : goal.put_all-requires
 put_all-requires g c =
     are_told g.D.Door.called c.args.asks.now c.call_all.new.asks c.args.door.now c.call_all.new.self c.requires c.call_all.ensures
 
-pub returns : goal.returns
-returns g c = record { told = c.call_all.new.asks; tells = c.call_all.ensures; puts = c.put_all.ensures }
+pub returns-clause-turned : goal.returns-clause-turned
+returns-clause-turned g c = record { told = c.call_all.new.asks; tells = c.call_all.ensures; puts = c.put_all.ensures }
+
+pub returns-clause-answered : goal.returns-clause-answered
+returns-clause-answered g c = put_answered c.call_all.new.asks c.put_all.new.asks c.put_all.ensures c.call_all.ensures.none

@@ -1,13 +1,16 @@
 use Rattle.xa_reactor.specs.Tending.{sessions_of}
-use Rattle.xa_reactor.proofs.Doing.{tends_twice}
+use Rattle.xa_reactor.proofs.Asking.{lent_still}
+use Rattle.xa_reactor.proofs.Doing.{tends_thrice}
 use Rattle.xa_reactor.proofs.together.Together.close_all.Goals as goal
 
-pub loop-ask-preserved : goal.loop-ask-preserved
-loop-ask-preserved g c =
-    tends_twice g.D.Reception.connected g.D.Door.called g.D.Door.left (sessions_of c.args.peers.now.all) (sessions_of c.loop-ask.peers.all) (sessions_of c.close_turn.new.self.all)
-    c.args.door.now c.loop-ask.door c.close_turn.new.door c.loop-ask.invariant c.close_turn.ensures
+pub give_replies-requires-2-clause-lent : goal.give_replies-requires-2-clause-lent
+give_replies-requires-2-clause-lent g c =
+    lent_still (sessions_of c.args.peers.now.all) (sessions_of c.give_replies.new.peers.all) c.args.self.now.waiting.items
+    c.give_replies.ensures.same c.requires.waiting
 
-pub loop-key-preserved : goal.loop-key-preserved
-loop-key-preserved g c =
-    tends_twice g.D.Reception.connected g.D.Door.called g.D.Door.left (sessions_of c.args.peers.now.all) (sessions_of c.loop-key.peers.all) (sessions_of c.go_on.new.self.all)
-    c.args.door.now c.loop-key.door c.go_on.new.door c.loop-key.invariant c.go_on.ensures
+pub returns-clause-tends : goal.returns-clause-tends
+returns-clause-tends g c =
+    tends_thrice g.D.Reception.connected g.D.Door.called g.D.Door.left (sessions_of c.args.peers.now.all) (sessions_of c.give_replies.new.peers.all)
+    (sessions_of c.give_replies-2.new.peers.all) (sessions_of c.go_on_all.new.peers.all)
+    c.args.door.now c.give_replies.new.door c.give_replies-2.new.door c.go_on_all.new.door
+    c.give_replies.ensures.tends c.give_replies-2.ensures.tends c.go_on_all.ensures.tends

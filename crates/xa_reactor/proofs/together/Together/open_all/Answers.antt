@@ -6,5 +6,5 @@ pub loop-preserved : goal.loop-preserved
 loop-preserved g c = record {
   tends = tends_twice g.D.Reception.connected g.D.Door.called g.D.Door.left (sessions_of c.args.peers.now.all) (sessions_of c.loop.peers.all) (sessions_of c.open_turn.new.peers.all)
       c.args.door.now c.loop.door c.open_turn.new.door c.loop.invariant.tends c.open_turn.ensures.tends;
-  asks = c.open_turn.ensures.asks;
+  lent = c.open_turn.ensures.lent;
 }

@@ -1,10 +1,9 @@
-use Rattle.std.specs.Prelude.{All}
-use Rattle.xa_reactor.specs.Asking.{IsLent}
 use Rattle.xa_reactor.specs.Tending.{Tends, sessions_of}
+use Rattle.xa_reactor.specs.Together.{HasLent}
 use Rattle.xa_reactor.proofs.together.Together.open_all.Given as goal
 
 abbrev pub invariant-loop : goal.invariant-loop
 invariant-loop g l = record {
   tends : Tends g.D.Reception.connected g.D.Door.called g.D.Door.left (sessions_of l.initial.peers.all) l.initial.door (sessions_of l.peers.all) l.door;
-  asks : All (IsLent (sessions_of l.peers.all)) l.self.asks.items;
+  lent : HasLent (sessions_of l.peers.all) l.self;
 }

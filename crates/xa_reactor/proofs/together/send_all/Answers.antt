@@ -1,0 +1,43 @@
+use Rattle.std.proofs.Common.{◌≡◌, ◌∙◌, ◌+◌, ◌-◌, arith, refl, subst, sym}
+use Rattle.std.specs.Prelude.{All}
+use Rattle.std.specs.Vec.Iter.{drain_items, drain_len}
+use Rattle.std.specs.Vec.{vec_len}
+use Rattle.std.proofs.lemmas.List.Elements.{All-head, All-same, All-take, All-tail}
+use Rattle.xa_reactor.specs.Asking.{IsAnswered}
+use Rattle.xa_reactor.proofs.together.send_all.Goals as goal
+
+pub loop-ask-init : goal.loop-ask-init
+loop-ask-init c =
+    let same = c.into_iter-ask-iterator.ensures.into_iter_gives in
+    record {
+      answered = subst (λ d. All IsAnswered (drain_items d)) (sym same)
+          (All-same IsAnswered _ _ c.drain-ask-items.ensures.rest (All-take IsAnswered (vec_len c.args.asks.now - 0) c.args.asks.now.items c.requires.answered));
+      count = subst (λ d. vec_len c.args.over.now + drain_len d ≡ vec_len c.args.over.now + vec_len c.args.asks.now) (sym same) (omega (arith, c.drain-ask-items.ensures.len));
+      capacity = refl;
+      same = refl;
+    }
+
+pub close_turn-step-requires : goal.close_turn-step-requires
+close_turn-step-requires c =
+    All-head IsAnswered c.in-Some.ask _ (All-same IsAnswered _ _ (sym c.in-Some.ensures.steps.0) c.loop-ask.invariant.answered)
+
+pub push_reserved-requires : goal.push_reserved-requires
+push_reserved-requires c =
+    let less : drain_len c.next.new.self + 1 ≡ drain_len c.loop-ask.ask-iterator = c.in-Some.ensures.steps.1 in
+    omega (arith, less, c.loop-ask.invariant.count, c.loop-ask.invariant.capacity, c.requires.room)
+
+pub loop-ask-preserved : goal.loop-ask-preserved
+loop-ask-preserved c =
+    let less : drain_len c.next.new.self + 1 ≡ drain_len c.loop-ask.ask-iterator = c.in-Some.ensures.steps.1 in
+    record {
+      answered = All-tail IsAnswered c.in-Some.ask _ (All-same IsAnswered _ _ (sym c.in-Some.ensures.steps.0) c.loop-ask.invariant.answered);
+      count = omega (arith, less, c.loop-ask.invariant.count, c.push_reserved.ensures.len);
+      capacity = c.push_reserved.ensures.capacity ∙ c.loop-ask.invariant.capacity;
+      same = c.close_turn-step.ensures ∙ c.loop-ask.invariant.same;
+    }
+
+pub returns-clause-same : goal.returns-clause-same
+returns-clause-same c = c.loop-ask.invariant.same
+
+pub returns-clause-room : goal.returns-clause-room
+returns-clause-room c = (omega (arith, c.loop-ask.invariant.count), c.loop-ask.invariant.capacity)
