@@ -7,8 +7,9 @@
 //! - `peer`: a connection with its socket, and its turn; `peers`: those of a loop, whose turns come one behind the other
 //! - `ask`: a request that a connection brought in; `together`: the turns of a round, with one call at the door for all
 //!   requests that wait for no device, whose replies are sent then, and another for the rest
-//! - `tending`: a loop, round by round (`round`, `timing`); `acceptor`: the one that accepts; `common`: what the loops
-//!   share, with a `mailbox` for each
+//! - `tending`: a loop, round by round (`round`, `timing`, `clock`): while another loop holds up its answers, it takes in
+//!   more requests; `noticing`: what events tell it; `acceptor`: the one that accepts; `common`: what the loops share, with
+//!   a `mailbox` for each
 //! - `trims`: when the log is trimmed; `trimming`: by which session; `trimmed`: what became of that
 //! - `laws`: `trims_are_due`, `trims_are_told`, worked rows
 #![tactic(auto)]
@@ -16,11 +17,13 @@
 mod acceptor;
 mod ask;
 mod cause;
+mod clock;
 mod common;
 mod laws;
 mod listener;
 mod loops;
 mod mailbox;
+mod noticing;
 mod peer;
 mod peers;
 mod reception;

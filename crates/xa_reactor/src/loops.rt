@@ -5,8 +5,9 @@ ghost use Rattle.xa_reactor.specs.Tending.{HasTended, HaveTended, SeedsHaveTende
 use crate::common::{Common, Settings};
 use crate::listener::Listener;
 use crate::mailbox::Mailbox;
+use crate::noticing::WAKER;
 use crate::reception::Reception;
-use crate::tending::{WAKER, tend};
+use crate::tending::tend;
 use crate::watch::Watch;
 use mio::{Poll, Waker};
 use std::alloc::AllocError;

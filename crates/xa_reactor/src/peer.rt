@@ -29,7 +29,7 @@ pub(crate) struct Peer {
     is_ending: bool,
     /// Whether events tell when the socket takes more.
     writes: bool,
-    /// Whether it waits for its turn.
+    /// Whether it waits for its turn, or its connection is lent in one.
     is_queued: bool,
     /// When bytes last came or went, in milliseconds since the loop began.
     since: u64,
@@ -123,14 +123,18 @@ impl Peer {
             return Opened::Over(Step::Ends);
         }
         match self.connection.asked(round.alloc) {
-            Asked::One(count, Question::Call(request)) => Opened::Asks(Ask {
-                key,
-                connection: mem::replace(&mut self.connection, Connection::new(round.alloc)),
-                front: Front::Whole(count),
-                session: self.session,
-                request: Some(request),
-                reply: Reply::plain(XA_OK),
-            }),
+            Asked::One(count, Question::Call(request)) => {
+                // no event opens another turn while the connection is lent
+                self.is_queued = true;
+                Opened::Asks(Ask {
+                    key,
+                    connection: mem::replace(&mut self.connection, Connection::new(round.alloc)),
+                    front: Front::Whole(count),
+                    session: self.session,
+                    request: Some(request),
+                    reply: Reply::plain(XA_OK),
+                })
+            }
             asked => {
                 let _answering = self.connection.answer_asked(door, self.session, asked);
                 Opened::Over(self.send(round, key))
@@ -150,6 +154,7 @@ impl Peer {
             ..
         } = ask;
         self.connection = connection;
+        self.is_queued = false;
         self.send(round, key)
     }
 

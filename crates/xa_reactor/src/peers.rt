@@ -70,6 +70,23 @@ impl Peers {
         }
     }
 
+    /// The same while connections are lent: none ends, as room was made for the turn.
+    pub(crate) fn note(&mut self, event: &Event)
+        ensures { sessions_of self.new.all ≡ sessions_of self.old.all }
+    {
+        let key = event.token().0;
+        if notice_in(&mut self.all, event, key) {
+            let _queued = self.queue.push_back(key);
+        }
+    }
+
+    /// Makes room for so many turns more. Whether there was memory for it.
+    pub(crate) fn reserve(&mut self, turns: usize) -> bool
+        ensures { self.new.all ≡ self.old.all }
+    {
+        self.queue.reserve(turns).is_ok()
+    }
+
     /// The key of the next connection that has a turn.
     pub(crate) fn next(&mut self) -> Option<usize>
         ensures { self.new.all ≡ self.old.all }

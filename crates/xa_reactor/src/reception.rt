@@ -27,17 +27,17 @@ pub trait Reception: Door {
         requires { All HasRequest asks.old }
         ensures { TellsAll Self.called self.old asks.old asks.new self.new };
 
-    /// Whether the answer to a request may wait for a device. A hint: the requests of a round that wait for none are answered
-    /// first.
+    /// Whether the answer to a request may wait for a device. A hint: those of a round that don't are answered before the
+    /// others.
     fn may_wait(&self, request: &Request) -> bool;
 
-    /// This ask will be at this place among those of the next `call_all` whose requests may wait. So from now on its request
-    /// may be answered together with those of other doors, by whichever door comes first; its reply is given by that
-    /// `call_all`. A hint: an ask that wasn't posted is answered as well.
+    /// This ask will be at this place among those of the next `call_all` whose requests may wait. From now on its request may
+    /// be answered together with those of other doors, by whichever door comes first; its reply is given by that
+    /// `call_all`. A hint: what wasn't posted is answered as well.
     fn post(&self, place: usize, ask: &Ask)
         requires { HasRequest ask.now };
 
-    /// Whether a request would be answered now without waiting for other doors. A hint.
+    /// Whether a request would be answered now, without waiting for other doors. A hint.
     fn is_free(&self) -> bool;
 
     /// Whether a session has an association of its own with a branch: it is at work for it, or has suspended that.

@@ -1,31 +1,29 @@
 //! One loop.
+ghost use Rattle.std.specs.Prelude.{◌≡◌};
 ghost use Rattle.xa_reactor.specs.Tending.{HasTended, Tends, sessions_of};
+ghost use Rattle.xa_reactor.specs.Together.{HasLent};
 
 use crate::acceptor::Acceptor;
+use crate::clock::LoopClock;
 use crate::common::Common;
+use crate::noticing::{LISTENER, note_all, notice_all};
 use crate::peers::Peers;
 use crate::reception::Reception;
 use crate::round::Round;
-use crate::timing::{FEW_EVENTS, LOOK, LOOKS, Limits, wait_of};
+use crate::timing::{FEW_EVENTS, GATHERS, LOOKS, Limits, wait_of};
 use crate::together::Together;
 use crate::trimming::{begin_trims, keep_short};
-use mio::event::Event;
-use mio::{Events, Poll, Token};
+use mio::{Events, Poll};
 use std::alloc::Global;
 use std::io;
 use std::rt::Clock;
 use std::sync::Wait;
 use std::thread::yield_now;
-use std::time::{Duration, Instant};
+use std::time::Duration;
 use xa_connection::MOST_INPUT;
 
 /// How many events one wait gives at most.
 const MOST_EVENTS: usize = 256;
-
-/// The tokens of the listener and of what wakes the loop. A connection's is its key.
-pub(crate) const LISTENER: Token = Token(usize::MAX);
-
-pub(crate) const WAKER: Token = Token(usize::MAX - 1);
 
 /// Serves the connections that are handed to a loop, at a door, until no more come, or all loops are stopped. The first
 /// loop that begins accepts them. Whether nothing failed; else all loops are stopped.
@@ -128,23 +126,121 @@ impl Loop {
         ensures { Tends D.connected D.called D.left (sessions_of peers.old.all) door.old (sessions_of peers.new.all) door.new }
     {
         self.wait(rt, common, peers)?;
-        let round = Round {
-            alloc: rt.alloc(),
-            registry: self.poll.registry(),
-            now: self.clock.now,
-        };
         let is_look = self.clock.is_look();
-        let accepts = notice_all(peers, door, &self.events);
+        let noticed = notice_all(peers, door, &self.events);
         let before = peers.len();
-        give_turns(rt, common, round, &mut self.tools, peers, door);
+        let gathered = self.give_turns(rt, common, peers, door);
+        let round = Round::new(&self.poll, rt.alloc(), self.clock.now);
         look(common, round, peers, door, is_look);
         common.leave(before.saturating_sub(peers.len()) as u64);
+        let accepts = noticed || gathered;
         accept(rt, common, &mut self.acceptor, accepts, round.now);
         // read before what was handed is taken: what is handed later is no more
         let is_over = common.is_over();
         take_in(rt, common, self.index, round, peers, door);
         tell(rt, common);
         Ok(goes_on(common, is_over, peers))
+    }
+
+    // The turns of those that have one: together, where there is memory for that, else one by one. After them the log is
+    // trimmed, where that is due. Whether a connection waits to be accepted.
+    fn give_turns<D: Reception, R: AllocGlobal + Clock + Eprint + Wait>(
+        &mut self,
+        rt: &R,
+        common: &Common<'_>,
+        peers: &mut Peers,
+        door: &mut D,
+    ) -> bool
+        ensures { Tends D.connected D.called D.left (sessions_of peers.old.all) door.old (sessions_of peers.new.all) door.new }
+    {
+        let turns = peers.queued();
+        if turns > 0 && self.tools.together.begin(turns) {
+            return self.give_together(rt, common, peers, door);
+        }
+        let round = Round::new(&self.poll, rt.alloc(), self.clock.now);
+        give_each(rt, common, round, &mut self.tools, peers, door, turns);
+        false
+    }
+
+    // The turns of those that have one, and of those that have one while another loop holds up the answers.
+    fn give_together<D: Reception, R: AllocGlobal + Clock + Eprint + Wait>(
+        &mut self,
+        rt: &R,
+        common: &Common<'_>,
+        peers: &mut Peers,
+        door: &mut D,
+    ) -> bool
+        requires { HasLent (sessions_of peers.old.all) self.old.tools.together }
+        ensures { Tends D.connected D.called D.left (sessions_of peers.old.all) door.old (sessions_of peers.new.all) door.new }
+    {
+        self.open_turns(rt.alloc(), peers, door);
+        let accepts = self.gather(rt.alloc(), peers, door);
+        let round = Round::new(&self.poll, rt.alloc(), self.clock.now);
+        self.tools.together.close_all(peers, round, door);
+        keep_short(rt, common, door, round.now, &mut self.tools.seen);
+        accepts
+    }
+
+    // Opens the turns of those that have one.
+    fn open_turns<D: Reception>(&mut self, alloc: Global, peers: &mut Peers, door: &mut D)
+        requires { HasLent (sessions_of peers.old.all) self.old.tools.together }
+        ensures tends { Tends D.connected D.called D.left (sessions_of peers.old.all) door.old (sessions_of peers.new.all) door.new }
+        ensures lent { HasLent (sessions_of peers.new.all) self.new.tools.together }
+    {
+        let round = Round::new(&self.poll, alloc, self.clock.now);
+        let turns = peers.queued();
+        self.tools
+            .together
+            .open_more(peers, round, &mut self.tools.scratch, door, turns);
+    }
+
+    // While requests wait for a device at which another loop is, opens the turns of those that have one by now: what they ask
+    // is answered with the rest. Whether a connection waits to be accepted.
+    fn gather<D: Reception>(&mut self, alloc: Global, peers: &mut Peers, door: &mut D) -> bool
+        requires { HasLent (sessions_of peers.old.all) self.old.tools.together }
+        ensures tends { Tends D.connected D.called D.left (sessions_of peers.old.all) door.old (sessions_of peers.new.all) door.new }
+        ensures lent { HasLent (sessions_of peers.new.all) self.new.tools.together }
+    {
+        let mut accepts = false;
+        for _ in 0..GATHERS {
+            if !self.may_gather(peers, door) {
+                return accepts;
+            }
+            let Ok(told) = self.gather_once(alloc, peers, door) else {
+                // the next wait fails too
+                return accepts;
+            };
+            accepts |= told;
+        }
+        accepts
+    }
+
+    // Whether there is something to gather for, and room for the turns that events make.
+    fn may_gather<D: Reception>(&self, peers: &mut Peers, door: &D) -> bool
+        ensures { peers.new.all ≡ peers.old.all }
+    {
+        self.tools.together.waits() && !door.is_free() && peers.reserve(MOST_EVENTS)
+    }
+
+    // Looks for events once.
+    fn gather_once<D: Reception>(
+        &mut self,
+        alloc: Global,
+        peers: &mut Peers,
+        door: &mut D,
+    ) -> io::Result<bool>
+        requires { HasLent (sessions_of peers.old.all) self.old.tools.together }
+        ensures tends { Tends D.connected D.called D.left (sessions_of peers.old.all) door.old (sessions_of peers.new.all) door.new }
+        ensures lent { HasLent (sessions_of peers.new.all) self.new.tools.together }
+    {
+        self.poll.poll(&mut self.events, Some(Duration::ZERO))?;
+        if self.events.is_empty() {
+            yield_now();
+            return Ok(false);
+        }
+        let accepts = note_all(peers, &self.events);
+        self.open_turns(alloc, peers, door);
+        Ok(accepts)
     }
 
     fn wait<R: Clock>(&mut self, rt: &R, common: &Common<'_>, peers: &Peers) -> io::Result<()> {
@@ -208,53 +304,18 @@ fn wait_for(
     )
 }
 
-// Whether a connection waits to be accepted.
-fn notice_all<D: Reception>(peers: &mut Peers, door: &mut D, events: &Events) -> bool
-    ensures { Tends D.connected D.called D.left (sessions_of peers.old.all) door.old (sessions_of peers.new.all) door.new }
-{
-    let mut accepts = false;
-    for event in events.iter() {
-        let told = notice(peers, door, event);
-        accepts |= told;
-    }
-    accepts
-}
-
-// Whether an event tells of a connection that waits to be accepted.
-fn notice<D: Reception>(peers: &mut Peers, door: &mut D, event: &Event) -> bool
-    ensures { Tends D.connected D.called D.left (sessions_of peers.old.all) door.old (sessions_of peers.new.all) door.new }
-{
-    let token = event.token();
-    if token == LISTENER {
-        return true;
-    }
-    if token != WAKER {
-        peers.notice(door, event);
-    }
-    false
-}
-
-// The turns of those that have one: together, where there is memory for that, else one by one. After them the log is
-// trimmed, where that is due.
-fn give_turns<D: Reception, R: AllocGlobal + Clock + Eprint + Wait>(
+// The turns of so many that have one, one by one.
+fn give_each<D: Reception, R: AllocGlobal + Clock + Eprint + Wait>(
     rt: &R,
     common: &Common<'_>,
     round: Round<'_>,
     tools: &mut Tools,
     peers: &mut Peers,
     door: &mut D,
+    turns: usize,
 )
     ensures { Tends D.connected D.called D.left (sessions_of peers.old.all) door.old (sessions_of peers.new.all) door.new }
 {
-    let turns = peers.queued();
-    if turns > 0 && tools.together.begin(turns) {
-        tools
-            .together
-            .open_all(peers, round, &mut tools.scratch, door, turns);
-        tools.together.close_all(peers, round, door);
-        keep_short(rt, common, door, round.now, &mut tools.seen);
-        return;
-    }
     for _ in 0..turns {
         give_turn(rt, common, round, tools, peers, door);
     }
@@ -338,39 +399,5 @@ fn tell<R: Eprint>(rt: &R, common: &Common<'_>) {
     let _ = eprintln!(rt; "xarm: manager down until a Restart or a restart of the server: {cause}");
     if common.settings.ends_when_down {
         common.stop();
-    }
-}
-
-/// The time of a loop, in milliseconds since it began.
-#[derive(Drop)]
-struct LoopClock {
-    began: Instant,
-    now: u64,
-    /// When the next look for connections that are overdue is due.
-    looks: u64,
-}
-
-impl LoopClock {
-    fn new<R: Clock>(rt: &R) -> io::Result<LoopClock> {
-        Ok(LoopClock {
-            began: Instant::now(rt)?,
-            now: 0,
-            looks: LOOK,
-        })
-    }
-
-    fn read<R: Clock>(&mut self, rt: &R) -> io::Result<()> {
-        let elapsed = self.began.elapsed(rt)?;
-        self.now = u64::try_from(elapsed.as_millis()).unwrap_or(u64::MAX);
-        Ok(())
-    }
-
-    /// Whether a look is due, and then when the next one is.
-    fn is_look(&mut self) -> bool {
-        if self.now < self.looks {
-            return false;
-        }
-        self.looks = self.now.saturating_add(LOOK);
-        true
     }
 }

@@ -13,6 +13,9 @@ pub(crate) const LOOKS: u32 = 40;
 
 pub(crate) const FEW_EVENTS: usize = 4;
 
+/// How often at most a loop looks for events while another holds up its answers.
+pub(crate) const GATHERS: u32 = 1_000;
+
 /// Whether a connection is overdue: it brought a part of a frame, and for so long, if there is such a limit, no byte
 /// more.
 pub(crate) fn is_overdue(is_inside: bool, quiet: u64, limit: u64) -> bool

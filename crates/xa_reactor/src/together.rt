@@ -39,9 +39,40 @@ impl Together {
         self.quick.clear();
         self.waiting.clear();
         self.over.clear();
+        self.reserve(turns)
+    }
+
+    // Makes room for so many turns more, and for what comes after all of them. Whether there was memory for it.
+    fn reserve(&mut self, turns: usize) -> bool
+        ensures { (table : Table) → HasLent table self.old → HasLent table self.new }
+    {
+        let lent = self.quick.len() + self.waiting.len();
         self.quick.reserve(turns).is_ok()
             && self.waiting.reserve(turns).is_ok()
-            && self.over.reserve(turns).is_ok()
+            && self.over.reserve(turns.saturating_add(lent)).is_ok()
+    }
+
+    /// Whether there are requests that may wait for a device.
+    pub(crate) fn waits(&self) -> bool {
+        !self.waiting.is_empty()
+    }
+
+    /// Opens so many turns more, where there is memory for that.
+    pub(crate) fn open_more<D: Reception>(
+        &mut self,
+        peers: &mut Peers,
+        round: Round<'_>,
+        scratch: &mut [u8],
+        door: &mut D,
+        turns: usize,
+    )
+        requires { HasLent (sessions_of peers.old.all) self.old }
+        ensures tends { Tends D.connected D.called D.left (sessions_of peers.old.all) door.old (sessions_of peers.new.all) door.new }
+        ensures lent { HasLent (sessions_of peers.new.all) self.new }
+    {
+        if self.reserve(turns) {
+            self.open_all(peers, round, scratch, door, turns);
+        }
     }
 
     /// Opens so many turns, of those that have one next, as far as there is room.

@@ -1,6 +1,6 @@
 use Rattle.xa_reactor.specs.Tending.{sessions_of}
 use Rattle.xa_reactor.proofs.Doing.{tends_twice}
-use Rattle.xa_reactor.proofs.tending.notice_all.Goals as goal
+use Rattle.xa_reactor.proofs.noticing.notice_all.Goals as goal
 
 pub loop-event-preserved : goal.loop-event-preserved
 loop-event-preserved g c =

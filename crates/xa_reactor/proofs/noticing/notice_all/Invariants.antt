@@ -1,5 +1,5 @@
 use Rattle.xa_reactor.specs.Tending.{Tends, sessions_of}
-use Rattle.xa_reactor.proofs.tending.notice_all.Given as goal
+use Rattle.xa_reactor.proofs.noticing.notice_all.Given as goal
 
 abbrev pub invariant-loop-event : goal.invariant-loop-event
 invariant-loop-event g l =

@@ -1,0 +1,15 @@
+use Rattle.xa_reactor.specs.Tending.{sessions_of}
+use Rattle.xa_reactor.proofs.Aside.{tends_aside}
+use Rattle.xa_reactor.proofs.Doing.{tends_thrice, tends_twice}
+use Rattle.xa_reactor.proofs.tending.Loop.give_together.Goals as goal
+
+pub returns : goal.returns
+returns g c =
+    let opened = c.open_turns.new.peers.all in
+    let gathered = c.gather-accepts.new.peers.all in
+    let peers = c.close_all.new.peers.all in
+    tends_twice g.D.Reception.connected g.D.Door.called g.D.Door.left (sessions_of c.args.peers.now.all) (sessions_of peers) (sessions_of peers)
+    c.args.door.now c.close_all.new.door c.keep_short.new.door
+    (tends_thrice g.D.Reception.connected g.D.Door.called g.D.Door.left (sessions_of c.args.peers.now.all) (sessions_of opened) (sessions_of gathered) (sessions_of peers)
+    c.args.door.now c.open_turns.new.door c.gather-accepts.new.door c.close_all.new.door c.open_turns.ensures.tends c.gather-accepts.ensures.tends c.close_all.ensures.tends)
+    (tends_aside g.D.Reception.connected g.D.Door.called g.D.Door.left peers _ c.close_all.new.door c.keep_short.new.door c.keep_short.ensures)

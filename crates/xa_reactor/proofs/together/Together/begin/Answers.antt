@@ -1,0 +1,13 @@
+use Rattle.std.proofs.Common.{arith, []}
+use Rattle.std.proofs.lemmas.List.Elements.{All-nil, All-same}
+use Rattle.xa_reactor.specs.Asking.{IsLent}
+use Rattle.xa_reactor.proofs.together.Together.begin.Goals as goal
+
+pub returns : goal.returns
+returns c = λ table.
+    c.reserve.ensures table
+    (record {
+      quick = All-same (IsLent table) _ [] c.clear.ensures.items (All-nil (IsLent table));
+      waiting = All-same (IsLent table) _ [] c.clear-2.ensures.items (All-nil (IsLent table));
+      room = omega (arith, c.clear.ensures.len, c.clear-2.ensures.len, c.clear-3.ensures.len);
+    })
