@@ -8,3 +8,4 @@ pub mod Aside
 pub mod Asking
 pub mod Opening
 pub mod Together
+pub mod Peers

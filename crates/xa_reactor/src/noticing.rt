@@ -1,5 +1,7 @@
 //! What events tell of the connections of a loop.
-ghost use Rattle.std.specs.Prelude.{◌≡◌};
+ghost use Rattle.std.specs.Prelude.{◌≡◌, ◌+◌, ℕ, length};
+ghost use Rattle.mio.specs.Events.{items};
+ghost use Rattle.xa_reactor.specs.Peers.{HasRoom};
 ghost use Rattle.xa_reactor.specs.Tending.{Tends, sessions_of};
 
 use crate::peers::Peers;
@@ -41,6 +43,7 @@ fn notice<D: Reception>(peers: &mut Peers, door: &mut D, event: &Event) -> bool
 
 /// The same while connections are lent: none ends, as there is room for their turns.
 pub(crate) fn note_all(peers: &mut Peers, events: &Events) -> bool
+    requires { HasRoom peers.old (length (items events.now)) }
     ensures { sessions_of peers.new.all ≡ sessions_of peers.old.all }
 {
     let mut accepts = false;
@@ -52,7 +55,9 @@ pub(crate) fn note_all(peers: &mut Peers, events: &Events) -> bool
 }
 
 fn note(peers: &mut Peers, event: &Event) -> bool
-    ensures { sessions_of peers.new.all ≡ sessions_of peers.old.all }
+    requires { HasRoom peers.old 1 }
+    ensures same { sessions_of peers.new.all ≡ sessions_of peers.old.all }
+    ensures room { (turns : ℕ) → HasRoom peers.old (turns + 1) → HasRoom peers.new turns }
 {
     let token = event.token();
     if token == LISTENER {

@@ -1,7 +1,8 @@
-ghost use Rattle.std.specs.Prelude.{◌≡◌, ℕ, None, false, length};
+ghost use Rattle.std.specs.Prelude.{◌≡◌, ◌+◌, ℕ, None, IsTrue, false, length};
 ghost use Rattle.slab.specs.Slab.{get};
 ghost use Rattle.xa_reactor.specs.Asking.{IsAnswered};
 ghost use Rattle.xa_reactor.specs.Opening.{OpensAt};
+ghost use Rattle.xa_reactor.specs.Peers.{HasRoom};
 ghost use Rattle.xa_reactor.specs.Tending.{Tends, nobody, sessions_of};
 ghost use Rattle.xa_reactor.specs.Timing.{IsToEnd};
 
@@ -70,19 +71,22 @@ impl Peers {
         }
     }
 
-    /// The same while connections are lent: none ends, as room was made for the turn.
+    /// The same while connections are lent: none ends, as there is room for the turn.
     pub(crate) fn note(&mut self, event: &Event)
-        ensures { sessions_of self.new.all ≡ sessions_of self.old.all }
+        requires { HasRoom self.old 1 }
+        ensures same { sessions_of self.new.all ≡ sessions_of self.old.all }
+        ensures room { (turns : ℕ) → HasRoom self.old (turns + 1) → HasRoom self.new turns }
     {
         let key = event.token().0;
         if notice_in(&mut self.all, event, key) {
-            let _queued = self.queue.push_back(key);
+            self.queue.push_back_reserved(key);
         }
     }
 
     /// Makes room for so many turns more. Whether there was memory for it.
     pub(crate) fn reserve(&mut self, turns: usize) -> bool
-        ensures { self.new.all ≡ self.old.all }
+        ensures same { self.new.all ≡ self.old.all }
+        ensures room { IsTrue result → HasRoom self.new turns }
     {
         self.queue.reserve(turns).is_ok()
     }

@@ -1,5 +1,7 @@
 //! One loop.
-ghost use Rattle.std.specs.Prelude.{◌≡◌};
+ghost use Rattle.std.specs.Prelude.{◌≡◌, IsTrue};
+ghost use Rattle.mio.specs.Events.{capacity};
+ghost use Rattle.xa_reactor.specs.Peers.{HasRoom};
 ghost use Rattle.xa_reactor.specs.Tending.{HasTended, Tends, sessions_of};
 ghost use Rattle.xa_reactor.specs.Together.{HasLent};
 
@@ -217,9 +219,10 @@ impl Loop {
 
     // Whether there is something to gather for, and room for the turns that events make.
     fn may_gather<D: Reception>(&self, peers: &mut Peers, door: &D) -> bool
-        ensures { peers.new.all ≡ peers.old.all }
+        ensures same { peers.new.all ≡ peers.old.all }
+        ensures room { IsTrue result → HasRoom peers.new (capacity self.now.events) }
     {
-        self.tools.together.waits() && !door.is_free() && peers.reserve(MOST_EVENTS)
+        self.tools.together.waits() && !door.is_free() && peers.reserve(self.events.capacity())
     }
 
     // Looks for events once.
@@ -229,7 +232,8 @@ impl Loop {
         peers: &mut Peers,
         door: &mut D,
     ) -> io::Result<bool>
-        requires { HasLent (sessions_of peers.old.all) self.old.tools.together }
+        requires lent { HasLent (sessions_of peers.old.all) self.old.tools.together }
+        requires room { HasRoom peers.old (capacity self.old.events) }
         ensures tends { Tends D.connected D.called D.left (sessions_of peers.old.all) door.old (sessions_of peers.new.all) door.new }
         ensures lent { HasLent (sessions_of peers.new.all) self.new.tools.together }
     {

@@ -3,8 +3,8 @@ use Rattle.xa_reactor.specs.Tending.{sessions_of}
 use Rattle.xa_reactor.proofs.Doing.{same_table}
 use Rattle.xa_reactor.proofs.peers.Peers.note.Goals as goal
 
-pub returns-then-notice_in : goal.returns-then-notice_in
-returns-then-notice_in c = sym (same_table (sessions_of c.args.self.now.all) (sessions_of c.notice_in.new.all) c.notice_in.ensures)
+pub returns-then-notice_in-clause-same : goal.returns-then-notice_in-clause-same
+returns-then-notice_in-clause-same c = sym (same_table (sessions_of c.args.self.now.all) (sessions_of c.notice_in.new.all) c.notice_in.ensures)
 
-pub returns-else-notice_in : goal.returns-else-notice_in
-returns-else-notice_in c = sym (same_table (sessions_of c.args.self.now.all) (sessions_of c.notice_in.new.all) c.notice_in.ensures)
+pub returns-else-notice_in-clause-same : goal.returns-else-notice_in-clause-same
+returns-else-notice_in-clause-same c = sym (same_table (sessions_of c.args.self.now.all) (sessions_of c.notice_in.new.all) c.notice_in.ensures)

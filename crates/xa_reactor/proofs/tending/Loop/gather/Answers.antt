@@ -10,7 +10,7 @@ returns-in_default-clause-tends g c =
     tends_twice g.D.Reception.connected g.D.Door.called g.D.Door.left (sessions_of c.args.peers.now.all) before after
     c.args.door.now c.loop.door c.gather_once.new.door c.loop.invariant.tends
     (subst (λ (t : Table). Tends g.D.Reception.connected g.D.Door.called g.D.Door.left t c.loop.door after c.gather_once.new.door)
-    (ap sessions_of c.may_gather.ensures) c.gather_once.ensures.tends)
+    (ap sessions_of c.may_gather.ensures.same) c.gather_once.ensures.tends)
 
 pub loop-preserved : goal.loop-preserved
 loop-preserved g c =
@@ -20,6 +20,6 @@ loop-preserved g c =
       tends = tends_twice g.D.Reception.connected g.D.Door.called g.D.Door.left (sessions_of c.args.peers.now.all) before after
           c.args.door.now c.loop.door c.gather_once.new.door c.loop.invariant.tends
           (subst (λ (t : Table). Tends g.D.Reception.connected g.D.Door.called g.D.Door.left t c.loop.door after c.gather_once.new.door)
-          (ap sessions_of c.may_gather.ensures) c.gather_once.ensures.tends);
+          (ap sessions_of c.may_gather.ensures.same) c.gather_once.ensures.tends);
       lent = c.gather_once.ensures.lent;
     }
