@@ -129,8 +129,8 @@ impl Loop {
     {
         self.wait(rt, common, peers)?;
         let is_look = self.clock.is_look();
-        let noticed = notice_all(peers, door, &self.events);
         let before = peers.len();
+        let noticed = notice_all(peers, door, &self.events);
         let gathered = self.give_turns(rt, common, peers, door);
         let round = Round::new(&self.poll, rt.alloc(), self.clock.now);
         look(common, round, peers, door, is_look);
