@@ -31,8 +31,8 @@ pub trait Reception: Door {
     /// others.
     fn may_wait(&self, request: &Request) -> bool;
 
-    /// This ask will be at this place among those of the next `call_all` whose requests may wait. From now on its request may
-    /// be answered together with those of other doors, by whichever door comes first; its reply is given by that
+    /// This ask will be at this place among those of the next `call_all` whose requests may wait. From now on its request
+    /// may be answered together with those of other doors, by whichever door comes first; its reply is given by that
     /// `call_all`. A hint: what wasn't posted is answered as well.
     fn post(&self, place: usize, ask: &Ask)
         requires { HasRequest ask.now };

@@ -3,7 +3,7 @@ ghost use Rattle.std.specs.Prelude.{◌≡◌, IsTrue};
 ghost use Rattle.mio.specs.Events.{capacity};
 ghost use Rattle.xa_reactor.specs.Peers.{HasRoom};
 ghost use Rattle.xa_reactor.specs.Tending.{HasTended, Tends, sessions_of};
-ghost use Rattle.xa_reactor.specs.Together.{HasLent};
+ghost use Rattle.xa_reactor.specs.Together.{HasLent, IsOver};
 
 use crate::acceptor::Acceptor;
 use crate::clock::LoopClock;
@@ -173,7 +173,8 @@ impl Loop {
         door: &mut D,
     ) -> bool
         requires { HasLent (sessions_of peers.old.all) self.old.tools.together }
-        ensures { Tends D.connected D.called D.left (sessions_of peers.old.all) door.old (sessions_of peers.new.all) door.new }
+        ensures tends { Tends D.connected D.called D.left (sessions_of peers.old.all) door.old (sessions_of peers.new.all) door.new }
+        ensures over { IsOver self.new.tools.together }
     {
         self.open_turns(rt.alloc(), peers, door);
         let accepts = self.gather(rt.alloc(), peers, door);
@@ -196,8 +197,8 @@ impl Loop {
             .open_more(peers, round, &mut self.tools.scratch, door, turns);
     }
 
-    // While requests wait for a device at which another loop is, opens the turns of those that have one by now: what they ask
-    // is answered with the rest. Whether a connection waits to be accepted.
+    // While requests wait for a device at which another loop is, opens the turns of those that have one by now: what they
+    // ask is answered with the rest. Whether a connection waits to be accepted.
     fn gather<D: Reception>(&mut self, alloc: Global, peers: &mut Peers, door: &mut D) -> bool
         requires { HasLent (sessions_of peers.old.all) self.old.tools.together }
         ensures tends { Tends D.connected D.called D.left (sessions_of peers.old.all) door.old (sessions_of peers.new.all) door.new }

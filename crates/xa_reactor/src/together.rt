@@ -1,4 +1,4 @@
-//! The turns of a round, with one call at the door for all requests that they bring in.
+//! The turns of a round, with one call at the door for the requests that wait for no device, and another for the rest.
 ghost use Rattle.std.specs.Prelude.{ℕ, ◌≡◌, ◌+◌, ◌≤◌, [], All};
 ghost use Rattle.std.specs.Vec.{vec_capacity, vec_len};
 ghost use Rattle.xa_reactor.specs.Asking.{IsAnswered, IsLent, IsOpen, IsTold, Puts, PutsAll, TurnedAll};

@@ -3,8 +3,8 @@ use Rattle.xa_reactor.proofs.Aside.{tends_aside}
 use Rattle.xa_reactor.proofs.Doing.{tends_thrice, tends_twice}
 use Rattle.xa_reactor.proofs.tending.Loop.give_together.Goals as goal
 
-pub returns : goal.returns
-returns g c =
+pub returns-clause-tends : goal.returns-clause-tends
+returns-clause-tends g c =
     let opened = c.open_turns.new.peers.all in
     let gathered = c.gather-accepts.new.peers.all in
     let peers = c.close_all.new.peers.all in
