@@ -5,10 +5,10 @@ use Rattle.xa_room.specs.declared.manages.Manages.{Ghosts}
 use Rattle.xa_sequencer.specs.Shared.{Did, Takes}
 use Rattle.xa_sequencer.specs.Stands.{HasHistory, Numbered}
 
--- the share is audited by a book whose total is the count
-pub did_next : {M : Type 0} (m : Ghosts M) (start : State → Type 0) (base : ℕ × ℕ) (old new : Numbered M) (amount total : ℕ) (event : Numbered M → Numbered M → Type 0)
-    → HasHistory m start base old → total ≡ old.count → amount ≤ total → event old new → Did m start base amount event
-did_next m start base old new amount total event history same bound did = record {
+-- the share is audited by a book whose total is the count, less what is owed
+pub did_next : {M : Type 0} (m : Ghosts M) (start : State → Type 0) (base : ℕ × ℕ) (old new : Numbered M) (amount total owed : ℕ) (event : Numbered M → Numbered M → Type 0)
+    → HasHistory m start base old → total + owed ≡ old.count → amount ≤ total → event old new → Did m start base amount event
+did_next m start base old new amount total owed event history same bound did = record {
   old = old;
   new = new;
   history = history;

@@ -1,5 +1,5 @@
 -- What a call says of a sequencer that many threads share.
-use Rattle.std.specs.Prelude.{ℕ, ◌≡◌, ◌⊎◌, ◌+◌, ◌≤◌, ◌<◌, Bool, not, List, length, MatchBool, Result, Some, slice_get}
+use Rattle.std.specs.Prelude.{ℕ, ◌≡◌, ◌⊎◌, ◌+◌, ◌≤◌, ◌<◌, Bool, not, List, MatchBool, Result, Some, slice_get}
 use Rattle.xa_assoc.specs.Refusals.{is_memory}
 use Rattle.xa_assoc.specs.declared.fault.ConnectFault.{ConnectFault}
 use Rattle.xa_frame.specs.Made.{doing}
@@ -38,13 +38,6 @@ abbrev pub ConnectedBy : {M : Type 0} → Ghosts M → (State → Type 0) → �
 ConnectedBy m start base old result new =
     Did m start base old.1 (λ a b. Connected m start base a result b)
     × Takes (is_memory (connect_reply result).detail) old new
-
--- Calls that are asked together, by a share: it counts as many more as were replied.
-abbrev pub CalledTogetherBy : {M : Type 0} → Ghosts M → (State → Type 0) → ℕ × ℕ → ℕ × ℕ → List Asked
-    → List (ℕ × Reply) → ℕ × ℕ → Type 0
-CalledTogetherBy m start base old calls replies new =
-    Did m start base old.1 (λ a b. CalledTogether m start base a calls replies b)
-    × (new.0 ≡ old.0) × (new.1 ≡ old.1 + length replies)
 
 -- There is a sequencer that stood for a history, and that next answered calls together, of which this one had this
 -- reply. Behind them its history has more than so many entries.
@@ -88,15 +81,3 @@ abbrev pub LeftBy : {M : Type 0} → Ghosts M → (State → Type 0) → ℕ × 
 LeftBy m start base session old was new =
     Did m start base old.1 (λ a b. (was ≡ m.has_session a.now session) × Left m start base session a b)
     × Takes (not was) old new
-
--- ---- law
-
--- Each call of a group was called so, by shares that count one after another from the share before it, in any order.
-abbrev pub EachOfGroup : {M : Type 0} → Ghosts M → (State → Type 0) → ℕ × ℕ → Type 0
-EachOfGroup m start base =
-    (calls : List Asked) (replies : List (ℕ × Reply)) (old new : ℕ × ℕ)
-    → CalledTogetherBy m start base old calls replies new
-    → (at : ℕ) (told : ℕ × Reply) → slice_get replies at ≡ Some told
-    → (k : ℕ) → k < length replies
-    → CalledBy m start base (asked_at calls told.0).session (old.0, old.1 + k) (asked_at calls told.0).request told.1
-    (old.0, old.1 + k + 1)

@@ -1,41 +1,52 @@
-ghost use Rattle.std.specs.Prelude.{◌≡◌, ◌<◌, IfOk, OnErr};
-ghost use Rattle.std.specs.List.{AllByRecursion};
+ghost use Rattle.std.specs.Prelude.{◌≡◌, ◌+◌, ◌<◌, MatchBool};
 ghost use Rattle.xa_frame.specs.Limits.{IsReply, IsRequest};
-ghost use Rattle.xa_manager.specs.Once.{AreOnce};
-ghost use Rattle.xa_room.specs.Together.{IsToldOf};
-ghost use Rattle.xa_sequencer.specs.Shared.{CalledBy, CalledTogetherBy, ConnectedBy, IsTold, LeftBy};
+ghost use Rattle.xa_sequencer.specs.Shared.{CalledBy, ConnectedBy, IsTold, LeftBy};
 
+use crate::answered::Answered;
 use crate::associates::Associates;
+use crate::mail::Mail;
 use crate::sequencer::Sequencer;
-use std::alloc::AllocError;
+use crate::trays::Trays;
+use std::alloc::{AllocError, Global};
 use std::marker::Model;
+use std::mem;
 use std::sync::ledger::{Blank, Book, Ledger, Share};
 use xa_assoc::ConnectFault;
 use xa_frame::{Reply, Request, Status};
-use xa_manager::{Asked, connect_reply};
+use xa_manager::connect_reply;
 use xa_room::{Manages, Start, is_memory};
 
-/// What lies under the lock: a sequencer, and the ledger's book, whose total is the sequencer's count.
+/// What lies under the lock: a sequencer, and the ledger's book, whose total is the sequencer's count, less the answers to
+/// posted calls that are in no share yet.
 #[derive(Drop)]
 pub(crate) struct Booked<M: Manages, S: Start, L: Ledger> {
     sequencer: Sequencer<M, S>,
     book: Book<L>,
+    trays: Trays<M, S>,
+    /// How many of the calls that were answered in a group no share counts yet.
+    owed: u64,
+    /// The posted calls that are being answered.
+    mail: Mail,
 }
 
 impl<M: Manages, S: Start, L: Ledger> Model for Booked<M, S, L> {
-    ghost use Rattle.std.specs.Prelude.{◌≡◌};
+    ghost use Rattle.std.specs.Prelude.{◌≡◌, ◌+◌};
     ghost use Rattle.xa_sequencer.specs.Stands.{Numbered};
 
     ghost Value = { Numbered M };
 
     ghost view = { λ b. b.sequencer };
 
-    ghost invariant = { λ b. b.book.total ≡ b.sequencer.count };
+    ghost invariant = { λ b. b.book.total + b.owed ≡ b.sequencer.count };
 }
 
 impl<M: Manages, S: Start, L: Ledger> Booked<M, S, L> {
     /// Opens the ledger. The share has every part, and counts what was numbered so far.
-    pub(crate) fn open(sequencer: Sequencer<M, S>, blank: Blank) -> (Booked<M, S, L>, Share<L>)
+    pub(crate) fn open(
+        alloc: Global,
+        sequencer: Sequencer<M, S>,
+        blank: Blank,
+    ) -> (Booked<M, S, L>, Share<L>)
         requires name { blank.name ≡ L.name }
         requires parts { blank.parts ≡ L.parts }
         requires some { 0 < blank.parts }
@@ -44,14 +55,27 @@ impl<M: Manages, S: Start, L: Ledger> Booked<M, S, L> {
     {
         let (mut book, mut share) = blank.open::<L>();
         book.add(&mut share, sequencer.count());
-        (Booked { sequencer, book }, share)
+        let booked = Booked {
+            sequencer,
+            book,
+            trays: Trays::new(alloc),
+            owed: 0,
+            mail: Mail::new(alloc),
+        };
+        (booked, share)
     }
 
-    pub(crate) fn parts(self) -> (Sequencer<M, S>, Book<L>)
-        ensures { (result.0 ≡ self) × (result.1.total ≡ result.0.count) }
+    /// The sequencer, the book, and how many answers are in no share.
+    pub(crate) fn parts(self) -> (Sequencer<M, S>, Book<L>, u64)
+        ensures { (result.0 ≡ self) × (result.1.total + result.2 ≡ result.0.count) }
     {
-        let Booked { sequencer, book } = self;
-        (sequencer, book)
+        let Booked {
+            sequencer,
+            book,
+            owed,
+            ..
+        } = self;
+        (sequencer, book, owed)
     }
 
     pub(crate) fn connect(&mut self, share: &mut Share<L>) -> Result<u64, ConnectFault>
@@ -59,7 +83,11 @@ impl<M: Manages, S: Start, L: Ledger> Booked<M, S, L> {
         ensures { ConnectedBy M.Manages S.start S.base (share.old.parts, share.old.amount) result
             (share.new.parts, share.new.amount) }
     {
-        let Booked { sequencer, book } = self;
+        let Booked {
+            sequencer,
+            book,
+            ..
+        } = self;
         sequencer.promises();
         book.audit(share);
         let session = sequencer.connect();
@@ -77,7 +105,11 @@ impl<M: Manages, S: Start, L: Ledger> Booked<M, S, L> {
             (share.new.parts, share.new.amount) }
         ensures limits { IsReply result }
     {
-        let Booked { sequencer, book } = self;
+        let Booked {
+            sequencer,
+            book,
+            ..
+        } = self;
         sequencer.promises();
         book.audit(share);
         let reply = sequencer.call(session, request);
@@ -88,26 +120,53 @@ impl<M: Manages, S: Start, L: Ledger> Booked<M, S, L> {
         reply
     }
 
-    pub(crate) fn call_together(
-        &mut self,
-        share: &mut Share<L>,
-        calls: &[Asked],
-    ) -> Result<Vec<(usize, Reply)>, AllocError>
-        requires share { 0 < share.old.parts }
-        requires asked { AllByRecursion (λ c. IsRequest c.request) calls.now }
-        ensures ok { IfOk result (λ replies.
-            CalledTogetherBy M.Manages S.start S.base (share.old.parts, share.old.amount) calls.now replies.items
-            (share.new.parts, share.new.amount)) }
-        ensures told { IfOk result (λ replies. AllByRecursion (IsToldOf calls.now) replies.items) }
-        ensures once { IfOk result (λ replies. AreOnce replies.items) }
-        ensures err { OnErr result ((share.new.parts ≡ share.old.parts) × (share.new.amount ≡ share.old.amount)) }
+    /// A tray for the answers to a thread's posted calls.
+    pub(crate) fn add_tray(&mut self, alloc: Global) -> Result<usize, AllocError> {
+        self.trays.add(alloc)
+    }
+
+    /// Takes the calls that were posted.
+    pub(crate) fn take_mail(&mut self, mailbox: &mut Mail) {
+        mem::swap(&mut self.mail, mailbox);
+    }
+
+    /// Answers the posted calls that were taken, if they are several and there is memory for it: those that may share one
+    /// append. Their answers go to their senders' trays. Of a call that has none nothing has been done.
+    pub(crate) fn answer_mail(&mut self) {
+        let Booked {
+            sequencer,
+            trays,
+            owed,
+            mail,
+            ..
+        } = self;
+        if mail.len() > 1 && trays.reserve(mail.len()) {
+            sequencer.promises();
+            if let Ok(replies) = sequencer.call_together(mail.calls()) {
+                *owed += replies.len() as u64;
+                trays.put_all(mail, replies, sequencer.count());
+            }
+        }
+        mail.clear();
+    }
+
+    /// The next answer in a thread's tray.
+    pub(crate) fn next_answer(&mut self, tray: usize) -> Option<Answered<M, S>> {
+        self.trays.next(tray)
+    }
+
+    /// Counts one of the answers that are in no share yet, where there is one.
+    pub(crate) fn count(&mut self, share: &mut Share<L>) -> bool
+        requires { 0 < share.old.parts }
+        ensures parts { share.new.parts ≡ share.old.parts }
+        ensures amount { MatchBool result (share.new.amount ≡ share.old.amount + 1) (share.new.amount ≡ share.old.amount) }
     {
-        let Booked { sequencer, book } = self;
-        sequencer.promises();
-        book.audit(share);
-        let replies = sequencer.call_together(calls)?;
-        book.add(share, replies.len() as u64);
-        Ok(replies)
+        if self.owed == 0 {
+            return false;
+        }
+        self.owed -= 1;
+        self.book.add(share, 1);
+        true
     }
 
     pub(crate) fn hangup(&mut self, share: &mut Share<L>, session: u64) -> bool
@@ -115,7 +174,11 @@ impl<M: Manages, S: Start, L: Ledger> Booked<M, S, L> {
         ensures { LeftBy M.Manages S.start S.base session (share.old.parts, share.old.amount) result
             (share.new.parts, share.new.amount) }
     {
-        let Booked { sequencer, book } = self;
+        let Booked {
+            sequencer,
+            book,
+            ..
+        } = self;
         sequencer.promises();
         book.audit(share);
         if !sequencer.hangup(session) {

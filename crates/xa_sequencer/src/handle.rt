@@ -1,17 +1,20 @@
-ghost use Rattle.std.specs.Prelude.{◌≡◌, ◌<◌, IfOk, OnErr};
+ghost use Rattle.std.specs.Prelude.{◌≡◌, ◌+◌, ◌<◌, IfOk, MatchBool};
+ghost use Rattle.xa_sequencer.specs.Stands.{most_numbers};
 
+use crate::answered::Answered;
 use crate::associates::Associates;
 use crate::held::Held;
+use crate::mail::Sender;
 use crate::shared::SharedSequencer;
-use std::alloc::AllocError;
+use std::alloc::{AllocError, Global};
 use std::fmt;
 use std::sync::Wait;
 use std::sync::ledger::{Ledger, Share};
 use xa_assoc::ConnectFault;
 use xa_desk::Door;
 use xa_frame::{Reply, Request, Status};
-use xa_manager::Asked;
-use xa_room::{Manages, Start};
+use xa_manager::connect_reply;
+use xa_room::{Manages, Start, is_memory};
 
 /// A thread's handle of a sequencer that it shares with others: a door, with a share that counts what is asked at it.
 #[derive(Drop)]
@@ -19,29 +22,39 @@ pub struct Handle<'a, M: Manages, S: Start, L: Ledger, R> {
     rt: &'a R,
     sequencer: &'a SharedSequencer<M, S, L>,
     pub share: Share<L>,
+    /// The share's amount, unless that is too great.
+    counted: u64,
+    tray: usize,
     pub ghost some: { 0 < share.parts },
+    pub ghost counts: { counted < most_numbers → counted ≡ share.amount },
 }
 
 impl<'a, M: Manages, S: Start, L: Ledger, R: Wait> Handle<'a, M, S, L, R> {
-    ghost use Rattle.std.specs.List.{AllByRecursion};
     ghost use Rattle.xa_frame.specs.Limits.{IsReply, IsRequest};
-    ghost use Rattle.xa_manager.specs.Once.{AreOnce};
-    ghost use Rattle.xa_room.specs.Together.{IsToldOf};
-    ghost use Rattle.xa_sequencer.specs.Shared.{CalledBy, CalledTogetherBy, ConnectedBy, IsTold};
+    ghost use Rattle.xa_sequencer.specs.Shared.{CalledBy, ConnectedBy, IsTold};
 
+    /// With a share that counts nothing yet.
+    ///
+    /// # Errors
+    /// Out of memory.
     pub fn new(
         rt: &'a R,
         sequencer: &'a SharedSequencer<M, S, L>,
         share: Share<L>,
-    ) -> Handle<'a, M, S, L, R>
-        requires { 0 < share.parts }
-        ensures { result.share ≡ share }
+        alloc: Global,
+    ) -> Result<Handle<'a, M, S, L, R>, AllocError>
+        requires some { 0 < share.parts }
+        requires none { share.amount ≡ 0 }
+        ensures { IfOk result (λ handle. handle.share ≡ share) }
     {
-        Handle {
+        let tray = sequencer.add_tray(rt, alloc)?;
+        Ok(Handle {
             rt,
             sequencer,
             share,
-        }
+            counted: 0,
+            tray,
+        })
     }
 
     /// Connects a session.
@@ -49,7 +62,9 @@ impl<'a, M: Manages, S: Start, L: Ledger, R: Wait> Handle<'a, M, S, L, R> {
         ensures { ConnectedBy M.Manages S.start S.base (self.old.share.parts, self.old.share.amount) result
             (self.new.share.parts, self.new.share.amount) }
     {
-        self.sequencer.connect(self.rt, &mut self.share)
+        let session = self.sequencer.connect(self.rt, &mut self.share);
+        self.counted = after(self.counted, !is_memory(&connect_reply(session)));
+        session
     }
 
     /// Takes the lock for several calls, with nothing of other threads in between. Whoever else asks waits until it is
@@ -71,30 +86,60 @@ impl<'a, M: Manages, S: Start, L: Ledger, R: Wait> Handle<'a, M, S, L, R> {
             (self.new.share.parts, self.new.share.amount) }
         ensures limits { IsReply result }
     {
-        held.call(&mut self.share, session, request)
+        let reply = held.call(&mut self.share, session, request);
+        self.counted = after(self.counted, !is_memory(&reply));
+        reply
     }
 
-    /// Answers calls of sessions together, by the lock that was taken: those that may share one append. Gives their
-    /// replies in the order in which they were answered, each with the place of its call among those that were asked. Of
-    /// a call that has none nothing has been done: it is to be called by itself afterwards.
-    ///
-    /// # Errors
-    /// Out of memory, or there aren't numbers left for all calls: then no call was answered.
-    pub fn call_together_held(
-        &mut self,
-        held: &mut Held<'_, M, S, L>,
-        calls: &[Asked],
-    ) -> Result<Vec<(usize, Reply)>, AllocError>
-        requires { AllByRecursion (λ c. IsRequest c.request) calls.now }
-        ensures ok { IfOk result (λ replies.
-            CalledTogetherBy M.Manages S.start S.base (self.old.share.parts, self.old.share.amount) calls.now
-            replies.items (self.new.share.parts, self.new.share.amount)) }
-        ensures told { IfOk result (λ replies. AllByRecursion (IsToldOf calls.now) replies.items) }
-        ensures once { IfOk result (λ replies. AreOnce replies.items) }
-        ensures err { OnErr result ((self.new.share.parts ≡ self.old.share.parts)
-            × (self.new.share.amount ≡ self.old.share.amount)) }
+    /// Posts a copy of a call: whichever thread has the lock may answer it, as one of a group that shares an append, until
+    /// this handle answers it otherwise. Its answer has this place.
+    pub fn post(&self, place: usize, session: u64, request: &Request)
+        requires { IsRequest request.now }
     {
-        held.call_together(&mut self.share, calls)
+        let sender = Sender {
+            tray: self.tray,
+            place,
+        };
+        self.sequencer.post(self.rt, sender, session, request);
+    }
+
+    /// Answers the calls that threads have posted, by the lock that was taken: those that may share one append. Of a call
+    /// that gets no answer nothing has been done: it is to be called by itself.
+    pub fn answer_posted(&self, held: &mut Held<'_, M, S, L>) {
+        held.answer_posted(self.rt);
+    }
+
+    /// Takes the next answer to a call that this handle posted. It is to be counted.
+    pub fn next_answer(&self, held: &mut Held<'_, M, S, L>) -> Option<Answered<M, S>> {
+        held.next_answer(self.tray)
+    }
+
+    /// Counts an answer to a posted call in this handle's share, unless it tells of a time before the share's: then
+    /// nothing changes.
+    pub fn count_answer(&mut self, held: &mut Held<'_, M, S, L>, answered: &Answered<M, S>) -> bool
+        ensures { MatchBool result
+            (CalledBy M.Manages S.start S.base answered.now.session (self.old.share.parts, self.old.share.amount)
+            answered.now.request answered.now.reply (self.new.share.parts, self.new.share.amount))
+            ((self.new.share.parts ≡ self.old.share.parts) × (self.new.share.amount ≡ self.old.share.amount)) }
+    {
+        if answered.count() <= self.counted {
+            return false;
+        }
+        if !held.count(&mut self.share) {
+            return false;
+        }
+        self.counted = after(self.counted, true);
+        true
+    }
+
+    /// Whether another thread waits to hold the lock.
+    pub fn is_wanted(&self) -> bool {
+        self.sequencer.is_wanted()
+    }
+
+    /// Whether no thread has the lock.
+    pub fn is_free(&self) -> bool {
+        self.sequencer.is_free()
     }
 
     /// How the manager is doing. The share doesn't count it.
@@ -112,6 +157,8 @@ impl<'a, M: Manages, S: Start, L: Ledger, R: Wait> Handle<'a, M, S, L, R> {
             rt: _,
             sequencer: _,
             share,
+            counted: _,
+            tray: _,
         } = self;
         share
     }
@@ -148,8 +195,11 @@ impl<M: Manages, S: Start, L: Ledger, R: Wait> Door for Handle<'_, M, S, L, R> {
         (b.share.parts, b.share.amount) };
 
     fn call(&mut self, session: u64, request: Request) -> Reply {
-        self.sequencer
-            .call(self.rt, &mut self.share, session, request)
+        let reply = self
+            .sequencer
+            .call(self.rt, &mut self.share, session, request);
+        self.counted = after(self.counted, !is_memory(&reply));
+        reply
     }
 
     fn status(&self) -> Status {
@@ -157,7 +207,19 @@ impl<M: Manages, S: Start, L: Ledger, R: Wait> Door for Handle<'_, M, S, L, R> {
     }
 
     fn hangup(&mut self, session: u64) {
-        let _was_connected = self.sequencer.hangup(self.rt, &mut self.share, session);
+        let was_connected = self.sequencer.hangup(self.rt, &mut self.share, session);
+        self.counted = after(self.counted, was_connected);
+    }
+}
+
+// How many are counted after an event, which is an entry or none.
+fn after(counted: u64, is_entry: bool) -> u64
+    ensures { result < most_numbers → MatchBool is_entry (result ≡ counted + 1) (result ≡ counted) }
+{
+    if is_entry {
+        counted.saturating_add(1)
+    } else {
+        counted
     }
 }
 

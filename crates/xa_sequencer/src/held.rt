@@ -1,28 +1,29 @@
-ghost use Rattle.std.specs.Prelude.{◌≡◌, ◌<◌, IfOk, OnErr};
-ghost use Rattle.std.specs.List.{AllByRecursion};
+ghost use Rattle.std.specs.Prelude.{◌≡◌, ◌+◌, ◌<◌, MatchBool};
 ghost use Rattle.xa_frame.specs.Limits.{IsReply, IsRequest};
-ghost use Rattle.xa_manager.specs.Once.{AreOnce};
-ghost use Rattle.xa_room.specs.Together.{IsToldOf};
-ghost use Rattle.xa_sequencer.specs.Shared.{CalledBy, CalledTogetherBy};
+ghost use Rattle.xa_sequencer.specs.Shared.{CalledBy};
 
+use crate::answered::Answered;
 use crate::booked::Booked;
-use std::alloc::AllocError;
+use crate::mail::Mail;
 use std::fmt;
-use std::sync::MutexGuard;
 use std::sync::ledger::{Ledger, Share};
+use std::sync::{Mutex, MutexGuard, Wait};
 use xa_frame::{Reply, Request};
-use xa_manager::Asked;
-use xa_room::{Manages, Start};
+use xa_room::{Manages, Start, take};
 
 /// The lock of a sequencer that many threads share, while one of them has it: several calls under one hold of it.
 #[derive(Drop)]
 pub struct Held<'a, M: Manages, S: Start, L: Ledger> {
     booked: MutexGuard<'a, Booked<M, S, L>>,
+    mailbox: &'a Mutex<Mail>,
 }
 
 impl<'a, M: Manages, S: Start, L: Ledger> Held<'a, M, S, L> {
-    pub(crate) fn new(booked: MutexGuard<'a, Booked<M, S, L>>) -> Held<'a, M, S, L> {
-        Held { booked }
+    pub(crate) fn new(
+        booked: MutexGuard<'a, Booked<M, S, L>>,
+        mailbox: &'a Mutex<Mail>,
+    ) -> Held<'a, M, S, L> {
+        Held { booked, mailbox }
     }
 
     /// Answers a request of a session, as `SharedSequencer::call` does.
@@ -36,22 +37,24 @@ impl<'a, M: Manages, S: Start, L: Ledger> Held<'a, M, S, L> {
         self.booked.call(share, session, request)
     }
 
-    /// Answers calls of sessions together, as `Sequencer::call_together` does.
-    pub(crate) fn call_together(
-        &mut self,
-        share: &mut Share<L>,
-        calls: &[Asked],
-    ) -> Result<Vec<(usize, Reply)>, AllocError>
-        requires share { 0 < share.old.parts }
-        requires asked { AllByRecursion (λ c. IsRequest c.request) calls.now }
-        ensures ok { IfOk result (λ replies.
-            CalledTogetherBy M.Manages S.start S.base (share.old.parts, share.old.amount) calls.now replies.items
-            (share.new.parts, share.new.amount)) }
-        ensures told { IfOk result (λ replies. AllByRecursion (IsToldOf calls.now) replies.items) }
-        ensures once { IfOk result (λ replies. AreOnce replies.items) }
-        ensures err { OnErr result ((share.new.parts ≡ share.old.parts) × (share.new.amount ≡ share.old.amount)) }
+    /// Answers the calls that threads have posted, those that may share one append. Each finds its answer in its tray.
+    pub(crate) fn answer_posted<R: Wait>(&mut self, rt: &R) {
+        self.booked.take_mail(&mut take(rt, self.mailbox));
+        self.booked.answer_mail();
+    }
+
+    /// The next answer in a thread's tray.
+    pub(crate) fn next_answer(&mut self, tray: usize) -> Option<Answered<M, S>> {
+        self.booked.next_answer(tray)
+    }
+
+    /// Counts one of the answers that are in no share yet, where there is one.
+    pub(crate) fn count(&mut self, share: &mut Share<L>) -> bool
+        requires { 0 < share.old.parts }
+        ensures parts { share.new.parts ≡ share.old.parts }
+        ensures amount { MatchBool result (share.new.amount ≡ share.old.amount + 1) (share.new.amount ≡ share.old.amount) }
     {
-        self.booked.call_together(share, calls)
+        self.booked.count(share)
     }
 }
 

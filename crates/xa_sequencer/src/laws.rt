@@ -1,4 +1,4 @@
-ghost use Rattle.xa_sequencer.specs.Shared.{EachOfGroup};
+ghost use Rattle.xa_sequencer.specs.Posted.{EachOfGroup};
 ghost use Rattle.xa_sequencer.specs.Stands.{GoesOnTwice};
 ghost use Rattle.xa_sequencer.specs.Talks.{TalksGoOn};
 
@@ -15,7 +15,7 @@ pub fn talks_go_on<M: Manages, S: Start>()
     ensures { TalksGoOn M.Manages S.start S.base }
 {}
 
-/// Each call of a group is told by itself, by shares that count one after another, in whichever order. It does nothing.
+/// Each call of a group is told by itself, to whichever share counts fewer events than there are after it. It does nothing.
 pub fn each_of_group<M: Manages, S: Start>()
     ensures { EachOfGroup M.Manages S.start S.base }
 {}

@@ -5,6 +5,8 @@
 //!   connection
 //! - `shared`: `SharedSequencer`, a sequencer behind a lock, which many threads share; `booked`: the sequencer and the
 //!   ledger's book under it; `held`: `Held`, its lock while a thread has it; `handle`: `Handle`, a thread's door of it
+//! - `mail`: calls that threads post for whichever of them has the lock; `answered`: `Answered`, what one of them was
+//!   answered; `trays`: these answers, until their threads take them
 //! - `associates`: `Associates`, a manager that tells which sessions have an association, and where its log ends
 //! - `together`: calls that are asked together, as a group; `numbers`: whether there are numbers left
 //! - `laws`: `goes_on_twice`, that histories go on with the entries of one event and of another; `talks_go_on`, with those
@@ -13,17 +15,21 @@
 //! A room of `xa_room` asks the same of a manager, and keeps each entry.
 #![tactic(auto)]
 
+mod answered;
 mod associates;
 mod booked;
 mod door;
 mod handle;
 mod held;
 mod laws;
+mod mail;
 mod numbers;
 mod sequencer;
 mod shared;
 mod together;
+mod trays;
 
+pub use answered::Answered;
 pub use associates::Associates;
 pub use handle::Handle;
 pub use held::Held;

@@ -1,12 +1,15 @@
-ghost use Rattle.std.specs.Prelude.{◌≡◌, ◌<◌};
+ghost use Rattle.std.specs.Prelude.{◌≡◌, ◌+◌, ◌<◌};
 ghost use Rattle.xa_frame.specs.Limits.{IsReply, IsRequest};
 ghost use Rattle.xa_sequencer.specs.Shared.{CalledBy, ConnectedBy, IsTold, LeftBy};
 
 use crate::associates::Associates;
 use crate::booked::Booked;
 use crate::held::Held;
+use crate::mail::{Mail, Sender};
 use crate::sequencer::Sequencer;
+use std::alloc::{AllocError, Global};
 use std::fmt;
+use std::sync::atomic::{AtomicU64, Ordering};
 use std::sync::ledger::{Blank, Book, Ledger, Share};
 use std::sync::{Mutex, Wait};
 use xa_assoc::ConnectFault;
@@ -18,19 +21,31 @@ use xa_room::{Manages, Start, take};
 #[derive(Drop)]
 pub struct SharedSequencer<M: Manages, S: Start, L: Ledger> {
     lock: Mutex<Booked<M, S, L>>,
+    /// Calls that wait for whichever thread has the lock.
+    mailbox: Mutex<Mail>,
+    /// How many threads wait for the lock to hold it.
+    waiting: AtomicU64,
 }
 
 impl<M: Manages, S: Start, L: Ledger> SharedSequencer<M, S, L> {
     /// The share has every part of the ledger, and counts what was numbered so far.
-    pub fn new(sequencer: Sequencer<M, S>, blank: Blank) -> (SharedSequencer<M, S, L>, Share<L>)
+    pub fn new(
+        alloc: Global,
+        sequencer: Sequencer<M, S>,
+        blank: Blank,
+    ) -> (SharedSequencer<M, S, L>, Share<L>)
         requires name { blank.name ≡ L.name }
         requires parts { blank.parts ≡ L.parts }
         requires some { 0 < blank.parts }
         ensures { (result.1.parts ≡ L.parts) × (result.1.amount ≡ sequencer.count) }
     {
-        let (booked, share) = Booked::open(sequencer, blank);
-        let lock = Mutex::new(booked);
-        (SharedSequencer { lock }, share)
+        let (booked, share) = Booked::open(alloc, sequencer, blank);
+        let shared = SharedSequencer {
+            lock: Mutex::new(booked),
+            mailbox: Mutex::new(Mail::new(alloc)),
+            waiting: AtomicU64::new(0),
+        };
+        (shared, share)
     }
 
     /// Connects a session.
@@ -61,7 +76,32 @@ impl<M: Manages, S: Start, L: Ledger> SharedSequencer<M, S, L> {
 
     /// Takes the lock for several calls.
     pub(crate) fn hold<R: Wait>(&self, rt: &R) -> Held<'_, M, S, L> {
-        Held::new(take(rt, &self.lock))
+        self.waiting.fetch_add(1, Ordering::SeqCst);
+        let booked = take(rt, &self.lock);
+        self.waiting.fetch_sub(1, Ordering::SeqCst);
+        Held::new(booked, &self.mailbox)
+    }
+
+    /// Whether a thread waits to hold the lock.
+    pub(crate) fn is_wanted(&self) -> bool {
+        self.waiting.load(Ordering::SeqCst) > 0
+    }
+
+    /// Whether no thread has the lock.
+    pub(crate) fn is_free(&self) -> bool {
+        self.lock.try_lock().is_some()
+    }
+
+    /// A tray for the answers to a thread's posted calls.
+    pub(crate) fn add_tray<R: Wait>(&self, rt: &R, alloc: Global) -> Result<usize, AllocError> {
+        take(rt, &self.lock).add_tray(alloc)
+    }
+
+    /// Posts a call, where there is memory for it.
+    pub(crate) fn post<R: Wait>(&self, rt: &R, sender: Sender, session: u64, request: &Request)
+        requires { IsRequest request.now }
+    {
+        let _posted = take(rt, &self.mailbox).post(sender, session, request);
     }
 
     /// Hangs a session up, and says whether it was connected.
@@ -80,9 +120,10 @@ impl<M: Manages, S: Start, L: Ledger> SharedSequencer<M, S, L> {
         take(rt, &self.lock).status()
     }
 
-    /// The sequencer, and the ledger's book, whose total is its count.
-    pub fn into_sequencer(self) -> (Sequencer<M, S>, Book<L>)
-        ensures { result.1.total ≡ result.0.count }
+    /// The sequencer, the ledger's book, whose total is its count less the answers to posted calls that are in no share,
+    /// and how many these are: none, where each thread took its answers.
+    pub fn into_sequencer(self) -> (Sequencer<M, S>, Book<L>, u64)
+        ensures { result.1.total + result.2 ≡ result.0.count }
     {
         self.lock.into_inner().parts()
     }

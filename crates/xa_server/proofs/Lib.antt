@@ -3,4 +3,3 @@ pub mod Promising
 pub mod Failing
 pub mod Sharing
 pub mod Rounds
-pub mod Grouping

@@ -82,11 +82,15 @@ fn loop_by<
         return Err(ServerFault::Loops(loops));
     }
     let sequencer: Sequencer<M, S> = Sequencer::new(manager);
-    let (shared, share) = SharedSequencer::<M, S, L>::new(sequencer, blank);
+    let (shared, share) = SharedSequencer::<M, S, L>::new(rt.alloc(), sequencer, blank);
     let watch = Watch::new();
     let posts = make_posts(rt, &shared, &watch, share, loops)?;
     let (share, is_whole) = run_posts(rt, listener, &watch, posts, settings)?;
-    let (sequencer, mut book) = shared.into_sequencer();
+    let (sequencer, mut book, owed) = shared.into_sequencer();
+    // an answer that found no room in its loop's tray, though room was made for it before the call
+    if owed > 0 {
+        return Err(ServerFault::Memory);
+    }
     sequencer.promises();
     let mut share = share;
     book.audit(&mut share);
@@ -116,9 +120,9 @@ fn make_posts<'a, M: Manages, S: Start, L: Ledger, R: AllocGlobal + Clock + Wait
     let mut posts = Vec::new(alloc);
     for _i in 1..loops {
         let one = rest.split_off(1, 0);
-        posts.push(Post::new(rt, sequencer, watch, one, alloc))?;
+        posts.push(Post::new(rt, sequencer, watch, one, alloc)?)?;
     }
-    posts.push(Post::new(rt, sequencer, watch, rest, alloc))?;
+    posts.push(Post::new(rt, sequencer, watch, rest, alloc)?)?;
     Ok(posts)
 }
 

@@ -8,7 +8,7 @@ use xa_workers::WorkFault;
 /// Why nothing is told of what was served.
 #[derive(Clone, Copy, Debug, PartialEq, Eq, Error)]
 pub enum ServerFault {
-    /// There was no memory for the room, the workers or the audit, or for the loops.
+    /// There was no memory for the room, the workers or the audit, for the loops, or for a reply, of which nobody was told.
     #[error("no memory")]
     Memory,
     /// So many workers: not 1 to `MOST_WORKERS`. Nobody was served.

@@ -1,8 +1,7 @@
 ghost use Rattle.std.specs.Prelude.{◌≡◌};
-ghost use Rattle.xa_server.specs.Logging.{may_log};
 
-use crate::group::{Group, appends, put};
-use std::alloc::Global;
+use crate::logging::{appends, may_log};
+use std::alloc::{AllocError, Global};
 use std::fmt;
 use std::rt::Clock;
 use std::sync::Wait;
@@ -13,7 +12,11 @@ use xa_desk::Door;
 use xa_frame::{Reply, Request, Status};
 use xa_reactor::{Ask, Reception, Watch};
 use xa_room::{Manages, Start, Uptime};
-use xa_sequencer::{Associates, Handle, Held, SharedSequencer};
+use xa_sequencer::{Answered, Associates, Handle, Held, SharedSequencer};
+
+/// How often a loop lets others have the lock who wait for it, before it answers what they all have posted: what they ask
+/// meanwhile needn't wait for the device, and what they have posted shares its sync.
+const LETS: u32 = 4;
 
 /// A loop's post: a door at a sequencer that the loops share, with the loop's share of what is counted. A watch sees
 /// each reply.
@@ -23,16 +26,15 @@ pub(crate) struct Post<'a, M: Manages, S: Start, L: Ledger, R> {
     watch: &'a Watch,
     rt: &'a R,
     uptime: Uptime,
-    alloc: Global,
     /// How many calls there were that may have moved the log's end.
     logged: u64,
 }
 
 impl<'a, M: Manages, S: Start, L: Ledger, R: Clock + Wait> Post<'a, M, S, L, R> {
-    ghost use Rattle.std.specs.Prelude.{◌≡◌, ◌<◌, All};
+    ghost use Rattle.std.specs.Prelude.{◌≡◌, ◌<◌, All, IfOk};
     ghost use Rattle.xa_reactor.specs.Asking.{IsAnswered, TellsSome};
     ghost use Rattle.xa_server.specs.Loops.{Called};
-    ghost use Rattle.xa_server.specs.Rounds.{IsWithin, TellsAtMost, put_all};
+    ghost use Rattle.xa_server.specs.Rounds.{IsWithin, TellsAtMost};
 
     pub(crate) fn new(
         rt: &'a R,
@@ -40,19 +42,19 @@ impl<'a, M: Manages, S: Start, L: Ledger, R: Clock + Wait> Post<'a, M, S, L, R> 
         watch: &'a Watch,
         share: Share<L>,
         alloc: Global,
-    ) -> Post<'a, M, S, L, R>
-        requires { 0 < share.parts }
-        ensures { result.handle.share ≡ share }
+    ) -> Result<Post<'a, M, S, L, R>, AllocError>
+        requires some { 0 < share.parts }
+        requires none { share.amount ≡ 0 }
+        ensures { IfOk result (λ post. post.handle.share ≡ share) }
     {
-        let handle = Handle::new(rt, sequencer, share);
-        Post {
+        let handle = Handle::new(rt, sequencer, share, alloc)?;
+        Ok(Post {
             handle,
             watch,
             rt,
             uptime: Uptime::new(rt),
-            alloc,
             logged: 0,
-        }
+        })
     }
 
     // Answers those that can't log, in order.
@@ -66,39 +68,106 @@ impl<'a, M: Manages, S: Start, L: Ledger, R: Clock + Wait> Post<'a, M, S, L, R> 
         }
     }
 
-    // Answers those that append to the log together, if there are several: they share one write and one sync. Those that
-    // have no room with the others are left, and so are all where there is no memory.
-    fn answer_together(&mut self, held: &mut Option<Held<'a, M, S, L>>, asks: &mut [Ask])
-        requires { All IsWithin asks.old }
+    // Answers those that were posted, as far as whoever had the lock didn't, together with what other loops have posted:
+    // they share one write and one sync. Those that have no room with the others are left, and so are all where there is
+    // no memory.
+    fn answer_posted(&mut self, held: &mut Option<Held<'a, M, S, L>>, asks: &mut [Ask])
         ensures { TellsSome (Called M.Manages S.start S.base) (self.old.handle.share.parts, self.old.handle.share.amount)
             asks.old asks.new (self.new.handle.share.parts, self.new.handle.share.amount) }
     {
-        let Ok(group) = Group::of(asks, self.alloc) else {
-            return;
-        };
-        if group.calls.len() < 2 {
+        // it is taken anew
+        *held = None;
+        if !are_left(asks) {
             return;
         }
-        let mut lock = self.lock(held);
-        let answered = self.handle.call_together_held(&mut lock, &group.calls);
-        let Ok(replies) = answered else {
+        let mut lock = self.take_turn(asks);
+        self.answer_mail(&mut lock, asks);
+        if are_left(asks) {
             *held = Some(lock);
-            return;
-        };
-        drop(lock);
-        yield_now();
-        self.put_all(asks, &group.places, replies);
+        } else {
+            drop(lock);
+            yield_now();
+        }
     }
 
-    // Puts the replies of a group to their asks.
-    fn put_all(&mut self, asks: &mut [Ask], places: &[usize], replies: Vec<(usize, Reply)>)
-        ensures same { self.new.handle ≡ self.old.handle }
-        ensures put { asks.new ≡ put_all asks.old places.now replies.items }
+    // Answers what all have posted, if some are left.
+    fn answer_mail(&mut self, held: &mut Held<'a, M, S, L>, asks: &mut [Ask])
+        ensures { TellsSome (Called M.Manages S.start S.base) (self.old.handle.share.parts, self.old.handle.share.amount)
+            asks.old asks.new (self.new.handle.share.parts, self.new.handle.share.amount) }
     {
-        for (at, reply) in replies {
+        if are_left(asks) {
+            self.handle.answer_posted(held);
+            self.take_answers(held, asks);
+        }
+    }
+
+    // Takes the lock, and the answers that others gave. While some are left, others who wait for the lock come first, some
+    // times.
+    fn take_turn(&mut self, asks: &mut [Ask]) -> Held<'a, M, S, L>
+        ensures { TellsSome (Called M.Manages S.start S.base) (self.old.handle.share.parts, self.old.handle.share.amount)
+            asks.old asks.new (self.new.handle.share.parts, self.new.handle.share.amount) }
+    {
+        for _ in 0..LETS {
+            let mut held = self.handle.hold();
+            self.take_answers(&mut held, asks);
+            if !are_left(asks) || !self.handle.is_wanted() {
+                return held;
+            }
+            drop(held);
+            yield_now();
+        }
+        self.handle.hold()
+    }
+
+    // Takes the answers to what was posted.
+    fn take_answers(&mut self, held: &mut Held<'a, M, S, L>, asks: &mut [Ask])
+        ensures { TellsSome (Called M.Manages S.start S.base) (self.old.handle.share.parts, self.old.handle.share.amount)
+            asks.old asks.new (self.new.handle.share.parts, self.new.handle.share.amount) }
+    {
+        for _ in 0..asks.len() {
+            let Some(answered) = self.handle.next_answer(held) else {
+                return;
+            };
+            self.take_answer(held, asks, answered);
+        }
+    }
+
+    // Takes the answer to one of them, by its place.
+    fn take_answer(
+        &mut self,
+        held: &mut Held<'a, M, S, L>,
+        asks: &mut [Ask],
+        answered: Answered<M, S>,
+    )
+        ensures { TellsSome (Called M.Manages S.start S.base) (self.old.handle.share.parts, self.old.handle.share.amount)
+            asks.old asks.new (self.new.handle.share.parts, self.new.handle.share.amount) }
+    {
+        let place = answered.place();
+        if place < asks.len() {
+            self.take_answer_to(held, &mut asks[place], answered);
+        }
+    }
+
+    // Takes an answer, if it is to this ask.
+    fn take_answer_to(
+        &mut self,
+        held: &mut Held<'a, M, S, L>,
+        ask: &mut Ask,
+        answered: Answered<M, S>,
+    )
+        ensures { TellsAtMost (Called M.Manages S.start S.base)
+            (self.old.handle.share.parts, self.old.handle.share.amount) ask.old ask.new
+            (self.new.handle.share.parts, self.new.handle.share.amount) }
+    {
+        let is_to = match &ask.request {
+            Some(request) => answered.is_to(ask.session, request),
+            None => false,
+        };
+        if is_to && self.handle.count_answer(held, &answered) {
             self.logged = self.logged.wrapping_add(1);
-            self.watch.see(false, &reply);
-            put(asks, places, at, reply);
+            self.watch.see(false, answered.reply());
+            ask.request = None;
+            ask.reply = answered.into_reply();
         }
     }
 
@@ -180,7 +249,6 @@ impl<'a, M: Manages, S: Start, L: Ledger, R: Clock + Wait> Post<'a, M, S, L, R> 
             watch: _,
             rt: _,
             uptime: _,
-            alloc: _,
             logged: _,
         } = self;
         handle.into_share()
@@ -239,8 +307,24 @@ impl<M: Associates, S: Start, L: Ledger, R: Clock + Wait> Reception for Post<'_,
         }
         let mut held = None;
         self.answer_quick(&mut held, asks);
-        self.answer_together(&mut held, asks);
+        self.answer_posted(&mut held, asks);
         self.answer_left(&mut held, asks);
+    }
+
+    fn may_wait(&self, request: &Request) -> bool {
+        may_log(request)
+    }
+
+    fn post(&self, place: usize, ask: &Ask) {
+        if let Some(request) = &ask.request {
+            if appends(request) {
+                self.handle.post(place, ask.session, request);
+            }
+        }
+    }
+
+    fn is_free(&self) -> bool {
+        self.handle.is_free()
     }
 
     fn has_association(&self, session: u64) -> bool {
@@ -256,11 +340,9 @@ impl<M: Associates, S: Start, L: Ledger, R: Clock + Wait> Reception for Post<'_,
     }
 }
 
-// Whether a call may append to the log, or begin it anew.
-fn may_log(request: &Request) -> bool
-    ensures { result ≡ may_log request.now }
-{
-    appends(request) || matches!(request, Request::Restart | Request::Trim)
+// Whether a request is left to be answered.
+fn are_left(asks: &[Ask]) -> bool {
+    asks.iter().any(|ask| ask.request.is_some())
 }
 
 /// Shows the name alone.

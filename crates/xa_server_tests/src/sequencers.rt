@@ -78,6 +78,7 @@ fn a_sequencer_numbers_each_event(rt: HostRuntime) {
 struct Part<L: Ledger> {
     share: Share<L>,
     ghost some: { 0 < share.parts },
+    ghost none: { share.amount ≡ 0 },
 }
 
 // A connect, an Open and a hang-up.
@@ -98,7 +99,9 @@ fn visit<M: Manages, S: Start, L: Ledger, R: Wait>(
     part: Part<L>,
 ) -> bool {
     let Part { share } = part;
-    let mut handle = Handle::new(rt, sequencer, share);
+    let Ok(mut handle) = Handle::new(rt, sequencer, share, alloc) else {
+        return false;
+    };
     let is_right = opens(alloc, &mut handle) == Some(true);
     let _share = handle.into_share();
     is_right
@@ -117,7 +120,7 @@ fn counts_both<
     requires parts { (blank.parts ≡ L.parts) × (blank.parts ≡ 8) }
 {
     let sequencer: Sequencer<M, S> = Sequencer::new(manager);
-    let (shared, mut share) = SharedSequencer::<M, S, L>::new(sequencer, blank);
+    let (shared, mut share) = SharedSequencer::<M, S, L>::new(alloc, sequencer, blank);
     let other = share.split_off(1, 0);
     let mut parts = Vec::new(alloc);
     parts.push(Part { share }).ok()?;
@@ -125,8 +128,8 @@ fn counts_both<
     let mut visits = map_vec(rt, parts, &|part| visit(rt, alloc, &shared, part)).ok()?;
     let second = visits.pop()?;
     let first = visits.pop()?;
-    let (sequencer, _book) = shared.into_sequencer();
-    Some(first && second && sequencer.count() == 6)
+    let (sequencer, _book, owed) = shared.into_sequencer();
+    Some(first && second && owed == 0 && sequencer.count() == 6)
 }
 
 #[test]

@@ -1,4 +1,4 @@
-use Rattle.std.proofs.Common.{◌∙◌, ℕ, map, sym}
+use Rattle.std.proofs.Common.{◌∙◌, ℕ, map, arith}
 use Rattle.std.proofs.lemmas.List.{length-map}
 use Rattle.xa_server.proofs.Sharing.{sum_map}
 use Rattle.xa_server.proofs.engine.loop_by.Goals as goal
@@ -19,7 +19,7 @@ returns-clause-served g c =
         count = length-map posts (λ p. (p.handle.share.parts, p.handle.share.amount)) ∙ c.in_ok-posts.ensures.count;
         none = sum_map (λ p. (p.handle.share.parts, p.handle.share.amount)) (λ (s : ℕ × ℕ). s.1) posts ∙ c.in_ok-posts.ensures.none;
         loop = ran.loops.1;
-        calls_are = ran.loops.2 ∙ (c.audit.ensures.whole parts ∙ (c.into_sequencer-sequencer.ensures ∙ sym c.count.ensures));
+        calls_are = ran.loops.2 ∙ (c.audit.ensures.whole parts ∙ omega (arith, c.into_sequencer-sequencer.ensures, c.count.ensures));
       };
       legal = history.1.upholds.legal;
       promises = c.promises.ensures.promises history.0 history.1;

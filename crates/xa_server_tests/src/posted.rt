@@ -1,0 +1,168 @@
+ghost use Rattle.std.specs.Prelude.{◌≡◌, ◌<◌, IfSome};
+ghost use Rattle.xa_frame.specs.Limits.{IsRequest};
+ghost use Rattle.xa_model.specs.State.{State};
+
+use crate::desks::{PARTS, opened};
+use std::alloc::Global;
+use std::marker::Brand;
+use std::sync::Wait;
+use std::sync::ledger::{Blank, Ledger};
+use xa_codes::XA_OK;
+use xa_disk::MemDisk;
+use xa_frame::Request;
+use xa_manager::Manager;
+use xa_room::{Manages, Start};
+use xa_script::{Line, read_line};
+use xa_sequencer::{Handle, Held, Sequencer, SharedSequencer};
+
+fn call_of(alloc: Global, line: &str) -> Option<(u64, Request)>
+    ensures { IfSome result (λ call. IsRequest call.1) }
+{
+    match read_line(alloc, line.as_bytes()).ok()? {
+        Line::Call(session, request) => Some((session, request)),
+        _ => None,
+    }
+}
+
+// Whether each line is answered by 0.
+fn calls<M: Manages, S: Start, L: Ledger, R: Wait>(
+    alloc: Global,
+    handle: &mut Handle<'_, M, S, L, R>,
+    lines: &[&str],
+) -> Option<bool> {
+    let mut are_right = true;
+    for line in lines {
+        let (session, request) = call_of(alloc, line)?;
+        let mut held = handle.hold();
+        are_right &= handle.call_held(&mut held, session, request).code == XA_OK;
+    }
+    Some(are_right)
+}
+
+fn posts<M: Manages, S: Start, L: Ledger, R: Wait>(
+    alloc: Global,
+    handle: &Handle<'_, M, S, L, R>,
+    place: usize,
+    line: &str,
+) -> Option<()> {
+    let (session, request) = call_of(alloc, line)?;
+    handle.post(place, session, &request);
+    Some(())
+}
+
+// The number of the next answer, if it is 0 to this line, at this place, and to no other session.
+fn takes<M: Manages, S: Start, L: Ledger, R: Wait>(
+    alloc: Global,
+    handle: &mut Handle<'_, M, S, L, R>,
+    held: &mut Held<'_, M, S, L>,
+    place: usize,
+    line: &str,
+) -> Option<u64> {
+    let (session, request) = call_of(alloc, line)?;
+    let answered = handle.next_answer(held)?;
+    let is_right = answered.place() == place
+        && answered.is_to(session, &request)
+        && !answered.is_to(0, &request)
+        && handle.count_answer(held, &answered)
+        && answered.reply().code == XA_OK;
+    if is_right {
+        Some(answered.into_reply().place)
+    } else {
+        None
+    }
+}
+
+// Two prepares that two handles post are answered together, by the one that has the lock.
+fn share<M: Manages, S: Start, L: Ledger, R: Wait>(
+    alloc: Global,
+    first: &mut Handle<'_, M, S, L, R>,
+    second: &mut Handle<'_, M, S, L, R>,
+) -> Option<bool> {
+    posts(alloc, first, 3, "1 prepare TMNOFLAGS 1:aa:")?;
+    posts(alloc, second, 5, "2 prepare TMNOFLAGS 1:bb:")?;
+    let mut held = second.hold();
+    second.answer_posted(&mut held);
+    let later = takes(alloc, second, &mut held, 5, "2 prepare TMNOFLAGS 1:bb:")?;
+    let earlier = takes(alloc, first, &mut held, 3, "1 prepare TMNOFLAGS 1:aa:")?;
+    let is_over = first.next_answer(&mut held).is_none() && second.next_answer(&mut held).is_none();
+    Some(is_over && earlier == 11 && later == 12)
+}
+
+// A call that is posted alone is left to its handle.
+fn is_left<M: Manages, S: Start, L: Ledger, R: Wait>(
+    alloc: Global,
+    handle: &mut Handle<'_, M, S, L, R>,
+) -> Option<bool> {
+    posts(alloc, handle, 0, "1 commit TMNOFLAGS 1:aa:")?;
+    let mut held = handle.hold();
+    handle.answer_posted(&mut held);
+    let is_left = handle.next_answer(&mut held).is_none();
+    drop(held);
+    Some(is_left && calls(alloc, handle, &["1 commit TMNOFLAGS 1:aa:"])?)
+}
+
+fn answers<M: Manages, S: Start, L: Ledger, R: Wait>(
+    alloc: Global,
+    first: &mut Handle<'_, M, S, L, R>,
+    second: &mut Handle<'_, M, S, L, R>,
+) -> Option<bool> {
+    let are_connected = first.connect().ok()? == 1 && second.connect().ok()? == 2;
+    let is_ready = calls(
+        alloc,
+        first,
+        &[
+            "1 open TMNOFLAGS xarm",
+            "1 start TMNOFLAGS 1:aa:",
+            "1 put 6b 76",
+            "1 end TMSUCCESS 1:aa:",
+        ],
+    )?;
+    let is_other_ready = calls(
+        alloc,
+        second,
+        &[
+            "2 open TMNOFLAGS xarm",
+            "2 start TMNOFLAGS 1:bb:",
+            "2 put 6c 76",
+            "2 end TMSUCCESS 1:bb:",
+        ],
+    )?;
+    let is_shared = share(alloc, first, second)?;
+    let is_left = is_left(alloc, first)?;
+    Some(are_connected && is_ready && is_other_ready && is_shared && is_left)
+}
+
+fn shares_both<M: Manages + Drop, S: Start, L: Ledger, R: Wait>(
+    rt: &R,
+    alloc: Global,
+    manager: M,
+    blank: Blank,
+) -> Option<bool>
+    requires start { (s : State) → S.start s → M.stands manager s }
+    requires base { M.failures manager ≡ S.base }
+    requires name { blank.name ≡ L.name }
+    requires parts { (blank.parts ≡ L.parts) × (blank.parts ≡ 8) }
+{
+    let sequencer: Sequencer<M, S> = Sequencer::new(manager);
+    let (shared, mut share) = SharedSequencer::<M, S, L>::new(alloc, sequencer, blank);
+    let other = share.split_off(1, 0);
+    let mut first = Handle::new(rt, &shared, share, alloc).ok()?;
+    let mut second = Handle::new(rt, &shared, other, alloc).ok()?;
+    let are_right = answers(alloc, &mut first, &mut second);
+    let _first = first.into_share();
+    let _second = second.into_share();
+    let (sequencer, _book, owed) = shared.into_sequencer();
+    Some(are_right? && owed == 0 && sequencer.count() == 13)
+}
+
+#[test]
+fn posted_calls_share_an_append(rt: HostRuntime) {
+    let manager = opened(rt.alloc()).expect(&rt, "a manager");
+    let found = shares_both::<Manager<MemDisk>, Brand, Brand, HostRuntime>(
+        &rt,
+        rt.alloc(),
+        manager,
+        Blank::new(PARTS),
+    );
+    assert!(rt; found == Some(true));
+}
