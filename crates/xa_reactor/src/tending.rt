@@ -12,7 +12,7 @@ use crate::noticing::{LISTENER, note_all, notice_all};
 use crate::peers::Peers;
 use crate::reception::Reception;
 use crate::round::Round;
-use crate::timing::{FEW_EVENTS, GATHERS, LOOKS, Limits, wait_of};
+use crate::timing::{FEW_EVENTS, GATHERS, Limits, looks_of, wait_of};
 use crate::together::Together;
 use crate::trimming::{begin_trims, keep_short};
 use mio::{Events, Poll};
@@ -250,7 +250,7 @@ impl Loop {
 
     fn wait<R: Clock>(&mut self, rt: &R, common: &Common<'_>, peers: &Peers) -> io::Result<()> {
         let wait = wait_for(common, peers, &self.acceptor, self.clock.now);
-        let has_some = wait != Some(0) && self.had_few && self.look()?;
+        let has_some = wait != Some(0) && self.had_few && self.look(looks_of(peers.len()))?;
         if !has_some {
             self.poll
                 .poll(&mut self.events, wait.map(Duration::from_millis))?;
@@ -262,8 +262,8 @@ impl Loop {
 
     // Looks for events some times, and lets others run in between: whoever was answered may ask again sooner than a thread
     // that sleeps is woken. Whether there are some. Where none come the loop sleeps, and looks no more until it had some.
-    fn look(&mut self) -> io::Result<bool> {
-        for _ in 0..LOOKS {
+    fn look(&mut self, looks: usize) -> io::Result<bool> {
+        for _ in 0..looks {
             self.poll.poll(&mut self.events, Some(Duration::ZERO))?;
             if !self.events.is_empty() {
                 return Ok(true);

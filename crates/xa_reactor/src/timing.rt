@@ -8,13 +8,20 @@ pub(crate) const PAUSE: u64 = 100;
 /// How long it is from one look for connections that are overdue to the next.
 pub(crate) const LOOK: u64 = 1_000;
 
-/// How often a loop looks for events before it sleeps until one comes, and behind how many events at most it does so.
-pub(crate) const LOOKS: u32 = 40;
+/// How often a loop with one connection looks for events before it sleeps until one comes, and after how many events at most
+/// it does so.
+const LOOKS: usize = 40;
 
 pub(crate) const FEW_EVENTS: usize = 4;
 
 /// How often at most a loop looks for events while another holds up its answers.
 pub(crate) const GATHERS: u32 = 1_000;
+
+/// How often a loop with so many connections looks: the more they are, the sooner one of them wakes it, and the more others
+/// want the processor.
+pub(crate) fn looks_of(connections: usize) -> usize {
+    LOOKS / connections.max(1)
+}
 
 /// Whether a connection is overdue: it brought a part of a frame, and for so long, if there is such a limit, no byte
 /// more.
