@@ -8,14 +8,16 @@
 //! - `ask`: a request that a connection brought in; `together`: the turns of a round, with one call at the door for all
 //!   requests that wait for no device, whose replies are sent then, and another for the rest
 //! - `tending`: a loop, round by round (`round`, `timing`, `clock`): while another loop holds up its answers, it takes in
-//!   more requests; `noticing`: what events tell it; `acceptor`: the one that accepts; `common`: what the loops share,
-//!   with a `mailbox` for each
+//!   more requests, and for a while before it waits for a device (`patience`); `beside`: what it does between rounds;
+//!   `noticing`: what events tell it; `acceptor`: the one that accepts; `common`: what the loops share, with a `mailbox`
+//!   for each
 //! - `trims`: when the log is trimmed; `trimming`: by which session; `trimmed`: what became of that
 //! - `laws`: `trims_are_due`, `trims_are_told`, worked rows
 #![tactic(auto)]
 
 mod acceptor;
 mod ask;
+mod beside;
 mod cause;
 mod clock;
 mod common;
@@ -24,6 +26,7 @@ mod listener;
 mod loops;
 mod mailbox;
 mod noticing;
+mod patience;
 mod peer;
 mod peers;
 mod reception;

@@ -6,13 +6,15 @@ ghost use Rattle.xa_reactor.specs.Tending.{HasTended, Tends, sessions_of};
 ghost use Rattle.xa_reactor.specs.Together.{HasLent, IsOver};
 
 use crate::acceptor::Acceptor;
+use crate::beside::{accept, begin, goes_on, look, take_in, tell, wait_for};
 use crate::clock::LoopClock;
 use crate::common::Common;
-use crate::noticing::{LISTENER, note_all, notice_all};
+use crate::noticing::{note_all, notice_all};
+use crate::patience::Patience;
 use crate::peers::Peers;
 use crate::reception::Reception;
 use crate::round::Round;
-use crate::timing::{FEW_EVENTS, GATHERS, Limits, looks_of, wait_of};
+use crate::timing::{COMPANY, FEW_EVENTS, GATHERS, looks_of};
 use crate::together::Together;
 use crate::trimming::{begin_trims, keep_short};
 use mio::{Events, Poll};
@@ -75,6 +77,7 @@ struct Tools {
     /// What a read fills.
     scratch: Vec<u8>,
     together: Together,
+    patience: Patience,
     /// How many calls had been logged when the log's end was asked for.
     seen: u64,
 }
@@ -108,6 +111,7 @@ impl Loop {
             tools: Tools {
                 scratch: Vec::from_elem(rt.alloc(), 0u8, MOST_INPUT)?,
                 together: Together::new(rt.alloc()),
+                patience: Patience::new(),
                 seen: 0,
             },
             clock: LoopClock::new(rt)?,
@@ -164,7 +168,8 @@ impl Loop {
         false
     }
 
-    // The turns of those that have one, and of those that have one while another loop holds up the answers.
+    // The turns of those that have one, of those that have one while another loop holds up the answers, and of those that
+    // come before the device is waited for.
     fn give_together<D: Reception, R: AllocGlobal + Clock + Eprint + Wait>(
         &mut self,
         rt: &R,
@@ -177,11 +182,12 @@ impl Loop {
         ensures over { IsOver self.new.tools.together }
     {
         self.open_turns(rt.alloc(), peers, door);
-        let accepts = self.gather(rt.alloc(), peers, door);
+        let gathered = self.gather(rt.alloc(), peers, door);
+        let lingered = self.linger(rt.alloc(), peers, door);
         let round = Round::new(&self.poll, rt.alloc(), self.clock.now);
         self.tools.together.close_all(peers, round, door);
         keep_short(rt, common, door, round.now, &mut self.tools.seen);
-        accepts
+        gathered | lingered
     }
 
     // Opens the turns of those that have one.
@@ -224,6 +230,99 @@ impl Loop {
         ensures room { IsTrue result → HasRoom peers.new (capacity self.now.events) }
     {
         self.tools.together.waits() && !door.is_free() && peers.reserve(self.events.capacity())
+    }
+
+    // While requests are to be answered that may wait for a device, answers those that don't, and opens the turns of those
+    // that have one by then: what they ask shares the device's sync. Whether a connection waits to be accepted.
+    fn linger<D: Reception>(&mut self, alloc: Global, peers: &mut Peers, door: &mut D) -> bool
+        requires { HasLent (sessions_of peers.old.all) self.old.tools.together }
+        ensures tends { Tends D.connected D.called D.left (sessions_of peers.old.all) door.old (sessions_of peers.new.all) door.new }
+        ensures lent { HasLent (sessions_of peers.new.all) self.new.tools.together }
+    {
+        let looks = self.looks(peers);
+        if looks == 0 {
+            return false;
+        }
+        let (accepts, came) = self.look_on(alloc, peers, door, looks);
+        self.tools.patience.learn(came);
+        accepts
+    }
+
+    // How often to look for more requests.
+    fn looks(&mut self, peers: &Peers) -> u32
+        ensures { self.new.tools.together ≡ self.old.tools.together }
+    {
+        if self.may_linger(peers) {
+            self.tools.patience.looks()
+        } else {
+            0
+        }
+    }
+
+    // Looks for more requests so often. Whether a connection waits to be accepted, and whether there were events.
+    fn look_on<D: Reception>(
+        &mut self,
+        alloc: Global,
+        peers: &mut Peers,
+        door: &mut D,
+        looks: u32,
+    ) -> (bool, bool)
+        requires { HasLent (sessions_of peers.old.all) self.old.tools.together }
+        ensures tends { Tends D.connected D.called D.left (sessions_of peers.old.all) door.old (sessions_of peers.new.all) door.new }
+        ensures lent { HasLent (sessions_of peers.new.all) self.new.tools.together }
+    {
+        let mut accepts = false;
+        let mut came = false;
+        for _ in 0..looks {
+            if !self.may_linger(peers) {
+                return (accepts, came);
+            }
+            let Ok(told) = self.linger_once(alloc, peers, door) else {
+                // the next wait fails too
+                return (accepts, came);
+            };
+            accepts |= told;
+            came |= !self.events.is_empty();
+        }
+        (accepts, came)
+    }
+
+    // Whether more requests may come that share a sync with those that there are.
+    fn may_linger(&self, peers: &Peers) -> bool {
+        peers.len() >= COMPANY && self.tools.together.may_grow(peers.len())
+    }
+
+    // Answers the requests that wait for no device, and looks for events once.
+    fn linger_once<D: Reception>(
+        &mut self,
+        alloc: Global,
+        peers: &mut Peers,
+        door: &mut D,
+    ) -> io::Result<bool>
+        requires { HasLent (sessions_of peers.old.all) self.old.tools.together }
+        ensures tends { Tends D.connected D.called D.left (sessions_of peers.old.all) door.old (sessions_of peers.new.all) door.new }
+        ensures lent { HasLent (sessions_of peers.new.all) self.new.tools.together }
+    {
+        let round = Round::new(&self.poll, alloc, self.clock.now);
+        self.tools.together.answer_quick(peers, round, door);
+        self.gather_if_room(alloc, peers, door)
+    }
+
+    // Looks for events once, where there is room for the turns that they make.
+    fn gather_if_room<D: Reception>(
+        &mut self,
+        alloc: Global,
+        peers: &mut Peers,
+        door: &mut D,
+    ) -> io::Result<bool>
+        requires { HasLent (sessions_of peers.old.all) self.old.tools.together }
+        ensures tends { Tends D.connected D.called D.left (sessions_of peers.old.all) door.old (sessions_of peers.new.all) door.new }
+        ensures lent { HasLent (sessions_of peers.new.all) self.new.tools.together }
+    {
+        if !peers.reserve(self.events.capacity()) {
+            return Ok(false);
+        }
+        self.gather_once(alloc, peers, door)
     }
 
     // Looks for events once.
@@ -274,41 +373,6 @@ impl Loop {
     }
 }
 
-fn goes_on(common: &Common<'_>, is_over: bool, peers: &Peers) -> bool {
-    !common.is_stopped() && !(is_over && peers.len() == 0)
-}
-
-// The listener, where the loop is to accept.
-fn begin<R: Wait>(
-    rt: &R,
-    common: &Common<'_>,
-    index: usize,
-    poll: &Poll,
-) -> io::Result<Option<Acceptor>> {
-    let Some(mut listener) = common.begin(rt, index) else {
-        return Ok(None);
-    };
-    listener.register(poll.registry(), LISTENER)?;
-    Ok(Some(Acceptor::new(listener, common.settings.connections)))
-}
-
-fn wait_for(
-    common: &Common<'_>,
-    peers: &Peers,
-    acceptor: &Option<Acceptor>,
-    now: u64,
-) -> Option<u64> {
-    let (waits, pauses) = match acceptor {
-        Some(acceptor) => (acceptor.waits(), acceptor.is_pausing(common, now)),
-        None => (false, false),
-    };
-    wait_of(
-        peers.queued() > 0 || waits && !pauses,
-        pauses,
-        peers.len() > 0,
-    )
-}
-
 // The turns of so many that have one, one by one.
 fn give_each<D: Reception, R: AllocGlobal + Clock + Eprint + Wait>(
     rt: &R,
@@ -338,71 +402,4 @@ fn give_turn<D: Reception, R: AllocGlobal + Clock + Eprint + Wait>(
 {
     peers.give_turn(round, &mut tools.scratch, door);
     keep_short(rt, common, door, round.now, &mut tools.seen);
-}
-
-// Ends those that are overdue, where a look is due.
-fn look<D: Reception>(
-    common: &Common<'_>,
-    round: Round<'_>,
-    peers: &mut Peers,
-    door: &mut D,
-    is_look: bool,
-)
-    ensures { Tends D.connected D.called D.left (sessions_of peers.old.all) door.old (sessions_of peers.new.all) door.new }
-{
-    if is_look {
-        let limits = Limits {
-            inside: common.settings.frame_seconds.saturating_mul(1_000),
-            idle: common.settings.idle_seconds.saturating_mul(1_000),
-        };
-        peers.end_overdue(door, round.now, limits);
-    }
-}
-
-fn accept<R: Eprint + Wait>(
-    rt: &R,
-    common: &Common<'_>,
-    acceptor: &mut Option<Acceptor>,
-    accepts: bool,
-    now: u64,
-) {
-    if let Some(acceptor) = acceptor {
-        if accepts {
-            acceptor.notice();
-        }
-        acceptor.accept_all(rt, common, now);
-        acceptor.tell(rt, now);
-    }
-}
-
-// Takes in the connections that were handed to the loop.
-fn take_in<D: Reception, R: Wait>(
-    rt: &R,
-    common: &Common<'_>,
-    index: usize,
-    round: Round<'_>,
-    peers: &mut Peers,
-    door: &mut D,
-)
-    ensures { Tends D.connected D.called D.left (sessions_of peers.old.all) door.old (sessions_of peers.new.all) door.new }
-{
-    for _ in 0..u32::MAX {
-        let Some(socket) = common.take(rt, index) else {
-            return;
-        };
-        if !peers.add(round, door, socket) {
-            common.leave(1);
-        }
-    }
-}
-
-// Tells that the manager went down, and why, where that is news, and ends all loops, where that is asked.
-fn tell<R: Eprint>(rt: &R, common: &Common<'_>) {
-    let Some(cause) = common.watch.news() else {
-        return;
-    };
-    let _ = eprintln!(rt; "xarm: manager down until a Restart or a restart of the server: {cause}");
-    if common.settings.ends_when_down {
-        common.stop();
-    }
 }

@@ -17,6 +17,10 @@ pub(crate) const FEW_EVENTS: usize = 4;
 /// How often at most a loop looks for events while another holds up its answers.
 pub(crate) const GATHERS: u32 = 1_000;
 
+/// How many connections a loop has at least that looks for more requests before it answers those that may wait for a
+/// device.
+pub(crate) const COMPANY: usize = 3;
+
 /// How often a loop with so many connections looks: the more they are, the sooner one of them wakes it, and the more others
 /// want the processor.
 pub(crate) fn looks_of(connections: usize) -> usize {

@@ -12,6 +12,9 @@ use crate::reception::Reception;
 use crate::round::Round;
 use std::alloc::Global;
 
+/// After how many turns a round waits for no more.
+const MANY_TURNS: usize = 64;
+
 /// What the turns of a round came to, until all of them are over.
 #[derive(Drop)]
 pub(crate) struct Together {
@@ -55,6 +58,12 @@ impl Together {
     /// Whether there are requests that may wait for a device.
     pub(crate) fn waits(&self) -> bool {
         !self.waiting.is_empty()
+    }
+
+    /// Whether there are requests that may wait for a device, some of so many connections have asked for none, and the
+    /// round has had few turns.
+    pub(crate) fn may_grow(&self, connections: usize) -> bool {
+        self.waits() && self.waiting.len() < connections && self.over.len() < MANY_TURNS
     }
 
     /// Opens so many turns more, where there is memory for that.
@@ -126,6 +135,20 @@ impl Together {
             }
             Opened::Over(step) => self.over.push_reserved((key, step)),
         }
+    }
+
+    /// Answers the requests that wait for no device, and sends the replies.
+    pub(crate) fn answer_quick<D: Reception>(
+        &mut self,
+        peers: &mut Peers,
+        round: Round<'_>,
+        door: &mut D,
+    )
+        requires { HasLent (sessions_of peers.old.all) self.old }
+        ensures tends { Tends D.connected D.called D.left (sessions_of peers.old.all) door.old (sessions_of peers.new.all) door.new }
+        ensures lent { HasLent (sessions_of peers.new.all) self.new }
+    {
+        give_replies(&mut self.quick, &mut self.over, peers, round, door);
     }
 
     /// Answers the requests that were brought in, and closes their turns. The replies to those that wait for no device are

@@ -19,6 +19,9 @@ const TRIM: [u8; 2] = [1, 65];
 /// After how many calls at its door that may have moved the log's end a loop asks for that.
 const PACE: u64 = 4;
 
+/// The same where it would have to wait for other loops.
+const SLOW_PACE: u64 = 16;
+
 /// A loop begins: it looks where the log ends, before anybody is answered.
 pub(crate) fn begin_trims<D: Reception, R: Wait>(rt: &R, common: &Common<'_>, door: &D) {
     if common.settings.trim_bytes > 0 {
@@ -38,7 +41,7 @@ pub(crate) fn keep_short<D: Reception, R: AllocGlobal + Clock + Eprint + Wait>(
     ensures { IsAside D.connected D.called D.left TRIM door.old door.new }
 {
     let logged = door.logged();
-    if common.settings.trim_bytes == 0 || logged.wrapping_sub(*seen) < PACE {
+    if common.settings.trim_bytes == 0 || !is_to_look(door, logged.wrapping_sub(*seen)) {
         return;
     }
     *seen = logged;
@@ -46,12 +49,19 @@ pub(crate) fn keep_short<D: Reception, R: AllocGlobal + Clock + Eprint + Wait>(
         return;
     }
     // no two loops trim one log
-    let mut trims = common.trims.lock(rt);
+    let Some(mut trims) = common.trims.try_lock() else {
+        return;
+    };
     let end = door.log_end();
     trims.look(end);
     if trims.is_to_trim(&common.settings, now, end) {
         trim(rt, door, &mut trims, now, end);
     }
+}
+
+// Whether to ask for the log's end, so many calls after it was asked for.
+fn is_to_look<D: Reception>(door: &D, calls: u64) -> bool {
+    calls >= SLOW_PACE || calls >= PACE && door.is_free()
 }
 
 // Trims the log, which ends there, and tells of it.

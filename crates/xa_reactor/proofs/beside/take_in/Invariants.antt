@@ -1,5 +1,5 @@
 use Rattle.xa_reactor.specs.Tending.{Tends, sessions_of}
-use Rattle.xa_reactor.proofs.tending.take_in.Given as goal
+use Rattle.xa_reactor.proofs.beside.take_in.Given as goal
 
 abbrev pub invariant-loop : goal.invariant-loop
 invariant-loop g l =

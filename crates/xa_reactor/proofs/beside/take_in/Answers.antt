@@ -1,6 +1,6 @@
 use Rattle.xa_reactor.specs.Tending.{sessions_of}
 use Rattle.xa_reactor.proofs.Doing.{tends_twice}
-use Rattle.xa_reactor.proofs.tending.take_in.Goals as goal
+use Rattle.xa_reactor.proofs.beside.take_in.Goals as goal
 
 pub loop-preserved : goal.loop-preserved
 loop-preserved g c =

@@ -1,0 +1,15 @@
+use Rattle.std.proofs.Common.{[], ap, arith, length}
+use Rattle.std.proofs.lemmas.List.Elements.{All-nil, All-same}
+use Rattle.xa_reactor.specs.Asking.{IsLent}
+use Rattle.xa_reactor.specs.Tending.{Table, sessions_of}
+use Rattle.xa_reactor.proofs.Asking.{lent_still}
+use Rattle.xa_reactor.proofs.together.Together.answer_quick.Goals as goal
+
+pub returns-clause-lent : goal.returns-clause-lent
+returns-clause-lent g c =
+    let table : Table = sessions_of c.give_replies.new.peers.all in
+    record {
+      quick = All-same (IsLent table) _ [] c.give_replies.ensures.none (All-nil (IsLent table));
+      waiting = lent_still (sessions_of c.args.peers.now.all) table c.args.self.now.waiting.items c.give_replies.ensures.same c.requires.waiting;
+      room = omega (arith, c.give_replies.ensures.room.0, c.give_replies.ensures.room.1, ap length c.give_replies.ensures.none);
+    }

@@ -1,0 +1,119 @@
+//! What a loop does between its rounds.
+ghost use Rattle.xa_reactor.specs.Tending.{Tends, sessions_of};
+
+use crate::acceptor::Acceptor;
+use crate::common::Common;
+use crate::noticing::LISTENER;
+use crate::peers::Peers;
+use crate::reception::Reception;
+use crate::round::Round;
+use crate::timing::{Limits, wait_of};
+use mio::Poll;
+use std::io;
+use std::rt::Clock;
+use std::sync::Wait;
+
+/// The listener, where the loop is to accept.
+pub(crate) fn begin<R: Wait>(
+    rt: &R,
+    common: &Common<'_>,
+    index: usize,
+    poll: &Poll,
+) -> io::Result<Option<Acceptor>> {
+    let Some(mut listener) = common.begin(rt, index) else {
+        return Ok(None);
+    };
+    listener.register(poll.registry(), LISTENER)?;
+    Ok(Some(Acceptor::new(listener, common.settings.connections)))
+}
+
+/// For how long to wait for events, in milliseconds, None until one comes.
+pub(crate) fn wait_for(
+    common: &Common<'_>,
+    peers: &Peers,
+    acceptor: &Option<Acceptor>,
+    now: u64,
+) -> Option<u64> {
+    let (waits, pauses) = match acceptor {
+        Some(acceptor) => (acceptor.waits(), acceptor.is_pausing(common, now)),
+        None => (false, false),
+    };
+    wait_of(
+        peers.queued() > 0 || waits && !pauses,
+        pauses,
+        peers.len() > 0,
+    )
+}
+
+/// Ends those that are overdue, where a look is due.
+pub(crate) fn look<D: Reception>(
+    common: &Common<'_>,
+    round: Round<'_>,
+    peers: &mut Peers,
+    door: &mut D,
+    is_look: bool,
+)
+    ensures { Tends D.connected D.called D.left (sessions_of peers.old.all) door.old (sessions_of peers.new.all) door.new }
+{
+    if is_look {
+        let limits = Limits {
+            inside: common.settings.frame_seconds.saturating_mul(1_000),
+            idle: common.settings.idle_seconds.saturating_mul(1_000),
+        };
+        peers.end_overdue(door, round.now, limits);
+    }
+}
+
+/// Accepts connections, where the loop is to; `accepts` where an event told of some.
+pub(crate) fn accept<R: Eprint + Wait>(
+    rt: &R,
+    common: &Common<'_>,
+    acceptor: &mut Option<Acceptor>,
+    accepts: bool,
+    now: u64,
+) {
+    if let Some(acceptor) = acceptor {
+        if accepts {
+            acceptor.notice();
+        }
+        acceptor.accept_all(rt, common, now);
+        acceptor.tell(rt, now);
+    }
+}
+
+/// Takes in the connections that were handed to the loop.
+pub(crate) fn take_in<D: Reception, R: Wait>(
+    rt: &R,
+    common: &Common<'_>,
+    index: usize,
+    round: Round<'_>,
+    peers: &mut Peers,
+    door: &mut D,
+)
+    ensures { Tends D.connected D.called D.left (sessions_of peers.old.all) door.old (sessions_of peers.new.all) door.new }
+{
+    for _ in 0..u32::MAX {
+        let Some(socket) = common.take(rt, index) else {
+            return;
+        };
+        if !peers.add(round, door, socket) {
+            common.leave(1);
+        }
+    }
+}
+
+/// Tells that the manager went down, and why, where that is news, and ends all loops, where that is asked.
+pub(crate) fn tell<R: Eprint>(rt: &R, common: &Common<'_>) {
+    let Some(cause) = common.watch.news() else {
+        return;
+    };
+    let _ = eprintln!(rt; "xarm: manager down until a Restart or a restart of the server: {cause}");
+    if common.settings.ends_when_down {
+        common.stop();
+    }
+}
+
+/// Whether there is another round.
+pub(crate) fn goes_on(common: &Common<'_>, is_over: bool, peers: &Peers) -> bool {
+    !common.is_stopped() && !(is_over && peers.len() == 0)
+}

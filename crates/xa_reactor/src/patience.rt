@@ -1,0 +1,44 @@
+/// How often at most a loop looks for more requests before it answers those that may wait for a device.
+const LOOKS: u32 = 60;
+
+/// How often at most that is left out, after it was in vain.
+const MOST_SKIPS: u32 = 63;
+
+/// Whether it is worth a loop's time to look for more requests before it answers those that may wait for a device, with
+/// which they share its sync: not where the last time was in vain. Then it is left out once, and twice as often and once
+/// more each time that it is in vain again: a client alone among idle connections hardly waits for them.
+#[derive(Debug, Drop)]
+pub(crate) struct Patience {
+    /// How often it was left out after the last time in vain.
+    skips: u32,
+    /// How often it is still to be left out.
+    left: u32,
+}
+
+impl Patience {
+    pub(crate) fn new() -> Patience {
+        Patience { skips: 0, left: 0 }
+    }
+
+    /// How often to look now.
+    pub(crate) fn looks(&mut self) -> u32 {
+        if self.left > 0 {
+            self.left -= 1;
+            return 0;
+        }
+        LOOKS
+    }
+
+    /// It was looked; whether requests came.
+    pub(crate) fn learn(&mut self, came: bool) {
+        self.skips = if came {
+            0
+        } else {
+            self.skips
+                .saturating_mul(2)
+                .saturating_add(1)
+                .min(MOST_SKIPS)
+        };
+        self.left = self.skips;
+    }
+}
