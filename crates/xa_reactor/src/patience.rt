@@ -1,5 +1,5 @@
 /// How often at most a loop looks for more requests before it answers those that may wait for a device.
-const LOOKS: u32 = 60;
+const LOOKS: u32 = 100;
 
 /// How often at most that is left out, after it was in vain.
 const MOST_SKIPS: u32 = 63;

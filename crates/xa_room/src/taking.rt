@@ -1,18 +1,42 @@
+use std::hint::spin_loop;
 use std::sync::{Mutex, MutexGuard, Wait};
 use std::thread::yield_now;
 
 /// How often a thread looks for the lock before it sleeps for it.
-const LOOKS: u32 = 1000;
+const LOOKS: u32 = 500;
+
+/// How often it tries to take it at each look.
+const TRIES: u32 = 16;
+
+/// How long it pauses after a try, in pauses of the processor: some 50 to 500 nanoseconds.
+const PAUSES: u32 = 10;
 
 /// Takes the lock. It is given back soon, mostly within a few microseconds, and a thread that sleeps is woken only
 /// after more than that: so whoever wants it looks for it again and again, and lets others run in between, before it
-/// sleeps.
+/// sleeps. To let others run is a call of the system, which costs them time too, so it tries several times before that.
 pub fn take<'a, T, R: Wait>(rt: &R, lock: &'a Mutex<T>) -> MutexGuard<'a, T> {
     for _ in 0..LOOKS {
-        if let Some(guard) = lock.try_lock() {
+        if let Some(guard) = look(lock) {
             return guard;
         }
         yield_now();
     }
     lock.lock(rt)
+}
+
+// Tries to take the lock several times.
+fn look<T>(lock: &Mutex<T>) -> Option<MutexGuard<'_, T>> {
+    for _ in 0..TRIES {
+        if let Some(guard) = lock.try_lock() {
+            return Some(guard);
+        }
+        pause();
+    }
+    None
+}
+
+fn pause() {
+    for _ in 0..PAUSES {
+        spin_loop();
+    }
 }
