@@ -21,6 +21,7 @@ pub mod Within
 pub mod Tidied
 pub mod Noted
 pub mod Exact
+pub mod Begun
 pub mod ByTimestamp
 pub mod Joined
 pub mod Passed

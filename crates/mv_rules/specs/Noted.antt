@@ -1,8 +1,8 @@
 -- What an answered get, an accepted put and a decision change of what is kept and noted, exactly, and that branches
 -- which only read keys that nobody knows leave nothing behind.
 use Rattle.std.specs.Prelude.{◌≡◌, ℕ, ◌<◌, ◌≤◌, ◌-◌, true, false, List, [], ◌∷◌, ◌++◌, length}
-use Rattle.std.specs.Prelude.{Option, Some, None, option_map, bytes_eq, if◌then◌else◌}
-use Rattle.std.specs.List.{AllByRecursion as Each}
+use Rattle.std.specs.Prelude.{Bool, Option, Some, None, option_map, bytes_eq, if◌then◌else◌}
+use Rattle.std.specs.List.{AllByRecursion as Each, list_any}
 use Rattle.std.specs.BTreeMap.{BTreeMap, insert_entry, IsOrdered}
 use Rattle.std.specs.Ordering.{nat_cmp}
 use Rattle.xa_codes.specs.declared.write.Write.{Write}
@@ -73,10 +73,27 @@ pub record Settles (ts : ℕ) (fate : Fate) (old new : Records) : Type 0 where
   pub some : 0 < length (own_of ts old) → MovesDecided ts old.notes new.notes
   pub none : own_of ts old ≡ [] → new.notes ≡ old.notes
 
+-- what a decision leaves, where there is one
+abbrev pub SettlesIf : ℕ → Option Fate → Records → Records → Type 0
+SettlesIf ts None old new = old ≡ new
+SettlesIf ts (Some fate) old new = Settles ts fate old new
+
+-- whether a key is among those of the writes
+abbrev pub writes_key : List ℕ → List Write → Bool
+writes_key key writes = list_any (λ w. bytes_eq key w.key) writes
+
+-- each key of the writes is kept, as one that nobody wrote where nothing was kept of it; all else is as it was
+pub record Begins (writes : List Write) (old new : Records) : Type 0 where
+  pub kept : (q : List ℕ) → kept_of q new ≡ (if writes_key q writes then Some (or_fresh (kept_of q old)) else kept_of q old)
+  pub notes : new.notes ≡ old.notes
+
 -- what the writes of a branch that lasted leave, and its decision if it has one
-abbrev pub Restores : ℕ → List Write → Option Fate → Records → Records → Type 0
-Restores ts writes None old new = PutsAll ts writes old new
-Restores ts writes (Some fate) old new = (put : Records) × PutsAll ts writes old put × Settles ts fate put new
+pub record Restores (ts : ℕ) (writes : List Write) (fate : Option Fate) (old new : Records) : Type 0 where
+  pub begun : Records
+  pub put : Records
+  pub begins : Begins writes old begun
+  pub puts : PutsAll ts writes begun put
+  pub settles : SettlesIf ts fate put new
 
 -- branches that each read one key, and are decided then, one after another
 abbrev pub ReadAlone : List (ℕ × List ℕ) → Records → Records → Type 0

@@ -22,7 +22,7 @@ const SPARE: usize = 16;
 /// How records are built anew of what lasted.
 impl Records {
     ghost use Rattle.mv_rules.specs.Calls.{IfStood, IfUnindexed, IfUnsettled};
-    ghost use Rattle.mv_rules.specs.Noted.{Puts, PutsAll, Restores};
+    ghost use Rattle.mv_rules.specs.Noted.{Begins, Puts, PutsAll, Restores};
     ghost use Rattle.mv_rules.specs.Records.{StandsFor, index_of, own_of};
     ghost use Rattle.mv_rules.specs.Restoring.{with_branch, IsRestorable};
     ghost use Rattle.mv_rules.specs.Tidy.{KeepsBut};
@@ -101,6 +101,21 @@ impl Records {
         Ok(())
     }
 
+    /// Makes the chains of the keys that a branch has written, where there are none. It begins with the last one: where a
+    /// branch wrote its keys in ascending order, and later branches greater ones, they fill the nodes of the index, of which
+    /// keys that only ascend leave half empty.
+    fn make_all(&mut self, writes: &[Write]) -> Result<(), AllocError>
+        ensures stands { OnOk result (IfStood self.old (λ h. StandsFor h self.new)) }
+        ensures begins { OnOk result (IfStood self.old (λ h. Begins writes.now self.old self.new)) }
+        ensures within { KeepsWithin self.old self.new }
+        ensures notes { self.new.notes ≡ self.old.notes }
+    {
+        for i in (0..writes.len()).rev() {
+            self.find_or_make(writes[i].key.as_slice())?;
+        }
+        Ok(())
+    }
+
     /// Adds the writes of a branch that lasted, as the log was read, and decides its fate where that is known:
     /// `None` leaves it undecided. Values that stand in the record's body, of which
     /// the writes are the end, are left there, and others copied. Nobody may have read, and each branch is added once.
@@ -110,21 +125,22 @@ impl Records {
     pub fn restore(
         &mut self,
         ts: u64,
-        writes: Vec<Write>,
+        writes: &[Write],
         fate: Option<Fate>,
         body: Option<&SharedBytes>,
     ) -> Result<(), AllocError>
         ensures stands { OnOk result (IfStood self.old (λ h. IsRestorable ts h
-            → StandsFor (record h { writes = with_branch ts fate writes.items h.writes }) self.new)) }
+            → StandsFor (record h { writes = with_branch ts fate writes.now h.writes }) self.new)) }
         ensures restores { OnOk result (IfStood self.old (λ h. IsRestorable ts h
-            → Restores ts writes.items fate self.old self.new)) }
-        ensures within { (n : ℕ) → IsWithin n self.old → AreShort n writes.items → IsWithin n self.new }
-        ensures keys { OnOk result (HasKeys self.old → own_of ts self.old ≡ [] → HaveKeys writes.items
+            → Restores ts writes.now fate self.old self.new)) }
+        ensures within { (n : ℕ) → IsWithin n self.old → AreShort n writes.now → IsWithin n self.new }
+        ensures keys { OnOk result (HasKeys self.old → own_of ts self.old ≡ [] → HaveKeys writes.now
             → HasKeys self.new) }
         ensures others { KeepsOwnBut ts self.old self.new }
         ensures decided { OnOk result (IsSome fate → own_of ts self.new ≡ []) }
     {
-        self.put_all(ts, &writes, body)?;
+        self.make_all(writes)?;
+        self.put_all(ts, writes, body)?;
         let Some(decided) = fate else {
             return Ok(());
         };

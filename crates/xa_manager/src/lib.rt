@@ -14,8 +14,8 @@
 //! - calls that are asked together, and share one append: `together`, `Asked`, and how a group is answered; `gathering`,
 //!   which calls form one; `prepares`, the rooms of its prepares; `answers`, what becomes of its branches
 //! - a boot: `settings`, `Settings`; `opening`, `restarting` or `trimming`, how it begins; `boots`, what is made
-//!   ready for it, and `rebuilding` its tables; `first_records`, how an opening logs it; `fault`: `ManagerFault`, why
-//!   there is no manager, and `refused`: `RefusedOpening`, with the disks
+//!   ready for it, and `rebuilding` its tables, of writes that are let go many together (`spent`); `first_records`, how an
+//!   opening logs it; `fault`: `ManagerFault`, why there is no manager, and `refused`: `RefusedOpening`, with the disks
 //! - `laws`: `read_leaves`, `read_stands` and `crash_leaves`, that a read and a crash leave the records of the state;
 //!   `files_last`, what these come to; `reached_promises`, `one_promises` and `begun_is_reached`, what is promised of
 //!   histories; `memory_is_trusted`, that disks in memory meet the premises
@@ -57,6 +57,7 @@ mod replies;
 mod restarting;
 mod row;
 mod settings;
+mod spent;
 mod status;
 mod tables;
 mod time_limits;

@@ -19,6 +19,7 @@ ghost use Rattle.xa_model.specs.Fold.{snapshot};
 ghost use Rattle.xa_manager.specs.Rebuilding.{AreNew, HaveWrites, HaveLow, CommittedAreShort, PreparedAreShort};
 ghost use Rattle.xa_manager.specs.Rebuilding.{PreparedHaveKeys, NoneHasWritten};
 
+use crate::spent::Spent;
 use mv_chain::Fate;
 use mv_rules::Records;
 use std::alloc::{AllocError, Global};
@@ -90,7 +91,7 @@ fn least_of(prepared: &BTreeMap<u64, InDoubt>, boot: u32) -> u64
     }
 }
 
-/// Moves the writes of committed branches into records without any, up to a low water of at most `least`: what is noted
+/// Puts the writes of committed branches into records without any, up to a low water of at most `least`: what is noted
 /// of a branch below it is let go again at once. The body of each is put behind the others before.
 fn put_committed(
     alloc: Global,
@@ -108,20 +109,22 @@ fn put_committed(
     ensures unwritten { NoneHasWritten records.old → OnOk result (NoneHasWritten records.new) }
     ensures bodies { OnOk result (Puts bodies.old (map base_body committed.entries) bodies.new) }
 {
+    let mut spent = Spent::new(alloc);
     for (timestamp, writes) in committed {
         put_base(alloc, bodies, timestamp, &writes)?;
         records.restore(
             timestamp,
-            writes.into_vec(),
+            writes.as_slice(),
             Some(Fate::Committed),
             bodies.last(),
         )?;
         records.low_water(timestamp.min(least));
+        spent.add(writes, bodies.last())?;
     }
     Ok(())
 }
 
-/// Moves those of the branches in doubt there, and puts their bodies behind the others.
+/// Puts those of the branches in doubt there, and puts their bodies behind the others.
 fn put_undecided(
     alloc: Global,
     records: &mut Records,
@@ -140,16 +143,18 @@ fn put_undecided(
         → OnOk result (HasKeys records.new) }
     ensures bodies { OnOk result (Puts bodies.old (map held_body prepared.entries) bodies.new) }
 {
+    let mut spent = Spent::new(alloc);
     for (timestamp, branch) in prepared {
         put_held(alloc, bodies, timestamp, &branch)?;
         let InDoubt { writes, .. } = branch;
-        records.restore(timestamp, writes.into_vec(), None, bodies.last())?;
+        records.restore(timestamp, writes.as_slice(), None, bodies.last())?;
+        spent.add(writes, bodies.last())?;
     }
     Ok(())
 }
 
 /// The versions that lasted, in the boot of this number, and the bodies of the records that its log begins with. Each
-/// branch is spelled, and its values are left in that body; what it lasted in is let go before the next one.
+/// branch is spelled, and its values are left in that body; what it lasted in is let go soon after.
 pub(crate) fn records_of(
     alloc: Global,
     durable: Durable,

@@ -28,11 +28,11 @@ fn tells_committed(alloc: Global) -> Result<bool, AllocError> {
     let mut records = Records::new(alloc);
     records.restore(
         FIRST,
-        writes_of(alloc, &WROTE)?,
+        &writes_of(alloc, &WROTE)?,
         Some(Fate::Committed),
         None,
     )?;
-    records.restore(SECOND, writes_of(alloc, &WROTE_LATER)?, None, None)?;
+    records.restore(SECOND, &writes_of(alloc, &WROTE_LATER)?, None, None)?;
     let in_doubt = has_committed(&records, &WROTE, &[]);
     records.settle(SECOND, Fate::Committed);
     Ok(in_doubt && has_committed(&records, &LEFT, &WROTE_LATER))

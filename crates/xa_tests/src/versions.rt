@@ -181,7 +181,7 @@ fn answered(alloc: Global, records: &mut Records, ts: u64, ask: Ask) -> Result<T
         }
         Ask::Restore(rows, fate) => {
             let writes = writes_of(alloc, rows)?;
-            records.restore(ts, writes, fate, None)?;
+            records.restore(ts, &writes, fate, None)?;
             Ok(Told::Done)
         }
     }
@@ -257,7 +257,7 @@ fn has_writes(records: &Records, ts: u64, wanted: &[KeyWrite]) -> bool {
 // What lasted of a branch, until it is decided.
 fn keeps_restored(alloc: Global) -> Result<bool, AllocError> {
     let mut records = Records::new(alloc);
-    records.restore(FIRST, writes_of(alloc, &WROTE)?, None, None)?;
+    records.restore(FIRST, &writes_of(alloc, &WROTE)?, None, None)?;
     let before = has_writes(&records, FIRST, &WROTE);
     records.settle(FIRST, Fate::Committed);
     Ok(before && has_writes(&records, FIRST, &[]))

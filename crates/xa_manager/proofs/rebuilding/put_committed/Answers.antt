@@ -16,11 +16,11 @@ loop-timestamp-preserved c =
     let more = c.in-Some.ensures.steps in record {
       stands = λ new ordered start.
           committed_added c.args.least c.min.result (map as_committed c.args.committed.entries) (map as_committed c.next.new.self) (map as_committed c.loop-timestamp.timestamp-iterator) (as_committed e) c.loop-timestamp.records c.restore.new.self c.low_water.new.self
-          (ap (λ es. map as_committed es) more) c.min.ensures (rw (← c.into_vec.ensures) c.in_ok-restore.ensures.stands) c.low_water.ensures.stands (c.loop-timestamp.invariant.stands new ordered start);
+          (ap (λ es. map as_committed es) more) c.min.ensures (rw (← c.as_slice.ensures) c.in_ok-restore.ensures.stands) c.low_water.ensures.stands (c.loop-timestamp.invariant.stands new ordered start);
       short = λ all start.
           let i = c.loop-timestamp.invariant.short all start in
           let next = committed_next (map as_committed c.loop-timestamp.timestamp-iterator) (map as_committed c.next.new.self) (as_committed e) (ap (λ es. map as_committed es) more) i.0 in
-          (next.1, c.low_water.ensures.within MOST_VALUE (c.restore.ensures.within MOST_VALUE i.1 (rw c.into_vec.ensures next.0)));
+          (next.1, c.low_water.ensures.within MOST_VALUE (c.restore.ensures.within MOST_VALUE i.1 (rw c.as_slice.ensures next.0)));
       unwritten = λ none t.
           c.low_water.ensures.own t ∙ none_more c.loop-timestamp.records c.restore.new.self c.in-Some.timestamp (c.in_ok-restore.ensures.decided refl) c.restore.ensures.others (c.loop-timestamp.invariant.unwritten none) t;
       bodies = one_body base_body c.loop-timestamp.bodies.items c.put_base.new.bodies.items (base_body e) e c.next.new.self c.loop-timestamp.timestamp-iterator _

@@ -15,14 +15,14 @@ loop-timestamp-preserved c =
     let more = c.in-Some.ensures.steps in record {
       stands = λ low older new above start.
           prepared_added low older (map as_prepared c.args.prepared.entries) (map as_prepared c.next.new.self) (map as_prepared c.loop-timestamp.timestamp-iterator) (as_prepared e) c.loop-timestamp.records c.restore.new.self
-          (ap (λ es. map as_prepared es) more) (rw (← c.into_vec.ensures) c.in_ok-restore.ensures.stands) (c.loop-timestamp.invariant.stands low older new above start);
+          (ap (λ es. map as_prepared es) more) (rw (← c.as_slice.ensures) c.in_ok-restore.ensures.stands) (c.loop-timestamp.invariant.stands low older new above start);
       short = λ all start.
           let i = c.loop-timestamp.invariant.short all start in
           let next = prepared_next (map as_prepared c.loop-timestamp.timestamp-iterator) (map as_prepared c.next.new.self) (as_prepared e) (ap (λ es. map as_prepared es) more) i.0 in
-          (next.1, c.restore.ensures.within MOST_VALUE i.1 (rw c.into_vec.ensures next.0));
+          (next.1, c.restore.ensures.within MOST_VALUE i.1 (rw c.as_slice.ensures next.0));
       keys = λ start.
           keys_more c.loop-timestamp.records c.restore.new.self (map as_prepared c.loop-timestamp.timestamp-iterator) (map as_prepared c.next.new.self) (as_prepared e) (ap (λ es. map as_prepared es) more) c.restore.ensures.others
-          (rw c.into_vec.ensures at c.in_ok-restore.ensures.keys) (c.loop-timestamp.invariant.keys start);
+          (rw c.as_slice.ensures at c.in_ok-restore.ensures.keys) (c.loop-timestamp.invariant.keys start);
       bodies = one_body held_body c.loop-timestamp.bodies.items c.put_held.new.bodies.items (held_body e) e c.next.new.self c.loop-timestamp.timestamp-iterator _
           more refl c.in_ok-put_held.ensures c.loop-timestamp.invariant.bodies;
     }
