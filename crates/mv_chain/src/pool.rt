@@ -1,11 +1,11 @@
-ghost use Rattle.std.specs.Prelude.{◌≡◌, ℕ, None};
+ghost use Rattle.std.specs.Prelude.{◌≡◌, ℕ, None, IfOk};
 ghost use Rattle.slab.specs.Slab.{slab_len};
 ghost use Rattle.mv_chain.specs.Pool.{at};
 ghost use Rattle.mv_chain.specs.Within.{IsWithin};
 
 use crate::version::Version;
 use slab::Slab;
-use std::alloc::Global;
+use std::alloc::{AllocError, Global};
 
 /// The versions of all chains.
 #[derive(Debug, Drop)]
@@ -25,6 +25,21 @@ impl Pool {
             alloc,
             slab: Slab::new(alloc),
         }
+    }
+
+    /// No versions, with room for so many.
+    ///
+    /// # Errors
+    /// Out of memory.
+    pub fn with_capacity(alloc: Global, versions: usize) -> Result<Pool, AllocError>
+        ensures empty { IfOk result (λ p. (slot : ℕ) → at p slot ≡ None) }
+        ensures none { IfOk result (λ p. slab_len p.slab ≡ 0) }
+        ensures within { IfOk result (λ p. (n : ℕ) → IsWithin n p) }
+    {
+        Ok(Pool {
+            alloc,
+            slab: Slab::with_capacity(alloc, versions)?,
+        })
     }
 
     /// How many versions all chains have.

@@ -62,6 +62,25 @@ impl Records {
         }
     }
 
+    /// No key was written or read. There is room for the chains of so many keys, and for so many versions.
+    ///
+    /// # Errors
+    /// Out of memory.
+    pub fn with_capacity(alloc: Global, keys: usize, versions: usize) -> Result<Records, AllocError>
+        ensures stands { IfOk result
+            (λ r. (low : ℕ) → StandsFor (record { low = low; writes = []; reads = [] }) r) }
+        ensures within { IfOk result (λ r. (n : ℕ) → IsWithin n r) }
+        ensures own { IfOk result (λ r. (t : ℕ) → own_of t r ≡ []) }
+    {
+        Ok(Records {
+            alloc,
+            indices: BTreeMap::new(alloc),
+            chains: Slab::with_capacity(alloc, keys)?,
+            pool: Pool::with_capacity(alloc, versions)?,
+            notes: BTreeMap::new(alloc),
+        })
+    }
+
     /// The index of the key's chain, if it has one.
     pub(crate) fn find(&self, key: &[u8]) -> Option<usize>
         ensures index { IfSome result (λ i. index_of key.now self.now ≡ Some i) }

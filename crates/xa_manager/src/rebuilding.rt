@@ -26,7 +26,7 @@ use std::alloc::{AllocError, Global};
 use std::collections::BTreeMap;
 use xa_branch::Branches;
 use xa_codes::Direction;
-use xa_limits::BOOT_TIMESTAMPS;
+use xa_limits::{BOOT_TIMESTAMPS, MOST_WRITES};
 use xa_record::Writes;
 use xa_recovery::{Durable, InDoubt, begin_snapshot, put_base, put_decided, put_held};
 use xa_shared::SharedBytes;
@@ -89,6 +89,27 @@ fn least_of(prepared: &BTreeMap<u64, InDoubt>, boot: u32) -> u64
         Some((first, _)) => past.min(*first),
         None => past,
     }
+}
+
+/// Records without any versions, with room for those of what lasted: one of each key, beside those that the keys of a
+/// branch have until the older ones are let go. Records that grow by and by leave the places that they had.
+fn records_for(
+    alloc: Global,
+    committed: &BTreeMap<u64, Writes>,
+    prepared: &BTreeMap<u64, InDoubt>,
+) -> Result<Records, AllocError>
+    ensures stands { IfOk result (λ m. (low : ℕ) → HaveWrites low [] m) }
+    ensures within { IfOk result (λ m. (n : ℕ) → IsWithin n m) }
+    ensures own { IfOk result NoneHasWritten }
+{
+    let mut keys: usize = 0;
+    for writes in committed.values() {
+        keys = keys.saturating_add(writes.as_slice().len());
+    }
+    for branch in prepared.values() {
+        keys = keys.saturating_add(branch.writes.as_slice().len());
+    }
+    Records::with_capacity(alloc, keys, keys.saturating_add(MOST_WRITES))
 }
 
 /// Puts the writes of committed branches into records without any, up to a low water of at most `least`: what is noted
@@ -170,7 +191,7 @@ pub(crate) fn records_of(
 {
     let mut bodies = begin_snapshot(alloc, &durable, boot)?;
     let (committed, prepared, decided) = durable.into_parts();
-    let mut records = Records::new(alloc);
+    let mut records = records_for(alloc, &committed, &prepared)?;
     let least = least_of(&prepared, boot);
     put_committed(alloc, &mut records, &mut bodies, committed, least)?;
     put_undecided(alloc, &mut records, &mut bodies, prepared)?;

@@ -37,12 +37,28 @@ fn keep(last: &mut BTreeMap<u64, Writes>, timestamp: u64, writes: Writes) -> Res
     Ok(())
 }
 
-/// Lets the keys go from the greatest down. Where later branches wrote greater keys, that is the order in which they were
-/// added, so those that end the heap go last, and the system gets all of their memory back.
-fn let_go(mut written: BTreeSet<Bytes>) {
-    while let Some(key) = written.pop_last() {
-        drop(key);
+/// How many keys at least are noted twice, where there are so many.
+const FIRST: usize = 1_024;
+
+/// Notes the first keys once more. An allocator keeps a few blocks of each size for itself, of those that are let go first:
+/// if these are let go before the others, it is blocks that lie before them.
+fn note_first(
+    alloc: Global,
+    first: &mut BTreeSet<Bytes>,
+    writes: &[Write],
+) -> Result<(), AllocError> {
+    if first.len() < FIRST {
+        note(alloc, first, writes)?;
     }
+    Ok(())
+}
+
+/// How many bytes a block has at which an allocator looks for memory that it can give back to the system.
+const BLOCK: usize = 98_304;
+
+/// Lets a block go, after many small ones: at those, an allocator gives nothing back.
+fn give_back(alloc: Global) {
+    let _block: Result<Vec<u8>, AllocError> = Vec::with_capacity(alloc, BLOCK);
 }
 
 /// Of branches by timestamp, the writes that are the last of their keys.
@@ -53,15 +69,19 @@ pub(crate) fn last_writes(
     ensures { Pairwise commits_before (committed_of all)
         → IfOk result (λ m. committed_of m ≡ last_writes (committed_of all)) }
 {
+    let mut first = BTreeSet::new(alloc);
     let mut written = BTreeSet::new(alloc);
     let mut last = BTreeMap::new(alloc);
     while let Some((timestamp, writes)) = all.pop_last() {
         let kept = unwritten(&written, writes);
         if !kept.as_slice().is_empty() {
+            note_first(alloc, &mut first, kept.as_slice())?;
             note(alloc, &mut written, kept.as_slice())?;
             keep(&mut last, timestamp, kept)?;
         }
     }
-    let_go(written);
+    drop(first);
+    drop(written);
+    give_back(alloc);
     Ok(last)
 }

@@ -10,22 +10,22 @@ use Rattle.xa_manager.proofs.rebuilding.records_of.Goals as goal
 
 pub returns-clause-stands : goal.returns-clause-stands
 returns-clause-stands c = λ s h.
-    records_stand c.args.durable c.args.boot c.least_of-least.result s (map as_committed c.into_parts-committed.result.0.entries) (map as_prepared c.into_parts-committed.result.1.entries) c.new-records.result c.put_committed.new.records c.put_undecided.new.records
-    c.into_parts-committed.ensures.committed c.into_parts-committed.ensures.prepared (c.new-records.ensures.stands 0) c.in_ok-put_committed.ensures.stands c.in_ok-put_undecided.ensures.stands c.least_of-least.ensures.below c.least_of-least.ensures.past h
+    records_stand c.args.durable c.args.boot c.least_of-least.result s (map as_committed c.into_parts-committed.result.0.entries) (map as_prepared c.into_parts-committed.result.1.entries) c.in_ok-records.records c.put_committed.new.records c.put_undecided.new.records
+    c.into_parts-committed.ensures.committed c.into_parts-committed.ensures.prepared (c.in_ok-records.ensures.stands 0) c.in_ok-put_committed.ensures.stands c.in_ok-put_undecided.ensures.stands c.least_of-least.ensures.below c.least_of-least.ensures.past h
 
 pub returns-clause-short : goal.returns-clause-short
 returns-clause-short c = λ boot limits.
     let short = snapshot_short c.args.durable boot limits in
     let committed = subst (λ (bs : List CommittedBranch). CommittedAreShort bs) (sym c.into_parts-committed.ensures.committed) short.0 in
     let prepared = subst (λ (ps : List PreparedBranch). PreparedAreShort ps) (sym c.into_parts-committed.ensures.prepared) short.1 in
-    c.in_ok-put_undecided.ensures.short prepared (c.in_ok-put_committed.ensures.short committed (c.new-records.ensures.within MOST_VALUE))
+    c.in_ok-put_undecided.ensures.short prepared (c.in_ok-put_committed.ensures.short committed (c.in_ok-records.ensures.within MOST_VALUE))
 
 pub returns-clause-keys : goal.returns-clause-keys
 returns-clause-keys c = λ boot limits apart.
     let same = sym c.into_parts-committed.ensures.prepared in
     let keys = subst (λ (ps : List PreparedBranch). PreparedHaveKeys ps) same (snapshot_keys c.args.durable boot limits) in
     let order = subst (λ (ps : List PreparedBranch). Pairwise prepares_before ps) same apart in
-    c.in_ok-put_undecided.ensures.keys keys order (c.in_ok-put_committed.ensures.unwritten c.new-records.ensures.own)
+    c.in_ok-put_undecided.ensures.keys keys order (c.in_ok-put_committed.ensures.unwritten c.in_ok-records.ensures.own)
 
 pub returns-clause-bodies : goal.returns-clause-bodies
 returns-clause-bodies c =
