@@ -1,5 +1,6 @@
 //! A disk in memory that keeps a record of its writes and syncs.
-ghost use Rattle.std.specs.Prelude.{◌≡◌, ◌⊎◌, ◌+◌, ◌≤◌, ◌<◌, ◌≢◌, ◌↔◌, ℕ, [], ⊤, false, length, Some, None, OnOk, OnErr, IfOk, MatchBool, MatchResult, IsTrue, is_ok};
+ghost use Rattle.std.specs.Prelude.{◌≡◌, ◌⊎◌, ◌+◌, ◌≤◌, ◌<◌, ◌≢◌, ◌↔◌, ℕ, [], ⊤, false};
+ghost use Rattle.std.specs.Prelude.{length, Some, None, OnOk, OnErr, IfOk, MatchBool, MatchResult, IsTrue, is_ok};
 ghost use Rattle.xa_disk.specs.Disk.{put, Torn, Same, Only, AllOrNone, CountsFault, Reads};
 ghost use Rattle.xa_disk.specs.Replay.{first_of, replay, IsImage, LeftSince};
 ghost use Rattle.xa_disk.specs.Images.{counts_now, only_now, stays_of, all_or_none_torn};

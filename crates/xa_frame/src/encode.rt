@@ -1,6 +1,7 @@
 ghost use Rattle.std.specs.Prelude.{◌≡◌, ◌++◌, flat_map, All, IfOk, OnOk};
 ghost use Rattle.xa_frame.specs.Limits.{IsRequest, IsBody, IsReply, Holds, HoldsCursor, HoldsCounts, HoldsBranch, HoldsBody, HoldsReply};
-ghost use Rattle.xa_frame.specs.Spelling.{cursor_bytes, fields_bytes, counts_bytes, branch_bytes, body_bytes, bytes_of_reply, SpellsRequest, SpellsReply};
+ghost use Rattle.xa_frame.specs.Spelling.{cursor_bytes, fields_bytes, counts_bytes, branch_bytes};
+ghost use Rattle.xa_frame.specs.Spelling.{body_bytes, bytes_of_reply, SpellsRequest, SpellsReply};
 ghost use Rattle.xa_xid.specs.Spelling.{bytes_of};
 ghost use Rattle.xa_xid.specs.Triple.{IsWithinLimits};
 

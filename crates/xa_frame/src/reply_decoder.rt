@@ -6,7 +6,8 @@ ghost use Rattle.xa_frame.specs.declared.fault.FrameFault.TheVariants.{Memory};
 ghost use Rattle.xa_frame.specs.declared.reply.Reply.{Reply};
 ghost use Rattle.xa_frame.specs.Spelling.{SpellsReply};
 ghost use Rattle.xa_frame.specs.Faults.{fault_of_reply};
-ghost use Rattle.xa_frame.specs.Reading.{made, one_of, rest_of, value_of_first, number_at, value_at, name_at, each_at, counted_at, branch_at, status_at, body_at, answer_at, reply_at};
+ghost use Rattle.xa_frame.specs.Reading.{made, one_of, rest_of, value_of_first, number_at, value_at, name_at};
+ghost use Rattle.xa_frame.specs.Reading.{each_at, counted_at, branch_at, status_at, body_at, answer_at, reply_at};
 
 use crate::body::Body;
 use crate::fault::FrameFault;

@@ -5,7 +5,8 @@ ghost use Rattle.xa_frame.specs.declared.fault.FrameFault.TheVariants.{Memory};
 ghost use Rattle.xa_frame.specs.declared.request.Request.{Request};
 ghost use Rattle.xa_frame.specs.Answers.{Answers, IsOrWants, IsFault, brings_bytes};
 ghost use Rattle.xa_frame.specs.Faults.{fault_of_request};
-ghost use Rattle.xa_frame.specs.Reading.{made, one_of, two_of, number_at, info_at, key_at, value_at, direction_at, name_at, cursor_at, fields_at, operation_at, versioned_at, request_at, branch_request};
+ghost use Rattle.xa_frame.specs.Reading.{made, one_of, two_of, number_at, info_at, key_at, value_at, direction_at};
+ghost use Rattle.xa_frame.specs.Reading.{name_at, cursor_at, fields_at, operation_at, versioned_at, request_at, branch_request};
 ghost use Rattle.xa_frame.specs.Spelling.{SpellsRequest};
 
 use crate::encode::VERSION;

@@ -1,5 +1,6 @@
 //! A checkpoint's three parts, each on the disk that it writes.
-ghost use Rattle.std.specs.Prelude.{◌≡◌, ◌≢◌, ◌⊎◌, ◌+◌, ◌-◌, ◌≤◌, ◌<◌, ◌^◌, ◌++◌, ◌∷◌, [], List, ℕ, length, min, take, drop, replicate, OnOk, OnErr, IfOk, IfSome, IfNone};
+ghost use Rattle.std.specs.Prelude.{◌≡◌, ◌≢◌, ◌⊎◌, ◌+◌, ◌-◌, ◌≤◌, ◌<◌, ◌^◌, ◌++◌, ◌∷◌, [], List};
+ghost use Rattle.std.specs.Prelude.{ℕ, length, min, take, drop, replicate, OnOk, OnErr, IfOk, IfSome, IfNone};
 ghost use Rattle.std.specs.Int.{w32, to_be_bytes};
 ghost use Rattle.std.specs.List.{AllByRecursion};
 ghost use Rattle.xa_disk.specs.Disk.{put, Torn, Only, CountsFault};
@@ -11,7 +12,8 @@ ghost use Rattle.xa_log.specs.Answers.{PutBecame, FailedPut, HasCause};
 ghost use Rattle.xa_log.specs.Buffer.{EachFits};
 ghost use Rattle.xa_log.specs.Calls.{PutCalls, RecordsCalls, AppendCalls, CheckpointCalls};
 ghost use Rattle.xa_log.specs.Pair.{IsCalm, CalmTears};
-ghost use Rattle.xa_log.specs.Checkpoint.{behind_preamble, bytes_behind, tailed, records_bytes, behind_front, first_length, IsReady, IsOther, LeavesOf, LeavesNone, LeavesSealed, LeavesAny, Checkpointed};
+ghost use Rattle.xa_log.specs.Checkpoint.{behind_preamble, bytes_behind, tailed, records_bytes, behind_front, first_length, IsReady};
+ghost use Rattle.xa_log.specs.Checkpoint.{IsOther, LeavesOf, LeavesNone, LeavesSealed, LeavesAny, Checkpointed};
 
 use crate::appending::{Appended, put_or_clear, put_synced};
 use crate::format::{Format, PREAMBLE_BYTES};

@@ -1,5 +1,6 @@
 //! Which of two files is the current one, and reading its log.
-ghost use Rattle.std.specs.Prelude.{◌≡◌, ◌≢◌, ◌⊎◌, ◌+◌, ◌≤◌, ◌<◌, min, true, false, List, ℕ, length, drop, OnOk, IfOk, IfErr, IfSome, MatchResult, MatchBool, Some, None, if◌then◌else◌};
+ghost use Rattle.std.specs.Prelude.{◌≡◌, ◌≢◌, ◌⊎◌, ◌+◌, ◌≤◌, ◌<◌, min, true, false, List, ℕ};
+ghost use Rattle.std.specs.Prelude.{length, drop, OnOk, IfOk, IfErr, IfSome, MatchResult, MatchBool, Some, None, if◌then◌else◌};
 ghost use Rattle.xa_disk.specs.Disk.{Same, Only, CountsFault};
 ghost use Rattle.xa_disk.specs.Time.{TimePasses};
 ghost use Rattle.xa_disk.specs.declared.counts.Counts.{Counts};
@@ -7,7 +8,8 @@ ghost use Rattle.xa_log.specs.Answers.{CountsDeviceOf};
 ghost use Rattle.xa_log.specs.Calls.{Fetched, FetchedSome, Looks, LooksSecond, LooksAt, LooksSecondAt, ReadsLittle, asked};
 ghost use Rattle.xa_log.specs.Reading.{Ends, Explains};
 ghost use Rattle.xa_log.specs.Pair.{number_in, beats, pair_fault, fault_pair};
-ghost use Rattle.xa_log.specs.Looking.{AreShort, IsFront, HasFront, either_newer, either_log, Tells, IsHead, HasHead, FetchedHead, Chooses, IsCurrent};
+ghost use Rattle.xa_log.specs.Looking.{AreShort, IsFront, HasFront, either_newer, either_log, Tells};
+ghost use Rattle.xa_log.specs.Looking.{IsHead, HasHead, FetchedHead, Chooses, IsCurrent};
 
 use crate::OpenFault;
 use crate::format::Format;

@@ -1,5 +1,6 @@
 //! How a log comes to stand on its disks.
-ghost use Rattle.std.specs.Prelude.{◌≡◌, ◌≤◌, ◌<◌, ◌↔◌, [], List, ℕ, true, false, if◌then◌else◌, length, OnOk, IfOk, IfErr, IsErrOf, MatchResult, None};
+ghost use Rattle.std.specs.Prelude.{◌≡◌, ◌≤◌, ◌<◌, ◌↔◌, [], List, ℕ, true, false};
+ghost use Rattle.std.specs.Prelude.{if◌then◌else◌, length, OnOk, IfOk, IfErr, IsErrOf, MatchResult, None};
 ghost use Rattle.xa_disk.specs.Disk.{Same};
 ghost use Rattle.xa_disk.specs.Time.{TimePasses};
 ghost use Rattle.xa_disk.specs.Counts.{with_length, with_write, with_sync};

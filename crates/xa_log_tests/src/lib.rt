@@ -30,7 +30,6 @@ mod log_files;
 mod log_images;
 #[cfg(test)]
 mod log_lines;
-#[cfg(test)]
 mod log_pairs;
 #[cfg(test)]
 mod logs;

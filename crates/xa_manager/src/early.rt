@@ -1,5 +1,6 @@
 ghost use Rattle.std.specs.Prelude.{◌≡◌, IfSome, IsSome, None, Option, true, false};
-ghost use Rattle.xa_model.specs.Early.{flags_of, call_of, needs_open, passes_down, is_async, has_wrong_info, has_wrong_count, has_wrong_moment, is_invalid, early_refusal};
+ghost use Rattle.xa_model.specs.Early.{flags_of, call_of, needs_open, passes_down, is_async};
+ghost use Rattle.xa_model.specs.Early.{has_wrong_info, has_wrong_count, has_wrong_moment, is_invalid, early_refusal};
 ghost use Rattle.xa_assoc.specs.Refusals.{is_memory, IsBare};
 
 use xa_codes::{

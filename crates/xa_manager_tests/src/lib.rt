@@ -44,7 +44,6 @@ mod managers;
 mod one_copy;
 #[cfg(test)]
 mod one_copy_branches;
-#[cfg(test)]
 mod one_copy_scripts;
 #[cfg(test)]
 mod plays;

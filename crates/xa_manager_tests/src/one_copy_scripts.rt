@@ -1,4 +1,5 @@
-ghost use Rattle.std.specs.Prelude.{IfOk, IfSome};
+ghost use Rattle.std.specs.Prelude.{◌≡◌, ◌⊎◌, true, IfOk, IfSome};
+ghost use Rattle.xa_codes.specs.declared.codes.TheConstants.{XA_OK, XA_RDONLY};
 ghost use Rattle.xa_frame.specs.Limits.{IsRequest};
 
 use std::alloc::{AllocError, Global};
@@ -188,7 +189,9 @@ pub fn next_phase(act: Act, code: Code) -> Option<Phase> {
 }
 
 /// Whether the branch is committed by this answer: in one phase, in two, or because it wrote nothing.
-pub fn commits(act: Act, code: Code) -> bool {
+pub fn commits(act: Act, code: Code) -> bool
+    ensures { result ≡ true → (code ≡ XA_OK) ⊎ (code ≡ XA_RDONLY) }
+{
     match act {
         Act::CommitAtOnce | Act::Commit => code == XA_OK,
         Act::Prepare => code == XA_RDONLY,

@@ -1,4 +1,5 @@
-ghost use Rattle.std.specs.Prelude.{◌≡◌, ℕ, ◌-◌, ◌<◌, ◌≤◌, ◌==◌, ◌⊎◌, [], ◌∷◌, length, IfOk, IfSome, Err, Some, None, List, sum_by, slice_get, true, false};
+ghost use Rattle.std.specs.Prelude.{◌≡◌, ℕ, ◌-◌, ◌<◌, ◌≤◌, ◌==◌, ◌⊎◌, [], ◌∷◌, length};
+ghost use Rattle.std.specs.Prelude.{IfOk, IfSome, Err, Some, None, List, sum_by, slice_get, true, false};
 ghost use Rattle.xa_room.specs.Audit.{Audits, HasFault, IsSound, Judges};
 ghost use Rattle.xa_room.specs.HasMet.{HasMet};
 

@@ -1,6 +1,7 @@
 ghost use Rattle.std.specs.Prelude.{◌≡◌, ◌∷◌, ◌++◌, IfOk, OnOk, codes};
 ghost use Rattle.std.specs.Fmt.{decimal, signed_decimal};
-ghost use Rattle.xa_script.specs.Replies.{body_text, branch_text, branches_text, code_text, counts_text, line_in, line_of, name_of, named_text, state_name, status_text, value_text, xids_text};
+ghost use Rattle.xa_script.specs.Replies.{body_text, branch_text, branches_text, code_text, counts_text, line_in, line_of};
+ghost use Rattle.xa_script.specs.Replies.{name_of, named_text, state_name, status_text, value_text, xids_text};
 
 use crate::hexadecimal::push_digits;
 use crate::style::Style;

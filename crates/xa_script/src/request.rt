@@ -3,7 +3,9 @@ ghost use Rattle.std.specs.Prelude.{◌≡◌, ℕ, IfOk, IfSome, List, Option, 
 ghost use Rattle.xa_frame.specs.Limits.{IsKey, IsRequest, IsValue};
 ghost use Rattle.xa_xid.specs.Triple.{Triple};
 ghost use Rattle.xa_script.specs.Parts.{alone, one_of, words_behind};
-ghost use Rattle.xa_script.specs.Requests.{ReadsTexts, branch_pair, branches_by, close_by, cursor_of, decide_by, delete_by, direction_of, doom_by, get_by, is_graphic, is_name, key_of, open_by, put_by, recover_by, request_of, tick_by, timeout_by, value_of};
+ghost use Rattle.xa_script.specs.Requests.{ReadsTexts, branch_pair, branches_by, close_by, cursor_of, decide_by, delete_by};
+ghost use Rattle.xa_script.specs.Requests.{direction_of, doom_by, get_by, is_graphic, is_name, key_of, open_by};
+ghost use Rattle.xa_script.specs.Requests.{put_by, recover_by, request_of, tick_by, timeout_by, value_of};
 
 use crate::flags::read_flags;
 use crate::hexadecimal::read_bytes;

@@ -5,7 +5,8 @@ ghost use Rattle.xa_log.specs.Missing.{missing_of};
 ghost use Rattle.xa_log.specs.declared.missing.Missing.TheVariants.{Neither};
 ghost use Rattle.xa_manager.specs.Opening.{IsBadSetting, OpenRefused};
 ghost use Rattle.xa_server.specs.Faults.{file_fault};
-ghost use Rattle.xa_server.specs.Served.{AreFiles, HasFailed, HasFailedBy, HasOpened, HasServed, IsFileFault, IsReady, Refuses, never, second_path, where_of};
+ghost use Rattle.xa_server.specs.Served.{AreFiles, HasFailed, HasFailedBy, HasOpened, HasServed, IsFileFault};
+ghost use Rattle.xa_server.specs.Served.{IsReady, Refuses, never, second_path, where_of};
 
 use crate::at::{At, Listening, listen};
 use crate::audited::audited_lines;

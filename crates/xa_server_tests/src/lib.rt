@@ -20,7 +20,6 @@ mod broken_clients;
 mod clients;
 #[cfg(test)]
 mod crews;
-#[cfg(test)]
 mod desks;
 #[cfg(test)]
 mod looped;

@@ -25,7 +25,6 @@ mod committed;
 mod connections;
 #[cfg(test)]
 mod cuts;
-#[cfg(test)]
 mod doors;
 #[cfg(test)]
 mod frame_changes;

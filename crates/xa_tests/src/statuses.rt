@@ -1,28 +1,13 @@
-use crate::doors::{Sink, Source, is_answered, is_asked, play};
+use crate::doors::{STATUS, Sink, Source, is_answered, is_asked, play};
 use crate::frames::{is_content, reply_again};
 use crate::refused_frames::REFUSED;
 use crate::rows::none_wrong;
 use std::alloc::{AllocError, Global};
 use xa_desk::Served;
 use xa_frame::{
-    Body, FrameFault, Question, Reply, Request, Status, decode_question, encode_question,
-    one_question,
+    Body, FrameFault, Question, Reply, Request, decode_question, encode_question, one_question,
 };
 use xa_script::{Line, read_line, reply_line};
-
-/// What a keeper tells of itself.
-pub const STATUS: Status = Status {
-    boot: 3,
-    end: 4711,
-    bytes: 1_073_741_824,
-    branches: 2,
-    prepared: 1,
-    completed: 0,
-    sessions: 4,
-    versions: 1000,
-    calls: 123,
-    seconds: 86_400,
-};
 
 /// The frame of its reply.
 const TOLD: [u8; 99] = [

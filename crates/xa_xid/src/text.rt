@@ -1,7 +1,8 @@
 ghost use Rattle.arrayvec.specs.ArrayVec.{array_vec_len};
 ghost use Rattle.std.specs.Fmt.{signed_decimal};
 ghost use Rattle.std.specs.Int.{w32};
-ghost use Rattle.std.specs.Prelude.{◌≡◌, ◌≢◌, ◌↔◌, ◌<◌, ◌≤◌, ◌+◌, ◌*◌, ℕ, ℤ, List, [], ◌∷◌, ◌++◌, length, All, Some, IsTrue, IfSome, MatchOption, option_map, decimal, FitsSigned};
+ghost use Rattle.std.specs.Prelude.{◌≡◌, ◌≢◌, ◌↔◌, ◌<◌, ◌≤◌, ◌+◌, ◌*◌, ℕ, ℤ, List, []};
+ghost use Rattle.std.specs.Prelude.{◌∷◌, ◌++◌, length, All, Some, IsTrue, IfSome, MatchOption, option_map, decimal, FitsSigned};
 ghost use Rattle.xa_xid.specs.Triple.{Triple, IsWithinLimits};
 ghost use Rattle.xa_xid.specs.Spelling.{text_of, hex, hex_byte, hex_digit, HasNoColon, IsPlain};
 ghost use Rattle.xa_xid.specs.declared.text.TheConstants.{MOST_NUMBER, MOST_TEXT};

@@ -1,6 +1,9 @@
 //! The arguments of the commands. The help names limits in texts of its own, and `.ci/commands` compares these with
 //! the constants: a text that is made of a number would have to live as long as the words, since `clap` lends both alike.
-ghost use Rattle.xarm.specs.Line.{HasRule, connections_rule, every_rule, exit_when_down_rule, frame_seconds_rule, idle_seconds_rule, listen_rule, log_bytes_rule, log_rule, loops_rule, name_rule, names_rule, path_rule, play_name_rule, port_rule, serve_log_bytes_rule, socket_rule, trim_rule, workers_rule};
+ghost use Rattle.xarm.specs.Line.{HasRule, connections_rule, every_rule, exit_when_down_rule, frame_seconds_rule};
+ghost use Rattle.xarm.specs.Line.{idle_seconds_rule, listen_rule, log_bytes_rule, log_rule, loops_rule};
+ghost use Rattle.xarm.specs.Line.{name_rule, names_rule, path_rule, play_name_rule, port_rule};
+ghost use Rattle.xarm.specs.Line.{serve_log_bytes_rule, socket_rule, trim_rule, workers_rule};
 
 use clap::builder::ValueParser;
 use clap::{Arg, ArgAction};
