@@ -3,6 +3,7 @@ ghost use Rattle.xa_disk.specs.Counts.{with_length, with_read, with_write, with_
 ghost use Rattle.xa_disk.specs.declared.counts.Counts.{Counts};
 ghost use Rattle.xa_disk.specs.Disk.{put, Torn, Same, Only, Passes, CountsFault, Reads};
 
+use crate::syncer::{SyncAnswer, Syncer};
 use thiserror::Error;
 
 /// A device call that failed.
@@ -76,6 +77,19 @@ pub trait Disk {
 
     /// Makes what a read gives what a crash leaves.
     fn sync(&mut self) -> Result<(), DiskFault>
+        ensures durable { honest → OnOk result (Only (seen self.old) (may_leave self.new)) }
+        ensures same { honest → seen self.new ≡ seen self.old }
+        ensures time { honest → Passes Same (moment self.old) (moment self.new)
+            (left_since self.old) (left_since self.new) (may_leave self.old) (may_leave self.new) }
+        ensures calls { counts self.new ≡ with_sync (counts self.old) }
+        ensures count { CountsFault result (failures self.old) (failures self.new) };
+
+    /// What makes the next sync while others use the disk.
+    fn syncer(&self) -> Syncer;
+
+    /// Takes what a syncer of this disk was answered: as `sync`, which it makes itself where that isn't a sync of all that
+    /// was written.
+    fn take_sync(&mut self, answer: SyncAnswer) -> Result<(), DiskFault>
         ensures durable { honest → OnOk result (Only (seen self.old) (may_leave self.new)) }
         ensures same { honest → seen self.new ≡ seen self.old }
         ensures time { honest → Passes Same (moment self.old) (moment self.new)

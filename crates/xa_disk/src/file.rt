@@ -10,8 +10,10 @@ ghost use Rattle.xa_disk.specs.Disk.{put, Torn, Same, Only, Passes, CountsFault,
 ghost use Rattle.xa_disk.specs.RawCall.{Measures, Gets, Puts, Syncs};
 
 use crate::opening::{locked, shared};
+use crate::syncer::{SyncAnswer, Syncer};
 use crate::tally::Tally;
 use crate::{Disk, DiskFault, FileCall, FileFault, HostFile, RawFile};
+use std::fs::File;
 use std::io;
 
 /// A disk that is a file, with counts of its calls and of those that failed. While it is there no other
@@ -49,7 +51,7 @@ impl FileDisk<HostFile> {
         ensures error { IfOk result (λ disk. disk.tally.error ≡ None) }
     {
         let file = locked(rt, path)?;
-        FileDisk::on(rt, path, HostFile::of(file))
+        FileDisk::on_shared(rt, path, file)
     }
 
     /// The regular file at a path, for reads: each write fails. It may be one that can't be written. Nothing is
@@ -61,7 +63,20 @@ impl FileDisk<HostFile> {
         ensures error { IfOk result (λ disk. disk.tally.error ≡ None) }
     {
         let file = shared(rt, path)?;
-        FileDisk::on(rt, path, HostFile::of(file))
+        FileDisk::on_shared(rt, path, file)
+    }
+
+    // A disk on the system's file.
+    fn on_shared(rt: &HostRuntime, path: &str, file: File) -> Result<FileDisk, FileFault>
+        ensures failures { IfOk result (λ disk. disk.tally.failures ≡ 0) }
+        ensures counts { IfOk result (λ disk. disk.tally.counts ≡ no_calls) }
+        ensures whole { IfOk result (λ disk. disk.unsynced ≡ false) }
+        ensures error { IfOk result (λ disk. disk.tally.error ≡ None) }
+    {
+        let Ok(file) = HostFile::of(rt.alloc(), file) else {
+            return Err(FileFault::Memory);
+        };
+        FileDisk::on(rt, path, file)
     }
 }
 
@@ -106,10 +121,35 @@ impl<F: RawFile> FileDisk<F> {
         ensures tally { self.new.tally ≡ self.old.tally }
     {
         if self.unsynced {
-            return Err(io::Error::other("an earlier sync failed"));
+            return Err(failed_before());
         }
         self.file.sync()
     }
+
+    // Takes what a sync was answered, or syncs the file, unless a sync has failed.
+    fn try_take_sync(&mut self, answer: SyncAnswer) -> io::Result<()>
+        ensures refused { self.old.unsynced ≡ true → IsErr result }
+        ensures durable { F.honest → OnOk result (Only (F.seen self.old.file) (F.may_leave self.new.file)) }
+        ensures same { F.honest → F.seen self.new.file ≡ F.seen self.old.file }
+        ensures time { F.honest → Passes Same (F.moment self.old.file) (F.moment self.new.file)
+            (F.left_since self.old.file) (F.left_since self.new.file)
+            (F.may_leave self.old.file) (F.may_leave self.new.file) }
+        ensures called { F.recorded → F.calls self.new.file
+            ≡ (if self.old.unsynced then F.calls self.old.file else Syncs ∷ F.calls self.old.file) }
+        ensures tally { self.new.tally ≡ self.old.tally }
+    {
+        if self.unsynced {
+            return Err(failed_before());
+        }
+        match answer.answer_after(self.tally.counts.writes) {
+            Some(answered) => self.file.take_sync(answered),
+            None => self.file.sync(),
+        }
+    }
+}
+
+fn failed_before() -> io::Error {
+    io::Error::other("an earlier sync failed")
 }
 
 impl<F: RawFile> Disk for FileDisk<F> {
@@ -216,6 +256,35 @@ impl<F: RawFile> Disk for FileDisk<F> {
         self.tally.counts = self.tally.counts.with_sync();
         let synced = self.try_sync();
         let answer = self.tally.answer(FileCall::Sync, synced);
+        self.unsynced = answer.is_err();
+        answer
+    }
+
+    fn syncer(&self) -> Syncer
+        ensures { result.writes ≡ self.now.tally.counts.writes }
+    {
+        Syncer::of(self.file.shared(), self.tally.counts.writes)
+    }
+
+    fn take_sync(&mut self, answer: SyncAnswer) -> Result<(), DiskFault>
+        ensures durable { F.honest → OnOk result (Only (F.seen self.old.file) (F.may_leave self.new.file)) }
+        ensures same { F.honest → F.seen self.new.file ≡ F.seen self.old.file }
+        ensures time { F.honest → Passes Same (F.moment self.old.file) (F.moment self.new.file)
+            (F.left_since self.old.file) (F.left_since self.new.file)
+            (F.may_leave self.old.file) (F.may_leave self.new.file) }
+        ensures called { F.recorded → F.calls self.new.file
+            ≡ (if self.old.unsynced then F.calls self.old.file else Syncs ∷ F.calls self.old.file) }
+        ensures refused { self.old.unsynced ≡ true → IsErr result }
+        ensures unsynced { MatchResult result (λ _. self.new.unsynced ≡ false) (λ _. self.new.unsynced ≡ true) }
+        ensures calls { self.new.tally.counts ≡ with_sync self.old.tally.counts }
+        ensures count { CountsFault result self.old.tally.failures self.new.tally.failures }
+        ensures told { MatchResult result (λ _. self.new.tally.error ≡ self.old.tally.error)
+            (λ _. self.new.tally.error ≢ None) }
+        ensures first { self.old.tally.error ≢ None → self.new.tally.error ≡ self.old.tally.error }
+    {
+        self.tally.counts = self.tally.counts.with_sync();
+        let taken = self.try_take_sync(answer);
+        let answer = self.tally.answer(FileCall::Sync, taken);
         self.unsynced = answer.is_err();
         answer
     }

@@ -6,19 +6,23 @@ ghost use Rattle.std.specs.Prelude.{◌≡◌, [], refl};
 ghost use Rattle.xa_disk.specs.Images.{torn_by_nothing};
 
 use crate::RawFile;
+use std::alloc::{AllocError, Global};
 use std::fs::File;
-use std::io;
 use std::os::unix::fs::FileExt;
+use std::sync::Arc;
+use std::{fmt, io};
 
 /// An open file of the system.
-#[derive(Debug, Drop)]
+#[derive(Drop)]
 pub struct HostFile {
-    file: File,
+    file: Arc<File, Global>,
 }
 
 impl HostFile {
-    pub(crate) fn of(file: File) -> HostFile {
-        HostFile { file }
+    pub(crate) fn of(alloc: Global, file: File) -> Result<HostFile, AllocError> {
+        Ok(HostFile {
+            file: Arc::new(alloc, file)?,
+        })
     }
 }
 
@@ -62,5 +66,21 @@ impl RawFile for HostFile {
     // The bytes, and what of the file's description is needed to read them, its length included.
     fn sync(&mut self) -> io::Result<()> {
         self.file.sync_data()
+    }
+
+    fn shared(&self) -> Option<Arc<File, Global>> {
+        Arc::try_clone(&self.file).ok()
+    }
+
+    // Whoever made the sync made it by the same description of the file, so an error is told to one of them alone.
+    fn take_sync(&mut self, answer: io::Result<()>) -> io::Result<()> {
+        answer
+    }
+}
+
+/// Shows the name alone.
+impl fmt::Debug for HostFile {
+    fn fmt<W: fmt::Write>(&self, f: &mut fmt::Formatter<W>) -> fmt::Result {
+        f.debug_struct("HostFile").finish_non_exhaustive()
     }
 }

@@ -9,6 +9,7 @@
 //! - `file`: `FileDisk`, a file, which is a disk where its `RawFile` is; with `tally` (its counts) and `teller` (what
 //!   tells its first fault)
 //! - `raw_file`: the trait `RawFile`, the calls on an open file; `host_file`: `HostFile`, the system's
+//! - `syncer`: `Syncer`, which makes a sync while others use the disk, and `SyncAnswer`, what it was answered
 //! - `opening`: how a file is taken as a disk, and `file_fault`: `FileFault`, why it isn't; `file_call`: `FileCall`, the
 //!   system's calls on files
 //! - `opens`: `Opens`, what opens files as disks
@@ -28,6 +29,7 @@ mod opening;
 mod opens;
 mod plan;
 mod raw_file;
+mod syncer;
 mod tally;
 mod teller;
 
@@ -41,3 +43,4 @@ pub use memory::MemDisk;
 pub use opens::Opens;
 pub use plan::Effect;
 pub use raw_file::RawFile;
+pub use syncer::{SyncAnswer, Syncer};

@@ -8,7 +8,7 @@ ghost use Rattle.xa_disk.specs.Images.{counts_now, only_now, stays_of, all_or_no
 use crate::bytes::{put_bytes, read_bytes};
 use crate::call::{Call, kept, note_sync, note_write};
 use crate::faults::Faults;
-use crate::{Counts, Disk, DiskFault, Effect};
+use crate::{Counts, Disk, DiskFault, Effect, SyncAnswer, Syncer};
 use std::alloc::{AllocError, Global};
 
 /// A disk in memory. A test plans which of its calls fail, and when it crashes.
@@ -313,5 +313,22 @@ impl Disk for MemDisk {
         let plan = self.begin(self.counts.with_sync());
         let done = self.try_sync(plan);
         self.end(plan, done)
+    }
+
+    fn syncer(&self) -> Syncer {
+        Syncer::none()
+    }
+
+    fn take_sync(&mut self, _answer: SyncAnswer) -> Result<(), DiskFault>
+        ensures durable { OnOk result (Only self.old.bytes.items (image_of self.new)) }
+        ensures same { self.new.bytes.items ≡ self.old.bytes.items }
+        ensures time { PassesTime Same self.old self.new }
+        ensures calls { self.new.counts ≡ with_sync self.old.counts }
+        ensures count { CountsFault result self.old.failures self.new.failures }
+        ensures later { CountsDown self.old self.new }
+        ensures heeds { Heeds (planned self.old 1) result
+            (Synced self.old self.new) (Keeps self.old self.new) (Keeps self.old self.new) }
+    {
+        self.sync()
     }
 }

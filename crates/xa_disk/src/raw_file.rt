@@ -1,4 +1,7 @@
+use std::alloc::Global;
+use std::fs::File;
 use std::io;
+use std::sync::Arc;
 
 /// The calls of the system on one open file that a disk is made of: each is made once, with these arguments.
 ///
@@ -61,6 +64,17 @@ pub trait RawFile {
 
     /// Makes what a read gives what a crash leaves.
     fn sync(&mut self) -> io::Result<()>
+        ensures durable { honest → OnOk result (Only (seen self.old) (may_leave self.new)) }
+        ensures same { honest → seen self.new ≡ seen self.old }
+        ensures time { honest → Passes Same (moment self.old) (moment self.new)
+            (left_since self.old) (left_since self.new) (may_leave self.old) (may_leave self.new) }
+        ensures called { recorded → calls self.new ≡ Syncs ∷ calls self.old };
+
+    /// The file, for a sync while others use it; None where its syncs are made here alone.
+    fn shared(&self) -> Option<Arc<File, Global>>;
+
+    /// Takes what a sync of `shared` was answered that was made after the last write: as `sync`.
+    fn take_sync(&mut self, answer: io::Result<()>) -> io::Result<()>
         ensures durable { honest → OnOk result (Only (seen self.old) (may_leave self.new)) }
         ensures same { honest → seen self.new ≡ seen self.old }
         ensures time { honest → Passes Same (moment self.old) (moment self.new)
