@@ -36,3 +36,5 @@ pub mod Brief
 pub mod Room
 pub mod Anew
 pub mod States
+pub mod Settled
+pub mod Writing

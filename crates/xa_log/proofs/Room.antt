@@ -1,5 +1,6 @@
 -- What a log's buffer has room for.
-use Rattle.std.proofs.Common.{◌≡◌, inl, inr, ⊎_elim, ℕ, ◌+◌, ◌≤◌, List, [], ◌∷◌, length, sym, subst, arith}
+use Rattle.std.proofs.Common.{◌≡◌, ◌⊎◌, inl, inr, ⊎_elim, ℕ, ◌+◌, ◌≤◌, List, [], ◌∷◌, length, sym, ◌∙◌, subst, arith, Vec, Global}
+use Rattle.std.specs.Vec.{with_items}
 use Rattle.std.specs.List.{AllByRecursion}
 use Rattle.xa_log.specs.declared.format.Format.{Format}
 use Rattle.xa_log.specs.declared.log.Log.{Log}
@@ -15,6 +16,13 @@ each_fits log (body ∷ bodies) room all = (omega (arith, holds_room log (length
 
 pub keeps_room : {D : Type 0} (old new : Log D) → length old.buffer.items ≤ length new.buffer.items → KeepsRoom old new
 keeps_room old new le n holds = ⊎_elim (λ small. inl small) (λ fits. inr (omega (arith, fits, le))) holds
+
+-- it has as many bytes when some are written over
+pub refilled : (v : Vec ℕ Global) (bytes : List ℕ) → length (with_items v bytes).items ≡ length v.items
+refilled v bytes = sym (with_items v bytes).ok.0 ∙ v.ok.0
+
+pub keeps_refilled : {D : Type 0} (old : Log D) (bytes : List ℕ) (n : ℕ) → Holds old n → (n ≤ 524288) ⊎ (40 + n + 262144 ≤ length (with_items old.buffer bytes).items)
+keeps_refilled old bytes n holds = ⊎_elim (λ small. inl small) (λ fits. inr (omega (arith, fits, refilled old.buffer bytes))) holds
 
 -- bodies of a format are bodies of it under another name
 pub sizes_by : (f g : Format) (bodies : List (List ℕ)) → f ≡ g → AllByRecursion (IsBody g) bodies → AllByRecursion (IsBody f) bodies

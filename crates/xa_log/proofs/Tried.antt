@@ -1,16 +1,17 @@
 -- Bytes that are tried with more behind them.
 use Rattle.std.proofs.Common.{◌≡◌, inl, inr, ⊎_elim, ℕ, ◌+◌, ◌≤◌, List, ◌++◌, length, take, replicate, refl, sym, ◌∙◌, ap, subst, arith}
-use Rattle.std.proofs.lemmas.List.{length-take, length-take-le, length-replicate}
+use Rattle.std.specs.Prelude.{Result, Ok, Err, OnOk, OnErr}
+use Rattle.std.proofs.lemmas.List.{length-take, length-replicate}
 use Rattle.xa_disk.specs.declared.disk.Disk.{Ghosts}
-use Rattle.xa_disk.specs.Disk.{put, Torn, Only, Passes}
+use Rattle.xa_disk.specs.Disk.{put, Torn, Same, Only, Passes}
 use Rattle.xa_disk.specs.Time.{TimePasses}
-use Rattle.xa_disk.specs.Images.{put_torn}
+use Rattle.xa_disk.specs.Images.{put_torn, torn_same}
 use Rattle.xa_disk.specs.declared.counts.Counts.{Counts}
-use Rattle.xa_log.specs.Answers.{FailedPut, Wrote, FailedPutAhead, PutBecame, PutAheadBecame, HasCause}
+use Rattle.xa_log.specs.Answers.{FailedPut, Wrote, FailedPutAhead, LeftWritten, PutBecame, PutAheadBecame, HasCause}
 use Rattle.xa_log.specs.Calls.{AppendCalls, AppendsAhead}
 use Rattle.xa_log.specs.declared.appending.Appended.{Appended}
 use Rattle.xa_log.specs.declared.appending.Appended.TheVariants.{Kept, Refused, Lost, Full}
-use Rattle.xa_log.proofs.Torn.{torn_then, then}
+use Rattle.xa_log.proofs.Torn.{stays, torn_then, then}
 
 pub torn_wider : (at n m : ℕ) (old new : List ℕ) → n ≤ m → Torn at n old new → Torn at m old new
 torn_wider at n m old new le t = record {
@@ -23,12 +24,11 @@ torn_wider at n m old new le t = record {
 pub shorter : (n : ℕ) (l bytes : List ℕ) → n ≤ length bytes → length (take n l) ≤ length bytes
 shorter n l bytes le = omega (arith, length-take n l)
 
--- the first bytes, once zeros are put there
-pub first_zeros : (n : ℕ) (bytes old new : List ℕ) → n ≤ length bytes → take (0 + n) new ≡ take 0 old ++ replicate n 0 → take n new ≡ replicate (length (take n bytes)) 0
-first_zeros n bytes old new le is =
-    let same : 0 + n ≡ n = omega arith in
-    let few : n ≡ length (take n bytes) = sym (length-take-le n bytes le) in
-    ap (λ (k : ℕ). take k new) (sym same) ∙ is ∙ ap (λ (k : ℕ). replicate {A = ℕ} k 0) few
+-- as many zeros
+pub some_zeros : (n : ℕ) (few new : List ℕ) → length few ≡ n → take (0 + n) new ≡ replicate n 0 → take n new ≡ replicate (length few) 0
+some_zeros n few new same is =
+    let all : 0 + n ≡ n = omega arith in
+    ap (λ (k : ℕ). take k new) (sym all) ∙ is ∙ ap (λ (k : ℕ). replicate {A = ℕ} k 0) (sym same)
 
 pub steps : (step wider : List ℕ → List ℕ → Type 0) → ((d c : List ℕ) → step d c → wider d c) → (m n : ℕ) (past since : ℕ → List ℕ → Type 0) (old new : List ℕ → Type 0)
     → Passes step m n past since old new → Passes wider m n past since old new
@@ -45,6 +45,21 @@ module _ {D : Type 0} (disks : Ghosts D) where
       → FailedPutAhead disks.tears (disks.seen old) at few bytes (disks.seen last)
   fell_wrote at few bytes old new last same (inl is) = inl (inl (same ∙ is))
   fell_wrote at few bytes old new last same (inr x) = inr (x.0, x.2, x.3, inl (same ∙ x.4))
+
+  -- what a write left, by what it was answered
+  pub left_by : {T E : Type 0} (write : Result T E) (at : ℕ) (few bytes : List ℕ) (old new : D) → OnOk write (Wrote disks at few bytes old new)
+      → OnErr write (FailedPutAhead disks.tears (disks.seen old) at few bytes (disks.seen new)) → LeftWritten disks write at few bytes old new
+  left_by (Ok x) at few bytes old new wrote fell = wrote
+  left_by (Err e) at few bytes old new wrote fell = fell
+
+  -- where it failed, or its sync
+  pub fell_by : {T E : Type 0} (write : Result T E) (at : ℕ) (few bytes : List ℕ) (old mid last : D) → disks.seen last ≡ disks.seen mid → LeftWritten disks write at few bytes old mid
+      → FailedPutAhead disks.tears (disks.seen old) at few bytes (disks.seen last)
+  fell_by (Ok x) at few bytes old mid last same wrote = fell_wrote at few bytes old mid last same wrote
+  fell_by (Err e) at few bytes old mid last same fell = subst (λ f. FailedPutAhead disks.tears (disks.seen old) at few bytes f) (sym same) fell
+
+  pub time_still : (at n : ℕ) (old mid new : D) → TimePasses disks (Torn at n) old mid → TimePasses disks Same mid new → TimePasses disks (Torn at n) old new
+  time_still at n old mid new p q = then (Torn at n) (torn_then at n) _ _ _ _ _ _ _ _ _ p (stays (Torn at n) (torn_same at n) _ _ _ _ _ _ q)
 
   pub time_then : (at n m : ℕ) (old mid new : D) → m ≤ n → TimePasses disks (Torn at n) old mid → TimePasses disks (Torn at m) mid new → TimePasses disks (Torn at n) old new
   time_then at n m old mid new le p q =

@@ -138,12 +138,6 @@ WritesAhead more result failures failures' old new =
     (CountsFault result failures failures' × (new ≡ with_write old))
     ⊎ ((1 ≤ more) × CountsFault result (plus failures 1) failures' × (new ≡ with_write (with_write old)))
 
--- the same and a sync, of which the first that failed for good is the last
-abbrev pub PutsAhead : {T E : Type 0} → ℕ → Result T E → ℕ → ℕ → Counts → Counts → Type 0
-PutsAhead more result failures failures' old new =
-    (CountsFault result failures failures' × PutCalls result old new)
-    ⊎ ((1 ≤ more) × CountsFault result (plus failures 1) failures' × PutCalls result (with_write old) new)
-
 -- The calls of an append that isn't answered from memory, where no write with zeros failed: a write and a sync; where one
 -- of them failed the repair's write, and its sync unless that write failed.
 abbrev pub AppendCalls : Appended → Counts → Counts → Type 0

@@ -17,3 +17,4 @@ pub mod LogStates
 pub mod Looking
 pub mod Worked
 pub mod Missing
+pub mod Written

@@ -1,16 +1,17 @@
 //! How a record goes to the disk.
-ghost use Rattle.std.specs.Prelude.{◌≡◌, ◌≢◌, ◌+◌, ◌-◌, ◌≤◌, length, take, OnOk, OnErr};
-ghost use Rattle.xa_disk.specs.Disk.{put, Torn, Only, CountsFault};
+ghost use Rattle.std.specs.Prelude.{◌≡◌, ◌≢◌, ℕ, ◌+◌, ◌-◌, ◌≤◌, List, length, take, Ok, OnOk, OnErr, MatchResult};
+ghost use Rattle.xa_disk.specs.Counts.{with_sync};
+ghost use Rattle.xa_disk.specs.Disk.{put, Torn, Same, Only, CountsFault};
 ghost use Rattle.xa_disk.specs.Time.{TimePasses};
 ghost use Rattle.std.specs.List.{AllByRecursion};
 ghost use Rattle.xa_log.specs.Chain.{last};
 ghost use Rattle.xa_log.specs.Group.{bodies_in, closed, closed_by, group_bytes};
-ghost use Rattle.xa_log.specs.Answers.{PutBecame, Wrote, PutAheadBecame, FailedPut, FailedPutAhead, HasCause};
-ghost use Rattle.xa_log.specs.Calls.{PutCalls, WritesAhead, PutsAhead, AppendCalls, AppendsAhead};
+ghost use Rattle.xa_log.specs.Answers.{PutBecame, Wrote, PutAheadBecame, FailedPut, FailedPutAhead, HasCause, LeftWritten};
+ghost use Rattle.xa_log.specs.Calls.{PutCalls, WritesAhead, AppendCalls, AppendsAhead};
 
 use crate::group::Group;
 use crate::record::clear;
-use xa_disk::{Disk, DiskFault};
+use xa_disk::{Disk, DiskFault, SyncAnswer};
 use xa_limits::{DIGEST_BYTES, LENGTH_BYTES, MOST_BODY};
 
 /// What became of a record, or of a checkpoint.
@@ -65,32 +66,63 @@ fn write_ahead<D: Disk>(disk: &mut D, at: u64, bytes: &[u8], len: usize) -> Resu
     disk.write_at(at, &bytes[..len])
 }
 
-// The same with a sync behind it. A sync that fails is never tried again.
-fn put_ahead_synced<D: Disk>(
+// Makes the sync of what `write_ahead` wrote, or takes the answer of one that was made meanwhile. If that fails, or the write
+// has failed, writes zeros over the first `len` bytes of it and syncs. A sync that fails is never tried again. Clearing the
+// length alone isn't enough: a refused body and its digest would still lie there, and chain again once a later record of
+// the same length is torn behind its length. What goes behind these bytes needs no clearing, and no space for it. A disk
+// that syncs no more behind a failed sync, as `FileDisk`, so comes to `Lost` there, and then a rescan fails too: only the
+// files opened anew tell what stands.
+pub(crate) fn settle_at<D: Disk>(
     disk: &mut D,
     at: u64,
-    bytes: &[u8],
+    bytes: &mut [u8],
     len: usize,
-) -> Result<(), DiskFault>
+    write: Result<(), DiskFault>,
+    answer: SyncAnswer,
+) -> Appended
     requires some { 1 ≤ len }
-    requires within { len ≤ length bytes.now }
-    ensures written { D.honest → OnOk result (Wrote D.Disk at (take len bytes.now) bytes.now disk.old disk.new) }
-    ensures durable { D.honest → OnOk result (Only (D.seen disk.new) (D.may_leave disk.new)) }
-    ensures fell { D.honest
-        → OnErr result (FailedPutAhead D.tears (D.seen disk.old) at (take len bytes.now) bytes.now (D.seen disk.new)) }
-    ensures time { D.honest → TimePasses D.Disk (Torn at (length bytes.now)) disk.old disk.new }
-    ensures calls { PutsAhead (length bytes.now - len) result
-        (D.failures disk.old) (D.failures disk.new) (D.counts disk.old) (D.counts disk.new) }
+    requires within { len ≤ length bytes.old }
+    // from the disk before the write on
+    ensures went { D.honest → (before : D) (few all : List ℕ) → length few ≡ len → length few ≤ length all
+        → LeftWritten D.Disk write at few all before disk.old
+        → PutAheadBecame D.Disk result at few all before disk.new }
+    ensures time { D.honest → (before : D) (n : ℕ) → len ≤ n → TimePasses D.Disk (Torn at n) before disk.old
+        → TimePasses D.Disk (Torn at n) before disk.new }
+    ensures calls { (before : D) (more : ℕ)
+        → WritesAhead more write (D.failures before) (D.failures disk.old) (D.counts before) (D.counts disk.old)
+        → AppendsAhead more result (D.failures before) (D.failures disk.new) (D.counts before) (D.counts disk.new) }
+    ensures not_full { result ≢ Appended.Full }
 {
-    write_ahead(disk, at, bytes, len)?;
-    disk.sync()
+    match synced_by(disk, write, answer) {
+        Ok(()) => return Appended::Kept,
+        Err(_) => {}
+    }
+    clear(bytes, 0, len);
+    match put_synced(disk, at, &bytes[..len]) {
+        Ok(()) => Appended::Refused,
+        Err(_) => Appended::Lost,
+    }
 }
 
-// Writes the bytes and syncs, as `put_ahead_synced`. If that fails, writes zeros over the first `len` and syncs.
-// Clearing the length alone isn't enough: a refused body and its digest would still lie there, and chain again once a
-// later record of the same length is torn behind its length. What goes behind these bytes needs no clearing, and no
-// space for it. A disk that syncs no more behind a failed sync, as `FileDisk`, so comes to `Lost` there, and then a
-// rescan fails too: only the files opened anew tell what stands.
+// The sync behind a write, where that succeeded.
+fn synced_by<D: Disk>(
+    disk: &mut D,
+    write: Result<(), DiskFault>,
+    answer: SyncAnswer,
+) -> Result<(), DiskFault>
+    ensures durable { D.honest → OnOk result (Only (D.seen disk.new) (D.may_leave disk.new)) }
+    ensures same { D.honest → D.seen disk.new ≡ D.seen disk.old }
+    ensures time { D.honest → TimePasses D.Disk Same disk.old disk.new }
+    ensures written { OnOk result (write ≡ Ok tt) }
+    ensures calls { MatchResult write
+        (λ _. CountsFault result (D.failures disk.old) (D.failures disk.new) × (D.counts disk.new ≡ with_sync (D.counts disk.old)))
+        (λ _. disk.new ≡ disk.old) }
+{
+    write?;
+    disk.take_sync(answer)
+}
+
+// Writes the bytes and syncs. If that fails, clears the first `len`, which alone count.
 pub(crate) fn put_ahead_or_clear<D: Disk>(
     disk: &mut D,
     at: u64,
@@ -105,15 +137,8 @@ pub(crate) fn put_ahead_or_clear<D: Disk>(
         (D.failures disk.old) (D.failures disk.new) (D.counts disk.old) (D.counts disk.new) }
     ensures not_full { result ≢ Appended.Full }
 {
-    match put_ahead_synced(disk, at, bytes, len) {
-        Ok(()) => return Appended::Kept,
-        Err(_) => {}
-    }
-    clear(bytes, 0, len);
-    match put_synced(disk, at, &bytes[..len]) {
-        Ok(()) => Appended::Refused,
-        Err(_) => Appended::Lost,
-    }
+    let write = write_ahead(disk, at, bytes, len);
+    settle_at(disk, at, bytes, len, write, SyncAnswer::none())
 }
 
 // The same where all the bytes count.
@@ -130,12 +155,10 @@ pub(crate) fn put_or_clear<D: Disk>(disk: &mut D, at: u64, bytes: &mut [u8]) -> 
     put_ahead_or_clear(disk, at, bytes, len)
 }
 
-// Writes a group's records, as `put_ahead_or_clear` does, and gives the last one's digest. The closing length goes in the
-// same write, and so do the zeros that make the file ready: an append is one write and one sync, and what stands behind
-// it isn't read as a record. The zeros are for speed alone, so the records are kept where they don't fit. If that fails,
-// zeros go over the whole range: zeros over the first record alone would leave those after it, which chain again once a
-// later first record of the same length is torn after its length.
-pub(crate) fn append_at<D: Disk>(
+// Writes a group's records, and gives the write's answer and the last record's digest. The closing length goes in the same
+// write, and so do the zeros that make the file ready: an append is one write and one sync, and what stands behind it isn't
+// read as a record. The zeros are for speed alone, so the records count where they don't fit.
+pub(crate) fn write_group_at<D: Disk>(
     disk: &mut D,
     at: u64,
     prev: &[u8; DIGEST_BYTES],
@@ -143,22 +166,21 @@ pub(crate) fn append_at<D: Disk>(
     group: Group<'_>,
     len: usize,
     ready: usize,
-) -> (Appended, [u8; DIGEST_BYTES])
+) -> (Result<(), DiskFault>, [u8; DIGEST_BYTES])
     requires len { len ≡ group_bytes (bodies_in group) + LENGTH_BYTES }
     requires room { len + ready ≤ length buffer.old }
     requires small { AllByRecursion (λ body. length body ≤ MOST_BODY) (bodies_in group) }
     ensures digest { result.1 ≡ last prev.now (bodies_in group.entry) }
     ensures went { D.honest
-        → PutAheadBecame D.Disk result.0 at (closed prev.now (bodies_in group.entry))
+        → LeftWritten D.Disk result.0 at (closed prev.now (bodies_in group.entry))
         (closed_by ready prev.now (bodies_in group.entry)) disk.old disk.new }
     ensures time { D.honest
         → TimePasses D.Disk (Torn at (length (closed_by ready prev.now (bodies_in group.entry)))) disk.old disk.new }
-    ensures calls { AppendsAhead ready result.0
+    ensures calls { WritesAhead ready result.0
         (D.failures disk.old) (D.failures disk.new) (D.counts disk.old) (D.counts disk.new) }
-    ensures not_full { result.0 ≢ Appended.Full }
 {
     let digest = group.encode(buffer, prev);
     clear(buffer, len, ready);
-    let outcome = put_ahead_or_clear(disk, at, &mut buffer[..len + ready], len);
-    (outcome, digest)
+    let write = write_ahead(disk, at, &buffer[..len + ready], len);
+    (write, digest)
 }

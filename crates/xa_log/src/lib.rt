@@ -3,8 +3,10 @@
 //!
 //! - `log`: `Log`, with `append` and `checkpoint`; `reserving` has `reserve`, for long records; `making` has `create`
 //!   and `open`, `rescanning` has `rescan` and `into_disks`, `planning` has planned faults in memory
-//! - `log_group`: `append_group`, several records by one write and one sync, of which an append is the case of one;
-//!   `group`: `Group`, what is appended together; `appending`: how it goes to the disk, and `Appended`, what became of it
+//! - `log_group`: `append_group`, several records by one write and one sync, of which an append is the case of one; its two
+//!   parts, `write_group` and `settle`, between which whoever has a `syncer` makes the sync; `written`: `Written`, a group
+//!   that is to be settled; `group`: `Group`, what is appended together; `appending`: how it goes to the disk, and
+//!   `Appended`, what became of it
 //! - `ahead`: how far a file is made ready ahead of its log, by pieces of `READY_BYTES`
 //! - `checkpointing`: how a checkpoint goes to the other disk, in its three parts; `end_of`, whether it fits
 //! - `opening`: making and reading a log on disks that are lent: `create_on`, `open_on`, `read_log`
@@ -47,6 +49,7 @@ mod rescanning;
 mod reserving;
 mod window;
 mod worked;
+mod written;
 
 pub use ahead::READY_BYTES;
 pub use appending::Appended;
@@ -67,3 +70,4 @@ pub use opening::{create_on, open_on, read_log};
 pub use record::{MOST_RECORD, SHORT_RECORD};
 pub use window::{LEAST_READ, WINDOW};
 pub use worked::worked_pairs;
+pub use written::Written;

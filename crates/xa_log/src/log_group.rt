@@ -1,5 +1,6 @@
 //! Appending a group: several records by one write and one sync.
-ghost use Rattle.std.specs.Prelude.{◌≡◌, ◌+◌, ◌≤◌, ◌<◌, ◌↔◌, List, ℕ, true, false, length, IfOk, OnErr, OnOk, Ok};
+ghost use Rattle.std.specs.Prelude.{◌≡◌, ◌⊎◌, ◌+◌, ◌≤◌, ◌<◌, ◌↔◌, List, ℕ, true, false, length};
+ghost use Rattle.std.specs.Prelude.{IfNone, IfOk, IfSome, OnErr, OnOk, Ok};
 ghost use Rattle.std.specs.List.{AllByRecursion};
 ghost use Rattle.xa_disk.specs.Counts.{top};
 ghost use Rattle.xa_disk.specs.Time.{LeavesOnly};
@@ -11,14 +12,16 @@ ghost use Rattle.xa_log.specs.Group.{as_one, bodies_in, first_of_group};
 ghost use Rattle.xa_log.specs.LogStates.{KeepsAll};
 ghost use Rattle.xa_log.specs.Stands.{Answers, Leaves, Moves, Renumbers, Stands, Untouched};
 ghost use Rattle.xa_log.specs.TwoFiles.{AppendsTo, Pair};
+ghost use Rattle.xa_log.specs.Written.{AppendsGroup, HasWritten, IsRange};
 
 use crate::Log;
 use crate::ahead::ready_behind;
-use crate::appending::{Appended, append_at};
+use crate::appending::{Appended, settle_at, write_group_at};
 use crate::generation::generation_with;
 use crate::group::Group;
+use crate::written::Written;
 use std::alloc::AllocError;
-use xa_disk::Disk;
+use xa_disk::{Disk, SyncAnswer, Syncer};
 use xa_limits::{AROUND_CLOSED, LENGTH_BYTES, MOST_BODY};
 
 impl<D: Disk> Log<D> {
@@ -82,11 +85,29 @@ impl<D: Disk> Log<D> {
         if self.lost {
             return Appended::Lost; // Until a rescan, which records stand is open.
         }
-        let Some(to) = group.end(self.end, self.log_bytes) else {
-            return Appended::Full;
-        };
+        match self.write_group(group) {
+            Some(written) => self.settle(written, SyncAnswer::none()),
+            None => Appended::Full,
+        }
+    }
+
+    /// Writes the records of a group after the log's end, as `append_group`, and leaves the sync to follow: whoever makes it
+    /// (`syncer`) needn't have the log. Until it is settled, every append answers `Lost`. A crash meanwhile leaves what it may
+    /// leave during an append. None where an append would answer `Full`, or `Lost`: then nothing changed.
+    pub fn write_group(&mut self, group: Group<'_>) -> Option<Written>
+        requires some { 1 ≤ length (bodies_in group) }
+        requires sizes { AllByRecursion (IsBody self.old.format) (bodies_in group) }
+        requires holds { Holds self.old (as_one (bodies_in group)) }
+        ensures written { IfSome result (λ w. HasWritten D.Disk (bodies_in group.entry) w self.old self.new) }
+        ensures none { IfNone result ((self.new ≡ self.old) × ((self.old.lost ≡ true)
+            ⊎ (self.old.log_bytes < self.old.end + AROUND_CLOSED + as_one (bodies_in group.entry)))) }
+    {
+        if self.lost {
+            return None;
+        }
+        let to = group.end(self.end, self.log_bytes)?;
         let ready = ready_behind(self.end, to, self.log_bytes, self.known);
-        let (outcome, digest) = append_at(
+        let (write, digest) = write_group_at(
             &mut self.disk,
             self.end,
             &self.digest,
@@ -95,15 +116,54 @@ impl<D: Disk> Log<D> {
             (to - self.end) as usize,
             ready,
         );
+        self.lost = true;
+        Some(Written {
+            to,
+            digest,
+            generation: generation_with(self.generation, self.end, group.first()),
+            write,
+        })
+    }
+
+    /// What makes the sync of a group that was written.
+    pub fn syncer(&self) -> Syncer {
+        self.disk.syncer()
+    }
+
+    /// Settles a group that was written, by the sync's answer: it is kept, or zeros go over the whole range: zeros over the
+    /// first record alone would leave those after it, which chain again once a later first record of the same length is
+    /// torn after its length.
+    pub fn settle(&mut self, written: Written, answer: SyncAnswer) -> Appended
+        requires { IsRange written self.old }
+        // said of the log as it was before the group was written
+        ensures { (before : Log D) (group : List (List ℕ)) → HasWritten D.Disk group written before self.old
+            → AppendsGroup D.Disk group result before self.new }
+    {
+        let Written {
+            to,
+            digest,
+            generation,
+            write,
+        } = written;
+        let len = (to - self.end) as usize;
+        let outcome = settle_at(
+            &mut self.disk,
+            self.end,
+            &mut self.buffer,
+            len,
+            write,
+            answer,
+        );
         match outcome {
             Appended::Kept => {
-                self.generation = generation_with(self.generation, self.end, group.first());
+                self.generation = generation;
                 self.end = to - LENGTH_BYTES as u64;
                 self.known = self.known.max(to);
                 self.digest = digest;
+                self.lost = false;
             }
-            Appended::Lost => self.lost = true,
-            Appended::Refused | Appended::Full => {}
+            Appended::Refused => self.lost = false,
+            Appended::Lost | Appended::Full => {}
         }
         outcome
     }

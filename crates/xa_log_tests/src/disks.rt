@@ -3,7 +3,7 @@ use std::alloc::Global;
 use std::fs;
 use std::io::ErrorKind;
 use std::os::unix::fs::MetadataExt;
-use xa_disk::{Disk, DiskFault, Effect, FileCall, FileDisk, FileFault, MemDisk};
+use xa_disk::{Disk, DiskFault, Effect, FileCall, FileDisk, FileFault, MemDisk, SyncAnswer};
 
 // A write that is synced, one that isn't, and a plan.
 fn written(disk: &mut MemDisk) -> Option<()> {
@@ -130,6 +130,25 @@ fn a_file_in_a_folder(rt: HostRuntime) {
     let path = path_of(&rt, "xa_disk").expect(&rt, "a path");
     let mut disk = file_at(&rt, path.as_str()).expect(&rt, "a disk");
     assert!(rt; is_a_disk(&mut disk) && is_removed(&rt, path.as_str()));
+}
+
+// A sync that was made apart is taken, and so is one that was made before the last write, or none at all: the disk then
+// makes its own.
+fn takes_syncs(disk: &mut FileDisk) -> Result<(), DiskFault> {
+    disk.write_at(0, b"a".as_slice())?;
+    let answer = disk.syncer().sync();
+    disk.take_sync(answer)?;
+    let early = disk.syncer().sync();
+    disk.write_at(1, b"b".as_slice())?;
+    disk.take_sync(early)?;
+    disk.take_sync(SyncAnswer::none())
+}
+
+#[test]
+fn a_sync_is_made_apart(rt: HostRuntime) {
+    let path = path_of(&rt, "xa_disk-apart").expect(&rt, "a path");
+    let mut disk = file_at(&rt, path.as_str()).expect(&rt, "a disk");
+    assert!(rt; takes_syncs(&mut disk) == Ok(()) && is_removed(&rt, path.as_str()));
 }
 
 // Why a path isn't taken as a disk.

@@ -41,6 +41,24 @@ fn appends_group<D: Disk>(log: &mut Log<D>, bodies: &[Vec<u8>]) -> Option<Append
     Some(log.append_group(group))
 }
 
+// What the same comes to in two parts, with a sync by whoever has the syncer in between. Until then nothing else is
+// appended.
+fn settles_group(log: &mut Log<MemDisk>, bodies: &[Vec<u8>]) -> Option<Appended> {
+    let group = Group::Many(bodies);
+    if bodies.is_empty() || !are_bodies_of(log, bodies) || log.reserve_group(group) != Ok(true) {
+        return None;
+    }
+    if !are_bodies_of(log, bodies) {
+        return None;
+    }
+    let written = log.write_group(group)?;
+    if DECIDED.len() > log.most_body() || log.append(&DECIDED) != Appended::Lost {
+        return None;
+    }
+    let answer = log.syncer().sync();
+    Some(log.settle(written, answer))
+}
+
 // What an append of this as a group of one comes to.
 fn appends_alone<D: Disk>(log: &mut Log<D>, body: &[u8]) -> Option<Appended> {
     let group = Group::One(body);
@@ -73,6 +91,11 @@ fn came_to(alloc: Global, log: &mut Log<MemDisk>) -> Option<Appended> {
     appends_group(log, &group)
 }
 
+fn came_to_in_parts(alloc: Global, log: &mut Log<MemDisk>) -> Option<Appended> {
+    let group = copies(alloc, &GROUP)?;
+    settles_group(log, &group)
+}
+
 fn are_first(bodies: &[Vec<u8>], found: usize) -> bool {
     match ALL.get(..found) {
         Some(first) => are(bodies, first),
@@ -90,15 +113,29 @@ fn finds(log: &mut Log<MemDisk>, found: usize) -> bool {
 // What a group comes to on such a disk, and the records that are found then.
 fn is_fault(alloc: Global, row: &Fault) -> Option<bool> {
     let (plans, answer, found) = row;
-    let mut log = log_of(alloc, &ONE)?;
-    for (k, effect) in *plans {
-        log.fail(*k, *effect).ok()?;
-    }
+    let mut log = planned(alloc, plans)?;
     Some(came_to(alloc, &mut log) == Some(*answer) && finds(&mut log, *found))
 }
 
+fn is_fault_in_parts(alloc: Global, row: &Fault) -> Option<bool> {
+    let (plans, answer, found) = row;
+    let mut log = planned(alloc, plans)?;
+    Some(came_to_in_parts(alloc, &mut log) == Some(*answer) && finds(&mut log, *found))
+}
+
+fn planned(alloc: Global, plans: &[(u64, Effect)]) -> Option<Log<MemDisk>> {
+    let mut log = log_of(alloc, &ONE)?;
+    for (k, effect) in plans {
+        log.fail(*k, *effect).ok()?;
+    }
+    Some(log)
+}
+
 fn wrong_fault(alloc: Global, rows: &[Fault]) -> Option<usize> {
-    first_wrong(rows, |row| is_fault(alloc, row) == Some(true))
+    first_wrong(
+        rows,
+        |row| is_fault(alloc, row) == Some(true) && is_fault_in_parts(alloc, row) == Some(true),
+    )
 }
 
 #[test]

@@ -1,25 +1,16 @@
-use Rattle.std.proofs.Common.{take}
-use Rattle.xa_log.proofs.Tried.{shorter, first_zeros, time_then, went_refused, went_lost}
+use Rattle.std.proofs.Common.{length, take}
+use Rattle.std.proofs.lemmas.List.{length-take-le}
+use Rattle.xa_log.proofs.Tried.{left_by, shorter}
 use Rattle.xa_log.proofs.appending.put_ahead_or_clear.Goals as goal
 
-pub returns-in-Ok-put_synced-clause-went : goal.returns-in-Ok-put_synced-clause-went
-returns-in-Ok-put_synced-clause-went g c h =
-    went_refused g.D.Disk g.met.D.Disk.tears_torn c.args.at (take c.args.len c.args.bytes.now) c.args.bytes.now _ c.args.disk.now c.put_ahead_synced.new.disk c.put_synced.new.disk
-    (shorter c.args.len c.args.bytes.now c.args.bytes.now c.requires.within) (first_zeros c.args.len c.args.bytes.now c.args.bytes.now _ c.requires.within c.clear.ensures)
-    (c.in-Err.ensures.fell h) (c.in-Ok-put_synced.ensures.written h) (c.in-Ok-put_synced.ensures.durable h)
+pub returns-clause-went : goal.returns-clause-went
+returns-clause-went g c h =
+    c.settle_at.ensures.went h c.args.disk.now (take c.args.len c.args.bytes.now) c.args.bytes.now
+    (length-take-le c.args.len c.args.bytes.now c.requires.within) (shorter c.args.len c.args.bytes.now c.args.bytes.now c.requires.within)
+    (left_by g.D.Disk _ c.args.at _ _ c.args.disk.now c.write_ahead-write.new.disk (c.write_ahead-write.ensures.written h) (c.write_ahead-write.ensures.fell h))
 
-pub returns-in-Err-put_synced-clause-went : goal.returns-in-Err-put_synced-clause-went
-returns-in-Err-put_synced-clause-went g c h =
-    went_lost g.D.Disk g.met.D.Disk.tears_torn c.args.at (take c.args.len c.args.bytes.now) c.args.bytes.now _ c.args.disk.now c.put_ahead_synced.new.disk c.put_synced.new.disk
-    (shorter c.args.len c.args.bytes.now c.args.bytes.now c.requires.within) (first_zeros c.args.len c.args.bytes.now c.args.bytes.now _ c.requires.within c.clear.ensures)
-    (c.in-Err.ensures.fell h) (c.in-Err-put_synced.ensures.fell h)
+pub returns-clause-time : goal.returns-clause-time
+returns-clause-time g c h = c.settle_at.ensures.time h c.args.disk.now (length c.args.bytes.now) c.requires.within (c.write_ahead-write.ensures.time h)
 
-pub returns-in-Ok-put_synced-clause-time : goal.returns-in-Ok-put_synced-clause-time
-returns-in-Ok-put_synced-clause-time g c h =
-    time_then g.D.Disk c.args.at _ _ c.args.disk.now c.put_ahead_synced.new.disk c.put_synced.new.disk (shorter c.args.len c.clear.new.buffer c.args.bytes.now c.requires.within)
-    (c.put_ahead_synced.ensures.time h) (c.put_synced.ensures.time h)
-
-pub returns-in-Err-put_synced-clause-time : goal.returns-in-Err-put_synced-clause-time
-returns-in-Err-put_synced-clause-time g c h =
-    time_then g.D.Disk c.args.at _ _ c.args.disk.now c.put_ahead_synced.new.disk c.put_synced.new.disk (shorter c.args.len c.clear.new.buffer c.args.bytes.now c.requires.within)
-    (c.put_ahead_synced.ensures.time h) (c.put_synced.ensures.time h)
+pub returns-clause-calls : goal.returns-clause-calls
+returns-clause-calls g c = c.settle_at.ensures.calls c.args.disk.now _ c.write_ahead-write.ensures.calls

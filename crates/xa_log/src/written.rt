@@ -1,0 +1,25 @@
+ghost use Rattle.std.specs.Prelude.{◌≡◌, is_ok};
+
+use xa_disk::DiskFault;
+use xa_limits::DIGEST_BYTES;
+
+/// A group on its way into a log: its records are written after the log's end, and their sync is to follow. Until it is
+/// settled the log takes no other.
+#[derive(Debug, Drop)]
+pub struct Written {
+    // Where the closing length ends, the last record's digest, and the log's generation with them.
+    pub(crate) to: u64,
+    pub(crate) digest: [u8; DIGEST_BYTES],
+    pub(crate) generation: usize,
+    // What the write was answered.
+    pub(crate) write: Result<(), DiskFault>,
+}
+
+impl Written {
+    /// Whether the write succeeded, so that a sync may.
+    pub fn is_whole(&self) -> bool
+        ensures { result ≡ is_ok self.now.write }
+    {
+        self.write.is_ok()
+    }
+}
