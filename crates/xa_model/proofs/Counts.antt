@@ -69,6 +69,17 @@ pub count_without : {A : Type 0} (p q : A → Bool) (xs : List A) → count q (w
 count_without p q [] = omega arith
 count_without p q (x ∷ xs) = left_by q x xs (without p xs) (p x) (count_without p q xs)
 
+apart_by : {A : Type 0} (p q : A → Bool) (h : (x : A) → p x ≡ true → q x ≡ false) (x : A) (xs ys : List A) (c : Bool)
+    → p x ≡ c → count q ys ≡ count q xs → count q (cond c xs (x ∷ ys)) ≡ cond (q x) 1 0 + count q xs
+apart_by p q h x xs ys true e rest = rw (h x e) (omega arith)
+apart_by p q h x xs ys false e rest = rw rest refl
+
+-- one that doesn't count
+pub count_apart : {A : Type 0} (p q : A → Bool) (h : (x : A) → p x ≡ true → q x ≡ false) (xs : List A)
+    → count q (without p xs) ≡ count q xs
+count_apart p q h [] = refl
+count_apart p q h (x ∷ xs) = apart_by p q h x xs (without p xs) (p x) refl (count_apart p q h xs)
+
 kept_by : {A : Type 0} (q : A → Bool) (x : A) (ys : List A) (n : ℕ) (c : Bool) → count q ys ≤ n → count q (cond c (x ∷ ys) ys) ≤ cond (q x) 1 0 + n
 kept_by q x ys n true h = omega arith
 kept_by q x ys n false h = omega arith

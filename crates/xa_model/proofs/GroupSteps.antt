@@ -37,7 +37,7 @@ pub same_then : (xid : Triple) (s t u : State) → IsSameFor xid s t → IsSameF
 same_then xid s t u h k = record {
   known = k.known ∙ h.known;
   decided = k.decided ∙ h.decided;
-  associations = k.associations ∙ h.associations;
+  associated = k.associated ∙ h.associated;
   sessions = k.sessions ∙ h.sessions;
   name = k.name ∙ h.name;
   moment = k.moment ∙ h.moment;
@@ -106,7 +106,7 @@ next_walk s w rs p ps walk a t apart =
 pub all_itself : (s : State) (ps : List Part) → AllByRecursion (λ (p : Part). IsSameFor p.xid s s) ps
 all_itself s [] = tt
 all_itself s (p ∷ ps) = (
-  record { known = refl; decided = refl; associations = refl; sessions = refl; name = refl; moment = refl; standing = refl },
+  record { known = refl; decided = refl; associated = refl; sessions = refl; name = refl; moment = refl; standing = refl },
   all_itself s ps,
 )
 

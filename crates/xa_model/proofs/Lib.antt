@@ -107,6 +107,7 @@ pub mod GroupSteps
 pub mod RefusedSteps
 pub mod GroupsBacked
 pub mod StillTogether
+pub mod WorkBeside
 pub mod Crashes
 pub mod LeftMeanwhile
 pub mod LeftOfTwo

@@ -223,9 +223,9 @@ end_moved s n flags xid =
 
 -- gets and puts, by the branch that the session works for
 
-record IsOwn (s : State) (n : ℕ) (xid : Triple) (b : Branch) : Type 0 where
-  active : active_of s.associations n ≡ Some xid
-  found : known_of s.branches xid ≡ Some b
+pub record IsOwn (s : State) (n : ℕ) (xid : Triple) (b : Branch) : Type 0 where
+  pub active : active_of s.associations n ≡ Some xid
+  pub found : known_of s.branches xid ≡ Some b
 
 known_by : (s : State) (n : ℕ) (x xid : Triple) (b : Branch) (o : Option Branch) → active_of s.associations n ≡ Some x → known_of s.branches x ≡ o
     → option_map {U = Triple × Branch} (λ (c : Branch). (x, c)) o ≡ Some (xid, b) → IsOwn s n xid b
@@ -240,7 +240,7 @@ own_by : (s : State) (n : ℕ) (xid : Triple) (b : Branch) (o : Option Triple) �
 own_by s n xid b None active e = absurd (cc e)
 own_by s n xid b (Some x) active e = known_by s n x xid b (known_of s.branches x) active refl e
 
-own : (s : State) (n : ℕ) (xid : Triple) (b : Branch) → own_branch s n ≡ Some (xid, b) → IsOwn s n xid b
+pub own : (s : State) (n : ℕ) (xid : Triple) (b : Branch) → own_branch s n ≡ Some (xid, b) → IsOwn s n xid b
 own s n xid b e = own_by s n xid b (active_of s.associations n) refl e
 
 counted_by : (p : Association → Bool) (x : Association) (xid : Triple) (held : List Association) (c : Bool)
@@ -252,7 +252,7 @@ counted_by p x xid held true e rest =
     rw here (omega arith)
 counted_by p x xid held false e rest = omega (arith, rest e)
 
-counted : (p : Association → Bool) (xid : Triple) (held : List Association) → option_map (λ a. a.xid) (find p held) ≡ Some xid
+pub counted : (p : Association → Bool) (xid : Triple) (held : List Association) → option_map (λ a. a.xid) (find p held) ≡ Some xid
     → 1 ≤ holders_of held xid
 counted p xid [] e = absurd (cc e)
 counted p xid (x ∷ held) e = counted_by p x xid held (p x) e (counted p xid held)
@@ -264,9 +264,9 @@ works_by s xid b true e h held found = sym (ap is_at_work found) ∙ e
 works_by s xid b false e h held found = absurd (omega (arith, held, h.bound xid e))
 
 -- who is associated with it works for it
-own_works : (s : State) (n : ℕ) (xid : Triple) (b : Branch) → IsRecoverable s → IsOwn s n xid b → is_working b.phase ≡ true
+pub own_works : (s : State) (n : ℕ) (xid : Triple) (b : Branch) → IsSound s → IsOwn s n xid b → is_working b.phase ≡ true
 own_works s n xid b h o =
-    works_by s xid b (is_at_work (known_of s.branches xid)) refl h.sound
+    works_by s xid b (is_at_work (known_of s.branches xid)) refl h
     (counted (λ a. is_active n a.holder) xid s.associations o.active) o.found
 
 get_moved : (s : State) (n : ℕ) (key : List ℕ) (o : Option (Triple × Branch)) → own_branch s n ≡ o → Moved s (get_by s key o)
@@ -284,7 +284,7 @@ put_moved s n key value (Some (xid, b)) e h =
     marked_moved (mark_of b.phase) s s (put_from s key value xid b) (itself s)
     (unless_moved (limit_refusal (is_full key b.operations)) s (if_late (is_late key b.timestamp s.reads) (came_late s xid) (written s key value xid))
     (λ none. if_late_moved (is_late key b.timestamp s.reads) s (came_late s xid) (written s key value xid) (marks s XA_RBTRANSIENT xid (λ e. cc e))
-    (λ on_time. puts key value xid b (own s n xid b e).found (own_works s n xid b h (own s n xid b e)) on_time)))
+    (λ on_time. puts key value xid b (own s n xid b e).found (own_works s n xid b h.sound (own s n xid b e)) on_time)))
 
 -- the calls that log
 

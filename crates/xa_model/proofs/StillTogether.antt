@@ -42,12 +42,12 @@ module _ (s t : State) (bytes : t.log_bytes ≡ s.log_bytes) (keeps : KeepsLog s
   as_many_decided : length t.decided ≡ length s.decided
   as_many_decided = sym (decided_lasting t) ∙ ap (λ (d : Durable). length d.decided) keeps.lasts ∙ decided_lasting s
 
-  rooms_still : (before : List Record) (ps : List Part) → HaveRoom s before ps → HaveRoom t before ps
+  pub rooms_still : (before : List Record) (ps : List Part) → HaveRoom s before ps → HaveRoom t before ps
   rooms_still before [] room = tt
   rooms_still before (p ∷ ps) room =
       (same_room s t before p.appended bytes keeps.end as_many_prepared as_many_decided ∙ room.0, rooms_still (before ++ p.appended ∷ []) ps room.1)
 
-  appends_still : (before : List Record) (ps : List Part) → s.standing ≡ Up → AllByRecursion (λ (p : Part). IsSameFor p.xid s t) ps
+  pub appends_still : (before : List Record) (ps : List Part) → s.standing ≡ Up → AllByRecursion (λ (p : Part). IsSameFor p.xid s t) ps
       → AllByRecursion (AppendsOf s) ps → HaveRoom s before ps → AllByRecursion (AppendsOf t) ps
   appends_still before [] up same appends room = tt
   appends_still before (p ∷ ps) up same appends room =

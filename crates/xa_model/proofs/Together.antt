@@ -1,6 +1,6 @@
 -- Calls on different XIDs: what the record of one does leaves what another looks at, and so its record, the same.
 use Rattle.std.proofs.Common.{◌≡◌, ℕ, ℤ, Bool, true, false, cond, List, ◌∷◌, Option, Some, None, refl, sym, ap, ◌∙◌, subst}
-use Rattle.std.specs.Prelude.{pos, nat_lt, option_map}
+use Rattle.std.specs.Prelude.{pos, option_map}
 use Rattle.xa_codes.specs.Flags.{has}
 use Rattle.xa_codes.specs.declared.codes.TheConstants.{XAER_RMERR, XA_RETRY, XA_RDONLY}
 use Rattle.xa_codes.specs.declared.direction.Direction.{Direction}
@@ -17,7 +17,7 @@ use Rattle.xa_xid.proofs.Same.{xid_same}
 use Rattle.xa_model.specs.declared.event.Event.TheVariants as event
 use Rattle.xa_model.specs.declared.outcome.Appending.{Appending}
 use Rattle.xa_model.specs.declared.outcome.Appending.TheVariants.{Kept, Refused}
-use Rattle.xa_model.specs.State.{State, Session, Association, Branch, Decided, Standing, Up, Known, Unknown, AtWork, InDoubt, Completed, known_as, known_among, known_of, decided_of, is_known_as, holders_of, session_of, change, without}
+use Rattle.xa_model.specs.State.{State, Session, Branch, Decided, Standing, Up, Known, Unknown, AtWork, InDoubt, Completed, known_as, known_among, known_of, decided_of, is_known_as, session_of, change, without}
 use Rattle.xa_model.specs.Answer.{Answer, plain, answer, ok}
 use Rattle.xa_model.specs.Associations.{mark_in, timestamp_by, timestamp_in}
 use Rattle.xa_model.specs.Phases.{as_committed, as_prepared, is_associated, is_decision_of, unprepared_refusal, two_phase_refusal, rollback_refusal, heuristic_refusal, rolled_back, committed}
@@ -37,19 +37,19 @@ use Rattle.xa_model.proofs.OfTurns.{OfTurn, unless_turn, marked_turn, cond_turn}
 
 -- what a record leaves
 
-same_for : (other : Triple) (s t : State) → known_of t.branches other ≡ known_of s.branches other → decided_of t.decided other ≡ decided_of s.decided other
-    → t.associations ≡ s.associations → t.sessions ≡ s.sessions → t.name ≡ s.name → t.moment ≡ s.moment → t.standing ≡ s.standing → IsSameFor other s t
+pub same_for : (other : Triple) (s t : State) → known_of t.branches other ≡ known_of s.branches other → decided_of t.decided other ≡ decided_of s.decided other
+    → is_associated t other ≡ is_associated s other → t.sessions ≡ s.sessions → t.name ≡ s.name → t.moment ≡ s.moment → t.standing ≡ s.standing → IsSameFor other s t
 same_for other s t known decided held sessions name moment standing = record {
   known = known;
   decided = decided;
-  associations = held;
+  associated = held;
   sessions = sessions;
   name = name;
   moment = moment;
   standing = standing;
 }
 
-itself : (other : Triple) (s : State) → IsSameFor other s s
+pub itself : (other : Triple) (s : State) → IsSameFor other s s
 itself other s = same_for other s s refl refl refl refl refl refl refl
 
 module _ (s : State) (xid other : Triple) (apart : xid_eq xid other ≡ false) where
@@ -206,9 +206,6 @@ module _ (xid : Triple) (s t : State) (h : IsSameFor xid s t) where
       ap (λ (o : Option Branch). known_among o (decided_of t.decided xid)) h.known
       ∙ ap (λ (d : Option Direction). known_among (known_of s.branches xid) d) h.decided
 
-  same_held : is_associated t xid ≡ is_associated s xid
-  same_held = ap (λ (held : List Association). nat_lt 0 (holders_of held xid)) h.associations
-
   same_time : timestamp_in t xid ≡ timestamp_in s xid
   same_time = ap timestamp_by h.known
 
@@ -276,7 +273,7 @@ module _ (s t : State) (x : Triple) (h : IsSameFor x s t) where
       let r = logged.Prepared x (timestamp_in s x) (writes_in s x) in
       subst (Again t (prepare_turn s x))
       (same_by (prepare_by t x) k (known_as t x) (is_associated s x) (is_associated t x) (timestamp_in s x) (timestamp_in t x) (writes_in s x) (writes_in t x)
-      (sym (same_known x s t h)) (sym (same_held x s t h)) (sym (same_time x s t h)) (sym (same_writes x s t h)))
+      (sym (same_known x s t h)) (sym h.associated) (sym (same_time x s t h)) (sym (same_writes x s t h)))
       (unless_again (unprepared_refusal k (is_associated s x)) s t _ _
       (marked_again (mark_in k) t (rolled_back s x) (rolled_back t x) _ _
       (cond_again (is_empty (writes_in s x)) t _ _ _ _ tt (room_again (has_room s r 1) (has_room t r 1) s t r XAER_RMERR s t _ _ (λ room. room)))))
@@ -287,7 +284,7 @@ module _ (s t : State) (x : Triple) (h : IsSameFor x s t) where
       let r = logged.Committed x (timestamp_in s x) (writes_in s x) in
       subst (Again t (commit_one_phase_turn s x))
       (same_by (one_phase_by t x) k (known_as t x) (is_associated s x) (is_associated t x) (timestamp_in s x) (timestamp_in t x) (writes_in s x) (writes_in t x)
-      (sym (same_known x s t h)) (sym (same_held x s t h)) (sym (same_time x s t h)) (sym (same_writes x s t h)))
+      (sym (same_known x s t h)) (sym h.associated) (sym (same_time x s t h)) (sym (same_writes x s t h)))
       (unless_again (unprepared_refusal k (is_associated s x)) s t _ _
       (marked_again (mark_in k) t (rolled_back s x) (rolled_back t x) _ _
       (cond_again (is_empty (writes_in s x)) t _ _ _ _ tt
@@ -317,7 +314,7 @@ module _ (s t : State) (x : Triple) (h : IsSameFor x s t) where
       (λ (c : Bool).
       Again t (rollback_turn s x)
       (unless_now (rollback_refusal (known_as s x) c) t (unless_now (heuristic_refusal (known_as s x)) t (roll_back_turn t x (known_as s x)))))
-      (sym (same_held x s t h))
+      (sym h.associated)
       (unless_again (rollback_refusal (known_as s x) (is_associated s x)) s t _ _
       (unless_again (heuristic_refusal (known_as s x)) s t (roll_back_turn s x (known_as s x)) (roll_back_turn t x (known_as s x)) (roll_back_again (known_as s x)))))
 

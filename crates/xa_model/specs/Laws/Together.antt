@@ -9,7 +9,8 @@ use Rattle.xa_codes.specs.declared.detail.Detail.TheVariants as detail
 use Rattle.xa_codes.specs.declared.flags.TheConstants.{TMONEPHASE}
 use Rattle.xa_frame.specs.declared.reply.Reply.{Reply}
 use Rattle.xa_frame.specs.declared.request.Request.{Request}
-use Rattle.xa_frame.specs.declared.request.Request.TheVariants.{Prepare, Commit, Rollback, Forget, Decide}
+use Rattle.xa_frame.specs.declared.request.Request.TheVariants.{Start, End, Prepare, Commit, Rollback}
+use Rattle.xa_frame.specs.declared.request.Request.TheVariants.{Forget, Get, Put, Delete, Decide}
 use Rattle.xa_record.specs.declared.record.Record.{Record}
 use Rattle.xa_record.specs.declared.record.Record.TheVariants as logged
 use Rattle.xa_xid.specs.Triple.{Triple, xid_eq}
@@ -20,7 +21,7 @@ use Rattle.xa_model.specs.declared.outcome.Outcome.{Outcome}
 use Rattle.xa_model.specs.declared.outcome.Outcome.TheVariants.{Appended, Joined}
 use Rattle.xa_model.specs.State.{State, Up, count, known_of, decided_of}
 use Rattle.xa_model.specs.Answer.{Answer, plain, detailed, answer, ok}
-use Rattle.xa_model.specs.Phases.{rolled_back}
+use Rattle.xa_model.specs.Phases.{is_associated, rolled_back}
 use Rattle.xa_model.specs.Turn.{Asked, Now, Appends}
 use Rattle.xa_model.specs.Durable.{durable}
 use Rattle.xa_model.specs.Events.{IsEvent}
@@ -46,7 +47,7 @@ xid_of _ = None
 pub record IsSameFor (xid : Triple) (s t : State) : Type 0 where
   pub known : known_of t.branches xid ≡ known_of s.branches xid
   pub decided : decided_of t.decided xid ≡ decided_of s.decided xid
-  pub associations : t.associations ≡ s.associations
+  pub associated : is_associated t xid ≡ is_associated s xid
   pub sessions : t.sessions ≡ s.sessions
   pub name : t.name ≡ s.name
   pub moment : t.moment ≡ s.moment
@@ -177,6 +178,36 @@ StillTogether =
     → xid_of request ≡ Some xid → AllByRecursion (λ q. xid_eq xid q.xid ≡ false) (p ∷ ps)
     → turn s (Asked (Call n request)) ≡ Now a
     → MayStandTogether s (p ∷ ps) → MayStandTogether a.after (p ∷ ps)
+
+-- a call of a session's work on its branch: it logs nothing
+abbrev pub is_work : Request → Bool
+is_work (Start flags xid) = true
+is_work (End flags xid) = true
+is_work (Get key) = true
+is_work (Put key value) = true
+is_work (Delete key) = true
+is_work _ = false
+
+-- so it is answered at once
+abbrev pub WorkIsNow : Type 0
+WorkIsNow =
+    (s : State) (n : ℕ) (request : Request) → s.standing ≡ Up → is_work request ≡ true
+    → (a : Answer) × (turn s (Asked (Call n request)) ≡ Now a)
+
+-- It names none of the group's branches. What gets and puts work for is associated, and such a branch isn't a group's.
+abbrev pub WorksApart : Request → List Part → Type 0
+WorksApart (Start flags xid) ps = AllByRecursion (λ q. xid_eq xid q.xid ≡ false) ps
+WorksApart (End flags xid) ps = AllByRecursion (λ q. xid_eq xid q.xid ≡ false) ps
+WorksApart _ ps = Unit {0}
+
+-- Work on other branches leaves a group as it is: its calls may still stand together, and append the same records.
+abbrev pub WorkLeavesGroup : Type 0
+WorkLeavesGroup =
+    (s : State) (n : ℕ) (request : Request) (a : Answer) (p : Part) (ps : List Part)
+    → IsSound s → s.standing ≡ Up → is_work request ≡ true → WorksApart request (p ∷ ps)
+    → turn s (Asked (Call n request)) ≡ Now a
+    → MayStandTogether s (p ∷ ps)
+    → MayStandTogether a.after (p ∷ ps) × AllByRecursion (λ q. IsSameFor q.xid s a.after) (p ∷ ps)
 
 -- what a call is replied, of whose record this became
 abbrev pub replied : Appending → Request → Reply

@@ -1,0 +1,346 @@
+-- Work on other branches leaves a group as it is.
+use Rattle.std.proofs.Common.{◌≡◌, ℕ, ℤ, ◌≤◌, Bool, true, false, cond, List, [], ◌∷◌, Option, Some, None, refl, sym}
+use Rattle.std.proofs.Common.{◌∙◌, ap, subst, arith}
+use Rattle.std.specs.Prelude.{is_some, nat_lt}
+use Rattle.std.specs.List.{AllByRecursion, list_any}
+use Rattle.std.proofs.lemmas.Bool.{lt-ltb}
+use Rattle.xa_codes.specs.Flags.{has}
+use Rattle.xa_codes.specs.declared.codes.TheConstants.{XA_RBTRANSIENT, XA_RBROLLBACK}
+use Rattle.xa_codes.specs.declared.flags.TheConstants.{TMONEPHASE, TMJOIN, TMRESUME, TMSUSPEND, TMMIGRATE, TMFAIL}
+use Rattle.xa_frame.specs.declared.reply.Reply.{Reply}
+use Rattle.xa_frame.specs.declared.request.Request.{Request}
+use Rattle.xa_frame.specs.declared.request.Request.TheVariants.{Start, End, Prepare, Commit, Rollback, Forget, Get, Put}
+use Rattle.xa_frame.specs.declared.request.Request.TheVariants.{Delete, Decide}
+use Rattle.xa_xid.specs.Triple.{Triple, xid_eq}
+use Rattle.xa_xid.proofs.Same.{xid_same}
+use Rattle.xa_model.specs.declared.event.Event.TheVariants as event
+use Rattle.xa_model.specs.State.{State, Association, Holder, Active, Branch, Phase, Working, Prepared, Committed}
+use Rattle.xa_model.specs.State.{Operation, Got, Wrote, Up, Known, AtWork, known_as, known_among, known_by, known_in}
+use Rattle.xa_model.specs.State.{known_of, decided_of, is_known_as, is_with, is_working, mark_of, active_of, own_branch}
+use Rattle.xa_model.specs.State.{holders_of, loose_of, owns, works_in, suspends, is_loose, is_loose_with, is_own}
+use Rattle.xa_model.specs.State.{is_active, is_suspended, change, without}
+use Rattle.xa_model.specs.Source.{source, is_late}
+use Rattle.xa_model.specs.Answer.{Answer, answer, ok, unless, marked}
+use Rattle.xa_model.specs.Associations.{with_mark, held_by, start_refusal, begun, begin_by, is_taken, join_refusal}
+use Rattle.xa_model.specs.Associations.{joined, join_by, resume_refusal, resumable, resumed, not_resumed, resume_by}
+use Rattle.xa_model.specs.Associations.{start_by, end_refusal, loose_refusal, suspended, not_suspended, suspend_by}
+use Rattle.xa_model.specs.Associations.{can_end, without_one, ended, failed, leave_by, end_by, mark_in}
+use Rattle.xa_model.specs.Phases.{is_associated, unprepared_refusal, two_phase_refusal, rollback_refusal}
+use Rattle.xa_model.specs.Data.{having_done, did, got, get_from, get_by, busy_refusal, is_full, limit_refusal}
+use Rattle.xa_model.specs.Data.{came_late, written, if_late, put_from, put_by}
+use Rattle.xa_model.specs.Completions.{prepare_turn, commit_one_phase_turn, commit_two_phase_turn, rollback_turn}
+use Rattle.xa_model.specs.Completions.{decide_refusal, forget_refusal}
+use Rattle.xa_model.specs.Early.{early_refusal}
+use Rattle.xa_model.specs.Events.{asks_boot}
+use Rattle.xa_model.specs.Step.{row, respond, context_of, record_in}
+use Rattle.xa_model.specs.Turn.{Turn, Now, Appends, unless_now}
+use Rattle.xa_model.specs.Invariants.Sound.{IsSound}
+use Rattle.xa_model.specs.Laws.Logging.{LogsWhatLasts}
+use Rattle.xa_model.specs.Laws.Together.{xid_of, IsSameFor, Part, AppendsOf, is_work, WorkIsNow, WorksApart}
+use Rattle.xa_model.specs.Laws.Together.{WorkLeavesGroup}
+use Rattle.xa_model.proofs.Counts.{count_same, count_apart}
+use Rattle.xa_model.proofs.Further.{turns_up}
+use Rattle.xa_model.proofs.Lists.{find_change_other}
+use Rattle.xa_model.proofs.LoggedEvents.{events_log_what_lasts}
+use Rattle.xa_model.proofs.Marks.{mark_keeps}
+use Rattle.xa_model.proofs.MovingRows.{own, own_works, counted}
+use Rattle.xa_model.proofs.Names.{called_apart}
+use Rattle.xa_model.proofs.OfTurns.{OfTurn, unless_turn}
+use Rattle.xa_model.proofs.RoomyRows.{AsksRoom, events_ask_room}
+use Rattle.xa_model.proofs.StillTogether.{rooms_still, appends_still}
+use Rattle.xa_model.proofs.Together.{same_for, itself}
+use Rattle.xa_model.proofs.Xids.{both_true, xid_apart}
+
+-- it is answered at once
+
+now_unless : (o : Option Reply) (s : State) (b : Answer) → (a : Answer) × (unless_now o s (Now b) ≡ Now a)
+now_unless None s b = (b, refl)
+now_unless (Some reply) s b = (answer reply s, refl)
+
+responds_now : (s : State) (n : ℕ) (request : Request) → is_work request ≡ true
+    → (a : Answer) × (respond s (event.Call n request) ≡ Now a)
+responds_now s n (Start flags xid) is = now_unless (early_refusal (context_of s n) (Start flags xid)) s (start_by s n flags xid)
+responds_now s n (End flags xid) is = now_unless (early_refusal (context_of s n) (End flags xid)) s (end_by s n flags xid)
+responds_now s n (Get key) is = now_unless (early_refusal (context_of s n) (Get key)) s (get_by s key (own_branch s n))
+responds_now s n (Put key value) is =
+    now_unless (early_refusal (context_of s n) (Put key value)) s (put_by s key (Some value) (own_branch s n))
+responds_now s n (Delete key) is = now_unless (early_refusal (context_of s n) (Delete key)) s (put_by s key None (own_branch s n))
+responds_now s n request is = absurd (cc is)
+
+pub work_is_now : WorkIsNow
+work_is_now s n request up is = let (a, e) = responds_now s n request is in (a, turns_up s (event.Call n request) up ∙ e)
+
+begins_none : (request : Request) → is_work request ≡ true → asks_boot request ≡ false
+begins_none (Start flags xid) is = refl
+begins_none (End flags xid) is = refl
+begins_none (Get key) is = refl
+begins_none (Put key value) is = refl
+begins_none (Delete key) is = refl
+begins_none request is = absurd (cc is)
+
+-- what it leaves of another branch
+
+abbrev Spares : Triple → State → Answer → Type 0
+Spares other s a = IsSameFor other s a.after
+
+unless_spares : (other : Triple) (o : Option Reply) (s : State) (a : Answer) → Spares other s a → Spares other s (unless o s a)
+unless_spares other None s a h = h
+unless_spares other (Some reply) s a h = itself other s
+
+marked_spares : (other : Triple) (o : Option ℤ) (s left : State) (a : Answer) → IsSameFor other s left → Spares other s a
+    → Spares other s (marked o left a)
+marked_spares other None s left a h k = k
+marked_spares other (Some code) s left a h k = h
+
+cond_spares : (other : Triple) (c : Bool) (s : State) (a b : Answer) → Spares other s a → Spares other s b
+    → Spares other s (cond c a b)
+cond_spares other true s a b h k = h
+cond_spares other false s a b h k = k
+
+if_late_spares : (other : Triple) (late : Bool) (s : State) (a b : Answer) → Spares other s a → Spares other s b
+    → Spares other s (if_late late a b)
+if_late_spares other true s a b h k = h
+if_late_spares other false s a b h k = k
+
+of_resumable : (c : Bool) (n : ℕ) (x : Triple) (a : Association) → cond c (suspends n x a) (is_loose_with x a) ≡ true
+    → xid_eq a.xid x ≡ true
+of_resumable true n x a is = (both_true (is_suspended n a.holder) (xid_eq a.xid x) is).1
+of_resumable false n x a is = (both_true (is_loose a.holder) (xid_eq a.xid x) is).1
+
+module _ (s : State) (x other : Triple) (apart : xid_eq x other ≡ false) where
+  -- another branch stays where the one with this XID changes, and keeps its name
+  changed : (f : Branch → Branch) → ((b : Branch) → is_known_as other (f b) ≡ is_known_as other b)
+      → known_of (change (is_known_as x) f s.branches) other ≡ known_of s.branches other
+  changed f keeps =
+      find_change_other (is_known_as x) (is_known_as other) f
+      (λ b is. (called_apart x other b apart is, keeps b ∙ called_apart x other b apart is)) s.branches
+
+  marks : (code : ℤ) → known_of (change (is_known_as x) (with_mark code) s.branches) other ≡ known_of s.branches other
+  marks code = changed (with_mark code) (λ b. ap (is_with other) ((mark_keeps code).name b))
+
+  -- and so do the associations with it
+
+  one_more : (n : ℕ) → holders_of (record { xid = x; holder = Active n } ∷ s.associations) other ≡ holders_of s.associations other
+  one_more n = rw apart (omega arith)
+
+  leave : (p : Association → Bool) → ((a : Association) → p a ≡ true → xid_eq a.xid x ≡ true)
+      → holders_of (without p s.associations) other ≡ holders_of s.associations other
+  leave p of_x =
+      count_apart p (λ (a : Association). xid_eq a.xid other) (λ a is. xid_apart a.xid x other (of_x a is) apart) s.associations
+
+  leave_one : (n : ℕ) (c : Bool)
+      → holders_of (cond c (without (owns n x) s.associations) (without (is_loose_with x) s.associations)) other
+      ≡ holders_of s.associations other
+  leave_one n true = leave (owns n x) (λ a is. (both_true (is_own n a.holder) (xid_eq a.xid x) is).1)
+  leave_one n false = leave (is_loose_with x) (λ a is. (both_true (is_loose a.holder) (xid_eq a.xid x) is).1)
+
+  held : (associations : List Association) → holders_of associations other ≡ holders_of s.associations other
+      → IsSameFor other s (record s { associations = associations })
+  held associations same =
+      same_for other s (record s { associations = associations }) refl refl (ap (λ (k : ℕ). nat_lt 0 k) same) refl refl refl refl
+
+  handed : (p : Association → Bool) (holder : Holder)
+      → IsSameFor other s (record s { associations = change p (held_by holder) s.associations })
+  handed p holder =
+      held (change p (held_by holder) s.associations)
+      (count_same p (held_by holder) (λ (a : Association). xid_eq a.xid other) (λ a. refl) s.associations)
+
+  begins : (n : ℕ) → Spares other s (begun s n x)
+  begins n =
+      same_for other s (begun s n x).after (rw apart refl) refl (ap (λ (k : ℕ). nat_lt 0 k) (one_more n)) refl refl refl refl
+
+  start_spares : (n flags : ℕ) → Spares other s (start_by s n flags x)
+  start_spares n flags =
+      cond_spares other (has flags TMJOIN) s (join_by s n x) (cond (has flags TMRESUME) (resume_by s n x) (begin_by s n x))
+      (unless_spares other
+      (join_refusal (is_some (active_of s.associations n)) (list_any (suspends n x) s.associations) (known_as s x)) s _
+      (marked_spares other (mark_in (known_as s x)) s s (joined s n x) (itself other s) (held _ (one_more n))))
+      (cond_spares other (has flags TMRESUME) s (resume_by s n x) (begin_by s n x)
+      (unless_spares other
+      (resume_refusal (is_some (active_of s.associations n)) (known_as s x) (list_any (suspends n x) s.associations)
+      (list_any (is_loose_with x) s.associations)) s _
+      (marked_spares other (mark_in (known_as s x)) s (not_resumed s n x) (resumed s n x)
+      (held _ (leave (resumable s.associations n x) (λ a is. of_resumable (list_any (suspends n x) s.associations) n x a is)))
+      (handed (resumable s.associations n x) (Active n))))
+      (unless_spares other
+      (start_refusal (is_some (active_of s.associations n)) (is_taken (known_as s x)) (known_in s) s.given) s (begun s n x)
+      (begins n)))
+
+  suspend_spares : (n : ℕ) (migrates : Bool) → Spares other s (suspend_by s n migrates x)
+  suspend_spares n migrates =
+      unless_spares other (end_refusal (known_as s x) (is_with x (active_of s.associations n))) s _
+      (marked_spares other (mark_in (known_as s x)) s (not_suspended s n x) _
+      (held _ (leave (works_in n x) (λ a is. (both_true (is_active n a.holder) (xid_eq a.xid x) is).1)))
+      (unless_spares other (loose_refusal migrates (loose_of s.associations x)) s (ok (suspended s n migrates x))
+      (handed (works_in n x) _)))
+
+  ends : (n : ℕ) → IsSameFor other s (ended s n x)
+  ends n = held (without_one s.associations n x) (leave_one n (list_any (owns n x) s.associations))
+
+  fails_so : (n : ℕ) → Spares other s (failed s n x)
+  fails_so n = same_for other s (failed s n x).after (marks XA_RBROLLBACK) refl (ends n).associated refl refl refl refl
+
+  leave_spares : (n : ℕ) (fails : Bool) → Spares other s (leave_by s n fails x)
+  leave_spares n fails =
+      unless_spares other (end_refusal (known_as s x) (can_end s.associations n x)) s _
+      (marked_spares other (mark_in (known_as s x)) s (ended s n x) (cond fails (failed s n x) (ok (ended s n x))) (ends n)
+      (cond_spares other fails s (failed s n x) (ok (ended s n x)) (fails_so n) (ends n)))
+
+  end_spares : (n flags : ℕ) → Spares other s (end_by s n flags x)
+  end_spares n flags =
+      cond_spares other (has flags TMSUSPEND) s (suspend_by s n (has flags TMMIGRATE) x) (leave_by s n (has flags TMFAIL) x)
+      (suspend_spares n (has flags TMMIGRATE)) (leave_spares n (has flags TMFAIL))
+
+  -- gets and puts
+
+  does : (op : Operation) → known_of (did x op s.branches) other ≡ known_of s.branches other
+  does op = changed (having_done op) (λ b. refl)
+
+  get_spares : (key : List ℕ) (b : Branch) → Spares other s (get_by s key (Some (x, b)))
+  get_spares key b =
+      let v = source key b.timestamp s.branches in
+      marked_spares other (mark_of b.phase) s s (get_from s key x b v) (itself other s)
+      (unless_spares other (busy_refusal b.timestamp v) s (got s key x b v)
+      (same_for other s (got s key x b v).after (does (Got key v.value v.timestamp)) refl refl refl refl refl refl))
+
+  put_spares : (key : List ℕ) (value : Option (List ℕ)) (b : Branch) → Spares other s (put_by s key value (Some (x, b)))
+  put_spares key value b =
+      marked_spares other (mark_of b.phase) s s (put_from s key value x b) (itself other s)
+      (unless_spares other (limit_refusal (is_full key b.operations)) s
+      (if_late (is_late key b.timestamp s.reads) (came_late s x) (written s key value x))
+      (if_late_spares other (is_late key b.timestamp s.reads) s (came_late s x) (written s key value x)
+      (same_for other s (came_late s x).after (marks XA_RBTRANSIENT) refl refl refl refl refl refl)
+      (same_for other s (written s key value x).after (does (Wrote key value)) refl refl refl refl refl refl)))
+
+-- A session's own branch is associated and at work, so that no record is appended of it.
+
+unless_none : (o : Option Reply) (s : State) (t : Turn) → record_in t ≡ None → record_in (unless_now o s t) ≡ None
+unless_none None s t e = e
+unless_none (Some reply) s t e = refl
+
+refused_none : (o : Option Reply) (s : State) (t : Turn) → is_some o ≡ true → record_in (unless_now o s t) ≡ None
+refused_none None s t e = absurd (cc e)
+refused_none (Some reply) s t e = refl
+
+module _ (s : State) (x : Triple) (mark : Option ℤ) (known : known_as s x ≡ AtWork mark) (held : is_associated s x ≡ true) where
+  unprepared : is_some (unprepared_refusal (known_as s x) (is_associated s x)) ≡ true
+  unprepared =
+      subst (λ (k : Known). is_some (unprepared_refusal k (is_associated s x)) ≡ true) (sym known)
+      (subst (λ (c : Bool). is_some (unprepared_refusal (AtWork mark) c) ≡ true) (sym held) refl)
+
+  not_rolled_back : is_some (rollback_refusal (known_as s x) (is_associated s x)) ≡ true
+  not_rolled_back =
+      subst (λ (k : Known). is_some (rollback_refusal k (is_associated s x)) ≡ true) (sym known)
+      (subst (λ (c : Bool). is_some (rollback_refusal (AtWork mark) c) ≡ true) (sym held) refl)
+
+  in_one_phase : (c : Bool) → record_in (cond c (commit_one_phase_turn s x) (commit_two_phase_turn s x)) ≡ None
+  in_one_phase true = refused_none (unprepared_refusal (known_as s x) (is_associated s x)) s _ unprepared
+  in_one_phase false =
+      refused_none (two_phase_refusal (known_as s x)) s _
+      (subst (λ (k : Known). is_some (two_phase_refusal k) ≡ true) (sym known) refl)
+
+  row_none : (n : ℕ) (request : Request) → xid_of request ≡ Some x → record_in (row s n request) ≡ None
+  row_none n (Prepare flags y) e =
+      let same : y ≡ x = cc e in
+      subst (λ (z : Triple). record_in (prepare_turn s z) ≡ None) (sym same)
+      (refused_none (unprepared_refusal (known_as s x) (is_associated s x)) s _ unprepared)
+  row_none n (Commit flags y) e =
+      let same : y ≡ x = cc e in
+      subst (λ (z : Triple). record_in (row s n (Commit flags z)) ≡ None) (sym same) (in_one_phase (has flags TMONEPHASE))
+  row_none n (Rollback flags y) e =
+      let same : y ≡ x = cc e in
+      subst (λ (z : Triple). record_in (rollback_turn s z) ≡ None) (sym same)
+      (refused_none (rollback_refusal (known_as s x) (is_associated s x)) s _ not_rolled_back)
+  row_none n (Forget flags y) e =
+      let same : y ≡ x = cc e in
+      subst (λ (z : Triple). record_in (row s n (Forget flags z)) ≡ None) (sym same)
+      (refused_none (forget_refusal (known_as s x)) s _
+      (subst (λ (k : Known). is_some (forget_refusal k) ≡ true) (sym known) refl))
+  row_none n (Decide way y) e =
+      let same : y ≡ x = cc e in
+      subst (λ (z : Triple). record_in (row s n (Decide way z)) ≡ None) (sym same)
+      (refused_none (decide_refusal (known_as s x)) s _
+      (subst (λ (k : Known). is_some (decide_refusal k) ≡ true) (sym known) refl))
+  row_none n request e = absurd (cc e)
+
+known_working : (p : Phase) → is_working p ≡ true → (mark : Option ℤ) × (known_by p ≡ AtWork mark)
+known_working (Working x work) is = (work.mark, refl)
+known_working (Prepared x) is = absurd (cc is)
+known_working Committed is = absurd (cc is)
+
+-- so it isn't one of the group's
+own_apart : (s : State) (n : ℕ) (x : Triple) (b : Branch) (q : Part) (c : Bool) → xid_eq x q.xid ≡ c → IsSound s
+    → s.standing ≡ Up → AppendsOf s q → own_branch s n ≡ Some (x, b) → xid_eq x q.xid ≡ false
+own_apart s n x b q false e h up a is = e
+own_apart s n x b q true e h up a is =
+    let o = own s n x b is in
+    let (mark, works) = known_working b.phase (own_works s n x b h o) in
+    let known : known_as s x ≡ AtWork mark = ap (λ (f : Option Branch). known_among f (decided_of s.decided x)) o.found ∙ works in
+    let some : 1 ≤ holders_of s.associations x = counted (λ a. is_active n a.holder) x s.associations o.active in
+    let held : is_associated s x ≡ true = lt-ltb 0 (holders_of s.associations x) (omega arith) in
+    let named : xid_of q.request ≡ Some x = a.of_xid ∙ ap Some (sym (xid_same x q.xid e)) in
+    let none : record_in (respond s (event.Call q.session q.request)) ≡ None
+    = unless_none (early_refusal (context_of s q.session) q.request) s (row s q.session q.request)
+    (row_none s x mark known held q.session q.request named) in
+    let here : respond s (event.Call q.session q.request) ≡ Appends q.appended a.after
+    = sym (turns_up s (event.Call q.session q.request) up) ∙ a.appends in
+    absurd (cc (none, ap record_in here))
+
+-- all work
+
+apart_each : (request : Request) (q : Part) (qs : List Part) → WorksApart request (q ∷ qs)
+    → WorksApart request (q ∷ []) × WorksApart request qs
+apart_each (Start flags xid) q qs h = ((h.0, tt), h.1)
+apart_each (End flags xid) q qs h = ((h.0, tt), h.1)
+apart_each request q qs h = (tt, tt)
+
+abbrev SparesNow : Triple → State → Turn → Type 0
+SparesNow other s t = OfTurn (Spares other s) (λ r after. ⊥) t
+
+module _ (s : State) (n : ℕ) (q : Part) (h : IsSound s) (up : s.standing ≡ Up) (appends : AppendsOf s q) where
+  get_by_own : (key : List ℕ) (o : Option (Triple × Branch)) → own_branch s n ≡ o → Spares q.xid s (get_by s key o)
+  get_by_own key None e = itself q.xid s
+  get_by_own key (Some (x, b)) e = get_spares s x q.xid (own_apart s n x b q (xid_eq x q.xid) refl h up appends e) key b
+
+  put_by_own : (key : List ℕ) (value : Option (List ℕ)) (o : Option (Triple × Branch)) → own_branch s n ≡ o
+      → Spares q.xid s (put_by s key value o)
+  put_by_own key value None e = itself q.xid s
+  put_by_own key value (Some (x, b)) e =
+      put_spares s x q.xid (own_apart s n x b q (xid_eq x q.xid) refl h up appends e) key value b
+
+  row_spares : (request : Request) → is_work request ≡ true → WorksApart request (q ∷ []) → SparesNow q.xid s (row s n request)
+  row_spares (Start flags xid) is apart = start_spares s xid q.xid apart.0 n flags
+  row_spares (End flags xid) is apart = end_spares s xid q.xid apart.0 n flags
+  row_spares (Get key) is apart = get_by_own key (own_branch s n) refl
+  row_spares (Put key value) is apart = put_by_own key (Some value) (own_branch s n) refl
+  row_spares (Delete key) is apart = put_by_own key None (own_branch s n) refl
+  row_spares request is apart = absurd (cc is)
+
+  work_spares : (request : Request) (a : Answer) → is_work request ≡ true → WorksApart request (q ∷ [])
+      → respond s (event.Call n request) ≡ Now a → IsSameFor q.xid s a.after
+  work_spares request a is apart now =
+      subst (SparesNow q.xid s) now
+      (unless_turn (Spares q.xid s) (λ r after. ⊥) (early_refusal (context_of s n) request) s (row s n request)
+      (λ reply. itself q.xid s) (row_spares request is apart))
+
+pub work_leaves_group : WorkLeavesGroup
+work_leaves_group s n request a p ps h up is apart now m =
+    let call = event.Call n request in
+    let here : respond s call ≡ Now a = sym (turns_up s call up) ∙ now in
+    let bytes : AsksRoom s (Now a) = subst (AsksRoom s) here (events_ask_room s call (begins_none request is)) in
+    let logs : LogsWhatLasts s (Now a) = subst (LogsWhatLasts s) here (events_log_what_lasts s call h (begins_none request is)) in
+    let same = all_same here (p ∷ ps) apart m.appends in (
+      record {
+        appends = appends_still s a.after bytes logs [] (p ∷ ps) up same m.appends m.room;
+        apart = m.apart;
+        room = rooms_still s a.after bytes logs [] (p ∷ ps) m.room;
+      },
+      same,
+    )
+  where
+    all_same : respond s (event.Call n request) ≡ Now a → (qs : List Part) → WorksApart request qs
+        → AllByRecursion (AppendsOf s) qs → AllByRecursion (λ (q : Part). IsSameFor q.xid s a.after) qs
+    all_same here [] others appends = tt
+    all_same here (q ∷ qs) others appends =
+        let both = apart_each request q qs others in
+        (work_spares s n q h up appends.0 request a is both.0 here, all_same here qs both.1 appends.1)
