@@ -1,5 +1,5 @@
 -- What an append of a group leaves, by the log's own answer.
-use Rattle.std.proofs.Common.{◌≡◌, ◌⊎◌, inl, inr, ◌≤◌, ◌<◌, ◌+◌, ℕ, List, [], ◌∷◌, length, subst, arith}
+use Rattle.std.proofs.Common.{◌≡◌, ◌≢◌, ◌≤◌, ◌<◌, ◌+◌, ℕ, List, [], ◌∷◌, length, subst, arith}
 use Rattle.xa_disk.specs.Time.{LeavesOnly}
 use Rattle.xa_disk.specs.declared.disk.Disk.{Ghosts}
 use Rattle.xa_log.specs.Ahead.{AppendsBy}
@@ -35,8 +35,5 @@ pub alone : (body : List ℕ) → as_one (body ∷ []) ≡ length body
 alone body = omega arith
 
 -- one that has its room was not answered that it has none
-pub refused_with_room : (r : Appended) (most end around size : ℕ) → (r ≡ appended.Refused) ⊎ (r ≡ appended.Full)
-    → (r ≡ appended.Full → most < end + around + size) → end + around + size ≤ most → r ≡ appended.Refused
-refused_with_room r most end around size (inl is) full room = is
-refused_with_room r most end around size (inr is) full room =
-    let none : most < end + around + size = full is in absurd (omega (arith, none))
+pub never_full : (r : Appended) (most end around size : ℕ) → (r ≡ appended.Full → most < end + around + size) → end + around + size ≤ most → r ≢ appended.Full
+never_full r most end around size full room is = let none : most < end + around + size = full is in absurd (omega (arith, none))

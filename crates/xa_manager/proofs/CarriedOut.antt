@@ -16,6 +16,7 @@ use Rattle.xa_manager.specs.declared.tables.Tables.{Tables}
 use Rattle.xa_manager.specs.declared.together.Asked.{Asked}
 use Rattle.xa_manager.specs.declared.together.Together.{Together}
 use Rattle.xa_manager.specs.Acts.{AreDistinct, GiveRoomsBack}
+use Rattle.xa_manager.specs.Flight.{LandsFrom}
 use Rattle.xa_manager.specs.GroupAnswers.{AreTogether, TakeAnswers, TakesGroup, group_after}
 use Rattle.xa_manager.specs.Managed.{view, ManagerStandsFor}
 use Rattle.xa_manager.specs.Stands.{StandsWithRooms, TablesStandFor}
@@ -27,21 +28,39 @@ use Rattle.xa_manager.proofs.GroupStepping.{crash_together, group_fits, leads_to
 use Rattle.xa_manager.proofs.Reserved.{appended_same}
 use Rattle.xa_manager.proofs.Taking.{tables_up}
 
--- of what is kept or refused it is known
-pub told_of : (a : Appending) → (a ≡ Kept) ⊎ (a ≡ Refused) → a ≡ Lost → ⊥
-told_of a (inl e) lost = cc (e, lost)
-told_of a (inr e) lost = cc (e, lost)
-
 module _ {D : Type 0} (disks : Ghosts D) where
   -- what was carried out, of one state that the manager stood for
-  record OfState (m m' : Manager D) (calls : List Asked) (t : Together) (a : Appending) (s : State) : Type 0 where
-    at : AreTogether s (members_of calls t.members.items)
-    appended : HasAppended disks (map spelled (records_of (parts_of s (members_of calls t.members.items)))) a m.log m'.log
-    tables : IsRecoverable (group_after a s (parts_of s (members_of calls t.members.items)))
+  pub record OfState (m m' : Manager D) (calls : List Asked) (t : Together) (a : Appending) (s : State) : Type 0 where
+    pub at : AreTogether s (members_of calls t.members.items)
+    pub appended : HasAppended disks (map spelled (records_of (parts_of s (members_of calls t.members.items)))) a m.log m'.log
+    pub tables : IsRecoverable (group_after a s (parts_of s (members_of calls t.members.items)))
         → TablesStandFor (up_after a) (view m') (group_after a s (parts_of s (members_of calls t.members.items)))
 
+  -- what the calls were answered, of that state
+  pub lands : (m m' : Manager D) (calls : List Asked) (t : Together) (a : Appending) (s : State) (c : Member) (cs : List Member) → members_of calls t.members.items ≡ c ∷ cs
+      → ManagerStandsFor disks m s → m.up ≡ true → OfState m m' calls t a s → m'.up ≡ up_after a → m'.doubt ≡ doubt_after a m.log.end → LandsFrom disks m.log s c cs a m'
+  lands m m' calls t a s c cs is st is_up x up doubt =
+      let stood = tables_up disks m s is_up st in
+      let may = (subst (λ (l : List Member). AreTogether s l) is x.at).may in
+      let appended : HasAppended disks (map spelled (records_of (parts_of s (c ∷ cs)))) a m.log m'.log
+      = subst (λ (l : List Member). HasAppended disks (map spelled (records_of (parts_of s l))) a m.log m'.log) is x.appended in
+      record {
+        leads = (
+          group_after a s (parts_of s (c ∷ cs)),
+          leads_to a s (part_of s c) (parts_of s cs) stood.recoverable stood.up may,
+          stands_together disks m m' s (part_of s c) (parts_of s cs) a st is_up stood.up may appended up doubt
+              (subst (λ (l : List Member). IsRecoverable (group_after a s (parts_of s l)) → TablesStandFor (up_after a) (view m') (group_after a s (parts_of s l))) is x.tables),
+        );
+        called = (appended.other.0, appended.other.1, as_one (map spelled (records_of (parts_of s (c ∷ cs)))), appended.moves, appended.calls);
+        crash = λ trusts. (
+          group_after Lost s (parts_of s (c ∷ cs)),
+          leads_to Lost s (part_of s c) (parts_of s cs) stood.recoverable stood.up may,
+          crash_together disks m m' s (part_of s c) (parts_of s cs) a st stood.up trusts may appended,
+        );
+      }
+
   -- by the answer, the tables stand for what the group came to
-  tables_by : (t t' : Tables) (calls : List Asked) (g : Together) (s : State) (a : Appending) → AreTogether s (members_of calls g.members.items) → AreDistinct g.prepares.items → g.prepares.items ≡ prepares_of (members_of calls g.members.items)
+  pub tables_by : (t t' : Tables) (calls : List Asked) (g : Together) (s : State) (a : Appending) → AreTogether s (members_of calls g.members.items) → AreDistinct g.prepares.items → g.prepares.items ≡ prepares_of (members_of calls g.members.items)
       → (a ≢ Lost → TakeAnswers t g.members.items a t') → (a ≡ Lost → GiveRoomsBack t g.prepares.items t') → StandsWithRooms g.prepares.items (view_of t) s
       → IsRecoverable (group_after a s (parts_of s (members_of calls g.members.items)))
       → TablesStandFor (up_after a) (view_of t') (group_after a s (parts_of s (members_of calls g.members.items)))
@@ -80,29 +99,16 @@ module _ {D : Type 0} (disks : Ghosts D) where
 
     of_calls : (c : Member) (cs : List Member) → all ≡ c ∷ cs → TakesTogether disks m c cs a m'
     of_calls c cs is = record {
-      together = λ s st. (together s st).may;
-      leads = λ s st.
-          let up = tables_up disks m s is_up st in (
-            group_after a s (parts_of s (c ∷ cs)),
-            leads_to a s (part_of s c) (parts_of s cs) up.recoverable up.up (together s st).may,
-            stands_together disks m m' s (part_of s c) (parts_of s cs) a st is_up up.up (together s st).may (appended s st) (up' ∙ j.up (r.up ∙ is_up))
-                (doubt' ∙ j.doubt ∙ ap (λ (e : ℕ). doubt_after a e) r.log.fields.end)
-                (subst (λ (l : List Member). IsRecoverable (group_after a s (parts_of s l)) → TablesStandFor (up_after a) (view m') (group_after a s (parts_of s l))) is (of_state c cs is s st).tables),
-          );
-      called = λ s st. let x = appended s st in (x.other.0, x.other.1, as_one (map spelled (records_of (parts_of s (c ∷ cs)))), x.moves, x.calls);
-      crash = λ s st trusts.
-          let up = tables_up disks m s is_up st in (
-            group_after Lost s (parts_of s (c ∷ cs)),
-            leads_to Lost s (part_of s c) (parts_of s cs) up.recoverable up.up (together s st).may,
-            crash_together disks m m' s (part_of s c) (parts_of s cs) a st up.up trusts (together s st).may (appended s st),
-          );
+      together = λ s st. (subst (λ (l : List Member). AreTogether s l) is (of_state c cs is s st).at).may;
+      leads = λ s st. (landed s st).leads;
+      called = λ s st. (landed s st).called;
+      crash = λ s st trusts. (landed s st).crash trusts;
     }
       where
-        together : (s : State) → ManagerStandsFor disks m s → AreTogether s (c ∷ cs)
-        together s st = subst (λ (l : List Member). AreTogether s l) is (of_state c cs is s st).at
-
-        appended : (s : State) → ManagerStandsFor disks m s → HasAppended disks (map spelled (records_of (parts_of s (c ∷ cs)))) a m.log m'.log
-        appended s st = subst (λ (l : List Member). HasAppended disks (map spelled (records_of (parts_of s l))) a m.log m'.log) is (of_state c cs is s st).appended
+        landed : (s : State) → ManagerStandsFor disks m s → LandsFrom disks m.log s c cs a m'
+        landed s st =
+            lands m m' calls t a s c cs is st is_up (of_state c cs is s st) (up' ∙ j.up (r.up ∙ is_up))
+            (doubt' ∙ j.doubt ∙ ap (λ (e : ℕ). doubt_after a e) r.log.fields.end)
 
     by : (cs : List Member) → all ≡ cs → TakesGroup disks m cs a m'
     by [] is =

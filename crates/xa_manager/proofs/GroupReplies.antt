@@ -26,7 +26,7 @@ use Rattle.xa_manager.proofs.GroupFacts.{as_many, each_row, reply_same}
 use Rattle.xa_manager.proofs.Grouping.{alone_up}
 use Rattle.xa_manager.proofs.Once.{AreNamedApart, are_once}
 
-replies_are : (calls : List Asked) (a : Appending) (js : List Joining) → AllByRecursion (λ (j : Joining). j.at < length calls) js
+pub replies_are : (calls : List Asked) (a : Appending) (js : List Joining) → AllByRecursion (λ (j : Joining). j.at < length calls) js
     → AllByRecursion (λ (c : Member). asked_row c.request ≡ Some (c.row, c.xid)) (members_of calls js) → AreReplies calls a (members_of calls js) (map (told a) js)
 replies_are calls a [] places rows = tt
 replies_are calls a (j ∷ js) places rows = (
@@ -48,13 +48,16 @@ same_xids : (calls : List Asked) (js : List Joining) → map (λ (c : Member). c
 same_xids calls [] = refl
 same_xids calls (j ∷ js) = ap (λ (l : List Triple). j.xid ∷ l) (same_xids calls js)
 
+pub once_of : (calls : List Asked) (js : List Joining) (a : Appending) → AllByRecursion (λ (j : Joining). j.at < length calls) js
+    → AllByRecursion (λ (c : Member). asked_row c.request ≡ Some (c.row, c.xid)) (members_of calls js) → AreDistinct (map (λ (j : Joining). j.xid) js) → AreOnce (map (told a) js)
+once_of calls js a places rows distinct =
+    are_once xid_of calls a (members_of calls js) (map (told a) js) (replies_are calls a js places rows) (xids_of (members_of calls js) rows)
+    (subst AreNamedApart (sym (same_xids calls js)) (named_apart (map (λ (j : Joining). j.xid) js) distinct))
+
 module _ {D : Type 0} (disks : Ghosts D) where
   pub replied_once : (m : Manager D) (calls : List Asked) (t : Together) (a : Appending) (replies : List (ℕ × Reply)) → IsGroup disks m calls t → replies ≡ map (told a) t.members.items → AreOnce replies
   replied_once m calls t a replies g is =
-      let js = t.members.items in
-      let rows = each_row disks m (members_of calls js) (bodies_of t.bodies.items) g.appends in
-      subst AreOnce (sym is) (are_once xid_of calls a (members_of calls js) (map (told a) js) (replies_are calls a js g.places rows) (xids_of (members_of calls js) rows)
-      (subst AreNamedApart (sym (same_xids calls js)) (named_apart (map (λ (j : Joining). j.xid) js) g.distinct)))
+      subst AreOnce (sym is) (once_of calls t.members.items a g.places (each_row disks m (members_of calls t.members.items) (bodies_of t.bodies.items) g.appends) g.distinct)
 
   -- the manager stays so afterwards
   taken_still : (m m' m'' : Manager D) (cs : List Member) (a : Appending) → StaysFor disks m' m'' → m''.log ≡ m'.log → TakesGroup disks m cs a m' → TakesGroup disks m cs a m''

@@ -68,3 +68,5 @@ pub mod GroupReplies
 pub mod Trims
 pub mod Driving
 pub mod Promised
+pub mod Landed
+pub mod BesideWork

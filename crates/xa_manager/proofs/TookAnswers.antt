@@ -55,7 +55,7 @@ with_no_rooms m s st = record {
 }
 
 -- the record of a row is the same where its branch is
-record_same : (row : Row) (xid : Triple) (s w : State) → IsSameFor xid s w → record_of row xid w ≡ record_of row xid s
+pub record_same : (row : Row) (xid : Triple) (s w : State) → IsSameFor xid s w → record_of row xid w ≡ record_of row xid s
 record_same (Writes writing) xid s w same = ap (λ (o : Option Branch). written_record writing xid (timestamp_by o) (writes_by o)) same.known
 record_same CommitTwoPhase xid s w same = refl
 record_same Rollback xid s w same = refl

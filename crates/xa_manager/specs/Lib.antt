@@ -28,3 +28,4 @@ pub mod Plans
 pub mod Together
 pub mod GroupAnswers
 pub mod Once
+pub mod Flight

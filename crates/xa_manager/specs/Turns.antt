@@ -12,7 +12,9 @@ use Rattle.xa_log.specs.Ahead.{AppendsBy}
 use Rattle.xa_log.specs.Group.{as_one}
 use Rattle.xa_log.specs.Stands.{Stands, Leaves, Moves}
 use Rattle.xa_log.specs.TwoFiles.{Pair, AppendsTo}
+use Rattle.xa_log.specs.Written.{HasWritten}
 use Rattle.xa_log.specs.declared.log.Log.{Log}
+use Rattle.xa_log.specs.declared.written.Written.{Written}
 use Rattle.xa_limits.specs.declared.TheConstants.{AROUND_CLOSED}
 use Rattle.xa_model.specs.declared.outcome.Outcome.{Outcome}
 use Rattle.xa_model.specs.declared.outcome.Outcome.TheVariants.{Quiet, Appended}
@@ -66,6 +68,15 @@ pub record HasJournaled {D : Type 0} (disks : Ghosts D) (group : List (List ℕ)
     (m m' : Manager D) : Type 0 where
   pub appended : m.log.lost ≡ false → m.log.end + AROUND_CLOSED + as_one group ≤ m.log.log_bytes
       → HasAppended disks group a m.log m'.log
+  pub up : m.up ≡ true → m'.up ≡ up_after a
+  pub doubt : m'.doubt ≡ doubt_after a m.log.end
+  pub tables : m'.tables ≡ m.tables
+  pub outcome : m'.outcome ≡ m.outcome
+
+-- A group that was written was settled: so much was appended to the log that it was written to.
+pub record HasSettled {D : Type 0} (disks : Ghosts D) (w : Written) (a : Appending) (m m' : Manager D) : Type 0 where
+  pub appended : (log : Log D) (group : List (List ℕ)) → HasWritten disks group w log m.log
+      → HasAppended disks group a log m'.log
   pub up : m.up ≡ true → m'.up ≡ up_after a
   pub doubt : m'.doubt ≡ doubt_after a m.log.end
   pub tables : m'.tables ≡ m.tables

@@ -7,6 +7,9 @@ ghost use Rattle.xa_model.specs.Events.{IsAsked};
 ghost use Rattle.xa_manager.specs.Answered.{StaysFor};
 ghost use Rattle.xa_manager.specs.Connected.{connected_to};
 ghost use Rattle.xa_manager.specs.Plans.{bytes_of};
+ghost use Rattle.xa_log.specs.Buffer.{Holds};
+ghost use Rattle.xa_log.specs.Group.{as_one};
+ghost use Rattle.xa_log.specs.Reading.{bodies_of};
 ghost use Rattle.xa_manager.specs.Reserving.{HasReserved};
 ghost use Rattle.xa_manager.specs.Together.{AppendsAlone, AreReady, asks_prepare, HasJoined, IsGroup, MayJoin};
 ghost use Rattle.xa_manager.specs.Together.{StandsLast};
@@ -33,7 +36,7 @@ impl Asked {
 
 impl Together {
     /// Whether the XID is none of its calls'.
-    fn is_apart(&self, xid: &Xid) -> bool
+    pub(crate) fn is_apart(&self, xid: &Xid) -> bool
         ensures { result ≡ list_all (λ j. not (xid_eq j.xid xid.now)) self.now.members.items }
     {
         self.members.iter().all(|member| member.xid != *xid)
@@ -129,6 +132,17 @@ impl<D: Disk> Manager<D> {
             }
         }
         Ok(())
+    }
+
+    /// Makes room for the group's records in the log's buffer. Whether there was memory for it, and they may be so long.
+    pub(crate) fn has_reserved(&mut self, together: &Together) -> bool
+        requires some { 1 ≤ length together.now.bodies.items }
+        ensures holds { result ≡ true → Holds self.new.log (as_one (bodies_of together.now.bodies.items)) }
+        ensures stays { StaysFor D.Disk self.old self.new }
+        ensures log { HasReserved D.Disk self.old.log self.new.log }
+        ensures same { self.new ≡ record self.old { log = self.new.log } }
+    {
+        self.log.reserve_group(Group::Many(&together.bodies)) == Ok(true)
     }
 
     /// Takes all memory that the group still wants: for what is kept of the branches that are prepared, and room for

@@ -1,4 +1,4 @@
-ghost use Rattle.std.specs.Prelude.{◌≡◌, ◌≤◌, ◌+◌, length, true};
+ghost use Rattle.std.specs.Prelude.{◌≡◌, ◌≢◌, ◌≤◌, ◌+◌, length, true};
 ghost use Rattle.xa_limits.specs.declared.TheConstants.{AROUND_BODY, MOST_BODY};
 ghost use Rattle.xa_log.specs.Buffer.{Holds};
 ghost use Rattle.std.specs.List.{AllByRecursion};
@@ -7,14 +7,16 @@ ghost use Rattle.xa_log.specs.Group.{as_one, bodies_in};
 ghost use Rattle.xa_model.specs.State.{State};
 ghost use Rattle.xa_model.specs.Logging.{log_room, prepared_count};
 ghost use Rattle.xa_manager.specs.Managed.{ManagerStandsFor};
-ghost use Rattle.xa_manager.specs.Turns.{HasJournaled};
+ghost use Rattle.xa_log.specs.Written.{IsRange};
+ghost use Rattle.xa_manager.specs.Answered.{as_appended};
+ghost use Rattle.xa_manager.specs.Turns.{HasJournaled, HasSettled, doubt_after, up_after};
 
 use crate::doubt::Doubt;
 use crate::log_space::leaves_room;
 use crate::manager::Manager;
-use xa_disk::Disk;
+use xa_disk::{Disk, SyncAnswer};
 use xa_limits::{AROUND_BODY, MOST_BODY};
-use xa_log::{Appended, Format, Group};
+use xa_log::{Appended, Format, Group, Written};
 use xa_model::Appending;
 
 /// How records come into the log.
@@ -49,21 +51,41 @@ impl<D: Disk> Manager<D> {
         ensures { HasJournaled D.Disk (bodies_in group.entry) result self.old self.new }
     {
         let end = self.log.end();
-        match self.log.append_group(group) {
-            Appended::Kept => {
-                self.doubt = None;
-                Appending::Kept
-            }
-            // records that don't fit aren't asked for: `has_room`, and the room that is kept for small ones
-            Appended::Refused | Appended::Full => {
-                self.doubt = None;
-                Appending::Refused
-            }
-            Appended::Lost => {
-                self.up = false;
-                self.doubt = Some(Doubt::Record(end));
-                Appending::Lost
-            }
+        let appended = self.log.append_group(group);
+        became(&mut self.up, &mut self.doubt, appended, end)
+    }
+
+    /// Settles a group that was written, by the sync's answer, as `append`.
+    pub(crate) fn settle(&mut self, written: Written, answer: SyncAnswer) -> Appending
+        requires { IsRange written self.old.log }
+        ensures { HasSettled D.Disk written result self.old self.new }
+    {
+        let from = self.log.end();
+        let appended = self.log.settle(written, answer);
+        became(&mut self.up, &mut self.doubt, appended, from)
+    }
+}
+
+// What the log's answer to records makes of whether a manager is up, and of its doubt, where they begin here.
+fn became(up: &mut bool, doubt: &mut Option<Doubt>, appended: Appended, end: u64) -> Appending
+    ensures answer { appended ≢ Appended.Full → appended ≡ as_appended result }
+    ensures up { up.old ≡ true → up.new ≡ up_after result }
+    ensures doubt { doubt.new ≡ doubt_after result end }
+{
+    match appended {
+        Appended::Kept => {
+            *doubt = None;
+            Appending::Kept
+        }
+        // records that don't fit aren't asked for: `has_room`, and the room that is kept for small ones
+        Appended::Refused | Appended::Full => {
+            *doubt = None;
+            Appending::Refused
+        }
+        Appended::Lost => {
+            *up = false;
+            *doubt = Some(Doubt::Record(end));
+            Appending::Lost
         }
     }
 }

@@ -13,6 +13,8 @@
 //!   that the log keeps free; `doubt`: `Doubt`, what is kept of a record that was lost; `done`, what a call comes to
 //! - calls that are asked together, and share one append: `together`, `Asked`, and how a group is answered; `gathering`,
 //!   which calls form one; `prepares`, the rooms of its prepares; `answers`, what becomes of its branches
+//! - a group whose sync is made apart: `flight`, `Flight`, whose records are written; `beside`, what sessions are answered
+//!   meanwhile (`working`, the rows of their work); `landing`, how its calls are answered
 //! - a boot: `settings`, `Settings`; `opening`, `restarting` or `trimming`, how it begins; `boots`, what is made
 //!   ready for it, and `rebuilding` its tables, of writes that are let go many together (`spent`); `first_records`, how an
 //!   opening logs it; `fault`: `ManagerFault`, why there is no manager, and `refused`: `RefusedOpening`, with the disks
@@ -25,6 +27,7 @@
 mod acts;
 mod answered;
 mod answers;
+mod beside;
 mod boots;
 mod calls;
 mod checkpointed;
@@ -37,9 +40,11 @@ mod early;
 mod facts;
 mod fault;
 mod first_records;
+mod flight;
 mod gathering;
 mod journal;
 mod known_list;
+mod landing;
 mod laws;
 mod log_space;
 mod logging;
@@ -64,9 +69,11 @@ mod time_limits;
 mod together;
 mod trimming;
 mod work;
+mod working;
 
 pub use doubt::Doubt;
 pub use fault::ManagerFault;
+pub use flight::Flight;
 pub use laws::{
     begun_is_reached, crash_leaves, files_last, memory_is_trusted, one_promises, reached_promises,
     read_leaves, read_stands,

@@ -1,5 +1,5 @@
 //! Calls that are asked together: those that log, on XIDs of their own, share one write and one sync.
-ghost use Rattle.std.specs.Prelude.{◌≡◌, ◌≤◌, length, map, List, [], true, IfOk, OnErr, OnOk, vec_capacity};
+ghost use Rattle.std.specs.Prelude.{◌≡◌, ◌≢◌, ◌≤◌, length, map, List, [], true, IfOk, OnErr, OnOk, vec_capacity};
 ghost use Rattle.std.specs.List.{AllByRecursion};
 ghost use Rattle.xa_assoc.specs.Company.{company_of};
 ghost use Rattle.xa_log.specs.Buffer.{Holds};
@@ -7,9 +7,10 @@ ghost use Rattle.xa_log.specs.Chain.{IsBody};
 ghost use Rattle.xa_log.specs.Group.{as_one};
 ghost use Rattle.xa_log.specs.Reading.{bodies_of};
 ghost use Rattle.xa_model.specs.Events.{IsAsked};
+ghost use Rattle.xa_manager.specs.Acts.{GiveRoomsBack};
 ghost use Rattle.xa_manager.specs.Answered.{StaysFor};
 ghost use Rattle.xa_manager.specs.Connected.{connected_to};
-ghost use Rattle.xa_manager.specs.GroupAnswers.{AnswersTogether, TakesGroup, told};
+ghost use Rattle.xa_manager.specs.GroupAnswers.{AnswersTogether, TakeAnswers, TakesGroup, told};
 ghost use Rattle.xa_manager.specs.Once.{AreOnce};
 ghost use Rattle.xa_manager.specs.Reserving.{HasReserved};
 ghost use Rattle.xa_manager.specs.Together.{AreReady, IsGroup, members_of};
@@ -17,6 +18,7 @@ ghost use Rattle.xa_manager.specs.Together.{AreReady, IsGroup, members_of};
 use crate::done::Done;
 use crate::manager::Manager;
 use crate::row::Row;
+use crate::tables::Tables;
 use std::alloc::AllocError;
 use xa_disk::Disk;
 use xa_frame::{Reply, Request};
@@ -64,12 +66,7 @@ impl<D: Disk> Manager<D> {
         ensures company { connected_to self.new ≡ connected_to self.old }
     {
         let answer = self.append(Group::Many(&together.bodies));
-        match answer {
-            Appending::Lost => self.tables.give_rooms_back(&together.prepares),
-            Appending::Kept | Appending::Refused => {
-                self.tables.take_answers(&together.members, answer);
-            }
-        }
+        self.tables.take_together(together, answer);
         answer
     }
 
@@ -103,7 +100,7 @@ impl<D: Disk> Manager<D> {
     }
 
     // The calls that form a group. Nothing changes.
-    fn group_of(&self, calls: &[Asked]) -> Result<Together, AllocError>
+    pub(crate) fn group_of(&self, calls: &[Asked]) -> Result<Together, AllocError>
         requires asked { AllByRecursion (λ c. IsAsked c.request) calls.now }
         ensures { IfOk result (IsGroup D.Disk self.now calls.now) }
     {
@@ -120,8 +117,22 @@ impl<D: Disk> Manager<D> {
     }
 }
 
+impl Tables {
+    /// What the device's answer makes of a group's branches, whose prepares have their rooms.
+    pub(crate) fn take_together(&mut self, together: &Together, answer: Appending)
+        ensures took { answer ≢ Appending.Lost → TakeAnswers self.old together.now.members.items answer self.new }
+        ensures gave { answer ≡ Appending.Lost → GiveRoomsBack self.old together.now.prepares.items self.new }
+        ensures company { company_of self.new.sessions ≡ company_of self.old.sessions }
+    {
+        match answer {
+            Appending::Lost => self.give_rooms_back(&together.prepares),
+            Appending::Kept | Appending::Refused => self.take_answers(&together.members, answer),
+        }
+    }
+}
+
 // What each call of a group is replied, of whose records this became.
-fn tell(members: &[Joining], answer: Appending, replies: &mut Vec<(usize, Reply)>)
+pub(crate) fn tell(members: &[Joining], answer: Appending, replies: &mut Vec<(usize, Reply)>)
     requires none { replies.old.items ≡ [] }
     requires room { length members.now ≤ vec_capacity replies.old }
     ensures { replies.new.items ≡ map (told answer) members.now }

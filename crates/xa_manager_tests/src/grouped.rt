@@ -370,6 +370,12 @@ impl Grouped {
         player.together(self.calls, &told)
     }
 
+    /// Asks them with work on another branch between the write of their records and the sync.
+    pub fn ask_apart(&self, alloc: Global, player: Player, became: Appending) -> Option<Player> {
+        let told = self.told(alloc, became)?;
+        player.apart(self.calls, &told)
+    }
+
     /// Asks them where only so many of the first form a group, which is kept.
     pub fn ask_first(&self, alloc: Global, player: Player, count: usize) -> Option<Player> {
         let mut told = self.told(alloc, Kept)?;

@@ -27,9 +27,18 @@ fn keeps(alloc: Global, group: &Grouped) -> Option<Player> {
     group.finds(player, group.places.len())
 }
 
+fn keeps_apart(alloc: Global, group: &Grouped) -> Option<Player> {
+    let player = group.begun(alloc)?;
+    let player = group.ask_apart(alloc, player, Kept)?;
+    group.finds(player, group.places.len())
+}
+
 fn wrong_kept(alloc: Global, groups: &[Grouped]) -> Option<usize> {
     for (index, group) in groups.iter().enumerate() {
         if keeps(alloc, group).is_none() && keeps(alloc, group).is_none() {
+            return Some(index);
+        }
+        if keeps_apart(alloc, group).is_none() && keeps_apart(alloc, group).is_none() {
             return Some(index);
         }
     }

@@ -1,0 +1,61 @@
+ghost use Rattle.std.specs.Prelude.{◌≡◌, IfErr, IfOk, OnErr, true};
+ghost use Rattle.std.specs.List.{AllByRecursion};
+ghost use Rattle.xa_model.specs.Events.{IsAsked};
+ghost use Rattle.xa_model.specs.State.{State};
+ghost use Rattle.xa_manager.specs.Answered.{StaysFor};
+ghost use Rattle.xa_manager.specs.Connected.{connected_to};
+ghost use Rattle.xa_manager.specs.Flight.{Flies, IsFlightOf};
+ghost use Rattle.xa_manager.specs.Managed.{ManagerStandsFor};
+ghost use Rattle.xa_manager.specs.Reserving.{HasReserved};
+
+use crate::manager::Manager;
+use crate::together::{Asked, Together};
+use xa_disk::{Disk, Syncer};
+use xa_log::{Group, Written};
+
+/// Calls that are asked together, as a group on its way: their records are written, and the sync is to follow.
+#[derive(Debug, Drop)]
+pub struct Flight {
+    pub(crate) calls: Vec<Asked>,
+    pub(crate) together: Together,
+    pub(crate) written: Written,
+}
+
+impl<D: Disk> Manager<D> {
+    /// Writes the records of a group of calls, as `call_together`, and leaves the sync to whoever has the `syncer`. Until the
+    /// group has landed (`land`), the manager answers sessions' work on other branches (`work`), and nothing else.
+    ///
+    /// # Errors
+    /// Gives the calls back where none of them logs, or out of memory: then nothing changed.
+    pub fn take_off(&mut self, calls: Vec<Asked>) -> Result<Flight, Vec<Asked>>
+        requires asked { AllByRecursion (λ c. IsAsked c.request) calls.items }
+        ensures ok { IfOk result
+            (λ f. (s : State) → ManagerStandsFor D.Disk self.old s → Flies D.Disk self.new f s) }
+        ensures flight { IfOk result (λ f. IsFlightOf self.new f × (f.calls ≡ calls)) }
+        ensures err { OnErr result (StaysFor D.Disk self.old self.new) }
+        ensures back { IfErr result (λ given. given ≡ calls) }
+        ensures reserved { OnErr result (HasReserved D.Disk self.old.log self.new.log) }
+        ensures outcome { self.new.outcome ≡ self.old.outcome }
+        ensures company { connected_to self.new ≡ connected_to self.old }
+    {
+        let Ok(together) = self.group_of(&calls) else {
+            return Err(calls);
+        };
+        if together.members.is_empty() || !self.has_reserved(&together) {
+            return Err(calls);
+        }
+        match self.log.write_group(Group::Many(&together.bodies)) {
+            Some(written) => Ok(Flight {
+                calls,
+                together,
+                written,
+            }),
+            None => Err(calls),
+        }
+    }
+
+    /// What makes the sync of the group on its way.
+    pub fn syncer(&self) -> Syncer {
+        self.log.syncer()
+    }
+}
