@@ -16,7 +16,8 @@ pub struct Syncer {
     writes: u64,
 }
 
-/// What a sync by a `Syncer` was answered. Its disk takes it (`Disk::take_sync`).
+/// What a sync by a `Syncer` was answered. Its disk takes it (`Disk::take_sync`): the system may tell an error once, so one
+/// that isn't taken is lost.
 #[derive(Debug, Drop)]
 pub struct SyncAnswer {
     answer: Option<io::Result<()>>,

@@ -107,10 +107,3 @@ HasLanded disks m f [] m' = ⊥
 HasLanded {D} disks m f (r ∷ rs) m' =
     (first : Member) × (rest : List Member) × (a : Appending) × AreReplies f.calls.items a (first ∷ rest) (r ∷ rs)
     × ((log : Log D) (s : State) → FliesFrom disks log m f s → LandsFrom disks log s first rest a m')
-
--- While it is on its way, a crash leaves what stands for the state to which its calls lead where their records are lost.
-abbrev pub LeavesInFlight : {D : Type 0} → Ghosts D → Manager D → Flight → Type 0
-LeavesInFlight {D} disks m f =
-    (log : Log D) (s : State) → FliesFrom disks log m f s → Trusts disks
-    → (first : Member) × (rest : List Member) × (lost : State)
-    × Leads s (group_entries Lost (part_of s first) (parts_of s rest)) lost × LeavesAppend disks log m.log s lost
