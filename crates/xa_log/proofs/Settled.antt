@@ -1,5 +1,5 @@
 -- A group that was written is settled: what is said of its append, from the log before it on.
-use Rattle.std.proofs.Common.{◌≡◌, ◌≢◌, ◌⊎◌, inl, inr, ℕ, ◌+◌, ◌-◌, ◌≤◌, Bool, true, false, List, ◌++◌, length, refl, sym, ◌∙◌, ap, subst, arith}
+use Rattle.std.proofs.Common.{◌≡◌, ◌≢◌, ◌⊎◌, inl, inr, ℕ, ◌+◌, ◌-◌, ◌≤◌, true, false, List, length, refl, sym, ◌∙◌, subst, arith}
 use Rattle.std.specs.Prelude.{max}
 use Rattle.xa_disk.specs.declared.disk.Disk.{Ghosts}
 use Rattle.xa_disk.specs.Disk.{Torn}
@@ -7,8 +7,8 @@ use Rattle.xa_disk.specs.Time.{TimePasses}
 use Rattle.xa_log.specs.Ahead.{ready_for, IsKnown}
 use Rattle.xa_log.specs.Answers.{LeftWritten, PutAheadBecame}
 use Rattle.xa_log.specs.Buffer.{KeepsRoom}
-use Rattle.xa_log.specs.Calls.{AppendsAhead, WritesAhead}
-use Rattle.xa_log.specs.Group.{as_one, closed, closed_by, first_of_group}
+use Rattle.xa_log.specs.Calls.{AppendsAhead}
+use Rattle.xa_log.specs.Group.{as_one, first_of_group}
 use Rattle.xa_log.specs.Stands.{Answers, Moves, Renumbers, Stands}
 use Rattle.xa_log.specs.Written.{AppendsGroup, HasWritten, range_of, ready_range_of}
 use Rattle.xa_log.specs.declared.appending.Appended.{Appended}

@@ -1,6 +1,6 @@
 -- Which device calls a log makes. The counts of a disk say how many of each kind; they stay at their top.
 use Rattle.std.specs.Prelude.{◌≡◌, ◌⊎◌, ℕ, zero, suc, ◌+◌, ◌*◌, ◌≤◌, ◌<◌, Bool, true, false, ◌&&◌, nat_le, nat_lt}
-use Rattle.std.specs.Prelude.{if◌then◌else◌, List, length, take, drop, Option, None, Some, is_some, Result, MatchResult}
+use Rattle.std.specs.Prelude.{if◌then◌else◌, List, length, take, drop, Option, None, Some, is_some, Result, Ok, Err, MatchResult}
 use Rattle.xa_disk.specs.Counts.{plus, with_length, with_write, with_sync}
 use Rattle.xa_disk.specs.Disk.{CountsFault}
 use Rattle.xa_disk.specs.declared.counts.Counts.{Counts}
@@ -155,6 +155,15 @@ abbrev pub AppendsAhead : ℕ → Appended → ℕ → ℕ → Counts → Counts
 AppendsAhead more outcome failures failures' old new =
     (HasCause outcome failures failures' × AppendCalls outcome old new)
     ⊎ ((1 ≤ more) × HasCause outcome (plus failures 1) failures' × AppendCalls outcome (with_write old) new)
+
+-- How many calls failed from a group's write, which was answered so, to what became of it: where the write failed, none
+-- more, unless the repair failed too.
+abbrev pub SettlesBy : {T E : Type 0} → Result T E → Appended → ℕ → ℕ → Type 0
+SettlesBy (Ok _) outcome failures failures' = HasCause outcome failures failures'
+SettlesBy (Err _) Refused failures failures' = failures' ≡ failures
+SettlesBy (Err _) Lost failures failures' = HasCause Lost failures failures'
+SettlesBy (Err _) Kept failures failures' = ⊥
+SettlesBy (Err _) Full failures failures' = ⊥
 
 -- so many writes more
 abbrev pub with_writes : ℕ → Counts → Counts

@@ -7,7 +7,7 @@ ghost use Rattle.std.specs.List.{AllByRecursion};
 ghost use Rattle.xa_log.specs.Chain.{last};
 ghost use Rattle.xa_log.specs.Group.{bodies_in, closed, closed_by, group_bytes};
 ghost use Rattle.xa_log.specs.Answers.{PutBecame, Wrote, PutAheadBecame, FailedPut, FailedPutAhead, HasCause, LeftWritten};
-ghost use Rattle.xa_log.specs.Calls.{PutCalls, WritesAhead, AppendCalls, AppendsAhead};
+ghost use Rattle.xa_log.specs.Calls.{PutCalls, WritesAhead, AppendCalls, AppendsAhead, SettlesBy};
 
 use crate::group::Group;
 use crate::record::clear;
@@ -92,6 +92,7 @@ pub(crate) fn settle_at<D: Disk>(
         → WritesAhead more write (D.failures before) (D.failures disk.old) (D.counts before) (D.counts disk.old)
         → AppendsAhead more result (D.failures before) (D.failures disk.new) (D.counts before) (D.counts disk.new) }
     ensures not_full { result ≢ Appended.Full }
+    ensures fails { SettlesBy write result (D.failures disk.old) (D.failures disk.new) }
 {
     match synced_by(disk, write, answer) {
         Ok(()) => return Appended::Kept,

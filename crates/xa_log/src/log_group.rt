@@ -1,10 +1,11 @@
 //! Appending a group: several records by one write and one sync.
-ghost use Rattle.std.specs.Prelude.{◌≡◌, ◌⊎◌, ◌+◌, ◌≤◌, ◌<◌, ◌↔◌, List, ℕ, true, false, length};
+ghost use Rattle.std.specs.Prelude.{◌≡◌, ◌≢◌, ◌⊎◌, ◌+◌, ◌≤◌, ◌<◌, ◌↔◌, List, ℕ, true, false, length};
 ghost use Rattle.std.specs.Prelude.{IfNone, IfOk, IfSome, OnErr, OnOk, Ok};
 ghost use Rattle.std.specs.List.{AllByRecursion};
 ghost use Rattle.xa_disk.specs.Counts.{top};
 ghost use Rattle.xa_disk.specs.Time.{LeavesOnly};
 ghost use Rattle.xa_limits.specs.declared.TheConstants.{AROUND_CLOSED, MOST_BODY};
+ghost use Rattle.xa_log.specs.Calls.{SettlesBy};
 ghost use Rattle.xa_log.specs.Ahead.{AppendsBy, IsKnown, Writes};
 ghost use Rattle.xa_log.specs.Buffer.{Holds, KeepsRoom};
 ghost use Rattle.xa_log.specs.Chain.{IsBody};
@@ -136,8 +137,10 @@ impl<D: Disk> Log<D> {
     pub fn settle(&mut self, written: Written, answer: SyncAnswer) -> Appended
         requires { IsRange written self.old }
         // said of the log as it was before the group was written
-        ensures { (before : Log D) (group : List (List ℕ)) → HasWritten D.Disk group written before self.old
+        ensures group { (before : Log D) (group : List (List ℕ)) → HasWritten D.Disk group written before self.old
             → AppendsGroup D.Disk group result before self.new }
+        ensures not_full { result ≢ Appended.Full }
+        ensures fails { SettlesBy written.write result (D.failures self.old.disk) (D.failures self.new.disk) }
     {
         let Written {
             to,

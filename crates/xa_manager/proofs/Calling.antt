@@ -87,7 +87,7 @@ either_stays : (b : Bool) (k k' : View) (s : State) → Stays k k' → StaysDown
 either_stays true k k' s f d st = f s st
 either_stays false k k' s f d st = d s st
 
-wants : {T E : Type 0} (r : Result T E) (e : E) (b : Bool) → r ≡ Err e → (b ≡ false → IsOk r) → b ≡ true
+pub wants : {T E : Type 0} (r : Result T E) (e : E) (b : Bool) → r ≡ Err e → (b ≡ false → IsOk r) → b ≡ true
 wants r e true is h = refl
 wants (Ok x) e false is h = absurd (cc is)
 wants (Err x) e false is h = absurd (cc (h refl))

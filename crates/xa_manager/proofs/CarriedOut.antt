@@ -1,5 +1,5 @@
 -- A group whose append was carried out: what was answered, and what the manager stands for.
-use Rattle.std.proofs.Common.{◌≡◌, ◌≢◌, ◌⊎◌, inl, inr, ◌+◌, ◌≤◌, ℕ, true, false, List, [], ◌∷◌, map, length, refl, ap, sym, ◌∙◌, subst, arith}
+use Rattle.std.proofs.Common.{◌≡◌, ◌≢◌, ◌+◌, ◌≤◌, ℕ, true, false, List, [], ◌∷◌, map, length, refl, ap, sym, ◌∙◌, subst, arith}
 use Rattle.std.proofs.lemmas.List.{length-map}
 use Rattle.xa_disk.specs.declared.disk.Disk.{Ghosts}
 use Rattle.xa_record.specs.Spelling.{spelled}
@@ -16,7 +16,7 @@ use Rattle.xa_manager.specs.declared.tables.Tables.{Tables}
 use Rattle.xa_manager.specs.declared.together.Asked.{Asked}
 use Rattle.xa_manager.specs.declared.together.Together.{Together}
 use Rattle.xa_manager.specs.Acts.{AreDistinct, GiveRoomsBack}
-use Rattle.xa_manager.specs.Flight.{LandsFrom}
+use Rattle.xa_manager.specs.Pending.{FinishesFrom}
 use Rattle.xa_manager.specs.GroupAnswers.{AreTogether, TakeAnswers, TakesGroup, group_after}
 use Rattle.xa_manager.specs.Managed.{view, ManagerStandsFor}
 use Rattle.xa_manager.specs.Stands.{StandsWithRooms, TablesStandFor}
@@ -37,9 +37,9 @@ module _ {D : Type 0} (disks : Ghosts D) where
         → TablesStandFor (up_after a) (view m') (group_after a s (parts_of s (members_of calls t.members.items)))
 
   -- what the calls were answered, of that state
-  pub lands : (m m' : Manager D) (calls : List Asked) (t : Together) (a : Appending) (s : State) (c : Member) (cs : List Member) → members_of calls t.members.items ≡ c ∷ cs
-      → ManagerStandsFor disks m s → m.up ≡ true → OfState m m' calls t a s → m'.up ≡ up_after a → m'.doubt ≡ doubt_after a m.log.end → LandsFrom disks m.log s c cs a m'
-  lands m m' calls t a s c cs is st is_up x up doubt =
+  pub finishes : (m m' : Manager D) (calls : List Asked) (t : Together) (a : Appending) (s : State) (c : Member) (cs : List Member) → members_of calls t.members.items ≡ c ∷ cs
+      → ManagerStandsFor disks m s → m.up ≡ true → OfState m m' calls t a s → m'.up ≡ up_after a → m'.doubt ≡ doubt_after a m.log.end → FinishesFrom disks m.log s c cs a m'
+  finishes m m' calls t a s c cs is st is_up x up doubt =
       let stood = tables_up disks m s is_up st in
       let may = (subst (λ (l : List Member). AreTogether s l) is x.at).may in
       let appended : HasAppended disks (map spelled (records_of (parts_of s (c ∷ cs)))) a m.log m'.log
@@ -55,7 +55,7 @@ module _ {D : Type 0} (disks : Ghosts D) where
         crash = λ trusts. (
           group_after Lost s (parts_of s (c ∷ cs)),
           leads_to Lost s (part_of s c) (parts_of s cs) stood.recoverable stood.up may,
-          crash_together disks m m' s (part_of s c) (parts_of s cs) a st stood.up trusts may appended,
+          crash_together disks m m'.log s (part_of s c) (parts_of s cs) st stood.up trusts may appended.leaves,
         );
       }
 
@@ -100,14 +100,14 @@ module _ {D : Type 0} (disks : Ghosts D) where
     of_calls : (c : Member) (cs : List Member) → all ≡ c ∷ cs → TakesTogether disks m c cs a m'
     of_calls c cs is = record {
       together = λ s st. (subst (λ (l : List Member). AreTogether s l) is (of_state c cs is s st).at).may;
-      leads = λ s st. (landed s st).leads;
-      called = λ s st. (landed s st).called;
-      crash = λ s st trusts. (landed s st).crash trusts;
+      leads = λ s st. (finished s st).leads;
+      called = λ s st. (finished s st).called;
+      crash = λ s st trusts. (finished s st).crash trusts;
     }
       where
-        landed : (s : State) → ManagerStandsFor disks m s → LandsFrom disks m.log s c cs a m'
-        landed s st =
-            lands m m' calls t a s c cs is st is_up (of_state c cs is s st) (up' ∙ j.up (r.up ∙ is_up))
+        finished : (s : State) → ManagerStandsFor disks m s → FinishesFrom disks m.log s c cs a m'
+        finished s st =
+            finishes m m' calls t a s c cs is st is_up (of_state c cs is s st) (up' ∙ j.up (r.up ∙ is_up))
             (doubt' ∙ j.doubt ∙ ap (λ (e : ℕ). doubt_after a e) r.log.fields.end)
 
     by : (cs : List Member) → all ≡ cs → TakesGroup disks m cs a m'

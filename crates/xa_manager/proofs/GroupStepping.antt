@@ -3,10 +3,13 @@ use Rattle.std.proofs.Common.{◌≡◌, ◌+◌, ◌≤◌, arith, ℕ, Bool, t
 use Rattle.std.specs.List.{AllByRecursion}
 use Rattle.std.proofs.lemmas.Bool.Decides.{nat_tests}
 use Rattle.std.proofs.lemmas.List.{append-nil, append_assoc}
+use Rattle.xa_disk.specs.Time.{LeavesOnly}
 use Rattle.xa_disk.specs.declared.disk.Disk.{Ghosts}
 use Rattle.xa_record.specs.Spelling.{spelled}
 use Rattle.xa_record.specs.declared.record.Record.{Record}
 use Rattle.xa_log.specs.Group.{as_one, group_bytes}
+use Rattle.xa_log.specs.Stands.{Leaves, Stands}
+use Rattle.xa_log.specs.declared.log.Log.{Log}
 use Rattle.xa_model.specs.declared.outcome.Outcome.{Outcome}
 use Rattle.xa_model.specs.declared.outcome.Outcome.TheVariants.{Appended, Joined}
 use Rattle.xa_model.specs.declared.outcome.Appending.{Appending}
@@ -177,9 +180,10 @@ module _ {D : Type 0} (disks : Ghosts D) where
       }
 
   -- What a crash at any moment of it leaves stands for the state to which the calls lead where their records are lost.
-  pub crash_together : (m m' : Manager D) (s : State) (p : Part) (ps : List Part) (a : Appending) → ManagerStandsFor disks m s → s.standing ≡ Up → Trusts disks → MayStandTogether s (p ∷ ps)
-      → HasAppended disks (map spelled (records_of (p ∷ ps))) a m.log m'.log → LeavesAppend disks m.log m'.log s (group_after Lost s (p ∷ ps))
-  crash_together m m' s p ps a st up trusts may x =
+  pub crash_together : (m : Manager D) (log : Log D) (s : State) (p : Part) (ps : List Part) → ManagerStandsFor disks m s → s.standing ≡ Up → Trusts disks → MayStandTogether s (p ∷ ps)
+      → (disks.honest → (bodies : List (List ℕ)) → Stands disks bodies m.log → LeavesOnly disks m.log.disk log.disk (Leaves m.log.log_bytes m.log.format bodies (map spelled (records_of (p ∷ ps)))))
+      → LeavesAppend disks m.log log s (group_after Lost s (p ∷ ps))
+  crash_together m log s p ps st up trusts may leaves =
       let h : IsRecoverable s = recoverable_by m.up (view m) s st.tables in
       let rs = records_of (p ∷ ps) in
       let lost = group_after Lost s (p ∷ ps) in
@@ -188,6 +192,6 @@ module _ {D : Type 0} (disks : Ghosts D) where
         omega arith,
         λ current other left plain.
             append_files disks m.log plain.records lost rs plain.stood current other others plain.pair
-            ((x.leaves trusts.disk (map spelled plain.records) plain.pair.current).each current left.current_left)
+            ((leaves trusts.disk (map spelled plain.records) plain.pair.current).each current left.current_left)
             plain.plain left.other_left plain.calm sane.recovers (backs_together plain.records s p ps h up may plain.backs).2 refl,
       )

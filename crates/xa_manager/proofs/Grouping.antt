@@ -18,6 +18,7 @@ use Rattle.xa_model.specs.State.{State, count}
 use Rattle.xa_model.specs.Fold.{sizes}
 use Rattle.xa_model.specs.Logging.{log_room, prepared_count}
 use Rattle.xa_model.specs.Laws.Together.{Part, HaveRoom, has_room_after, is_preparing, records_of}
+use Rattle.xa_model.proofs.Inserts.{all_pass}
 use Rattle.xa_model.proofs.Tests.{all_passed}
 use Rattle.xa_manager.specs.declared.manager.Manager.{Manager}
 use Rattle.xa_manager.specs.declared.row.Row.{Row}
@@ -189,6 +190,13 @@ none_passed (j ∷ js) x h = (not_passed (xid_eq j.xid x) h.0, none_passed js x 
 -- an XID that is none of theirs
 pub are_apart : (js : List Joining) (x : Triple) (found : Bool) → found ≡ list_all (λ j. not (xid_eq j.xid x)) js → found ≡ true → AllByRecursion (λ j. xid_eq j.xid x ≡ false) js
 are_apart js x found is e = none_passed js x (all_passed (λ (j : Joining). not (xid_eq j.xid x)) js (sym is ∙ e))
+
+all_other : (js : List Joining) (x : Triple) → AllByRecursion (λ j. xid_eq j.xid x ≡ false) js → AllByRecursion (λ j. not (xid_eq j.xid x) ≡ true) js
+all_other [] x h = tt
+all_other (j ∷ js) x h = (ap (λ (b : Bool). not b) h.0, all_other js x h.1)
+
+pub found_apart : (js : List Joining) (x : Triple) (found : Bool) → found ≡ list_all (λ j. not (xid_eq j.xid x)) js → AllByRecursion (λ j. xid_eq j.xid x ≡ false) js → found ≡ true
+found_apart js x found is apart = is ∙ all_pass (λ (j : Joining). not (xid_eq j.xid x)) js (all_other js x apart)
 
 module _ {D : Type 0} (disks : Ghosts D) (m : Manager D) where
   alone_more : (cs : List Member) (bodies : List (List ℕ)) (c : Member) (body : List ℕ) → AppendAlone disks m cs bodies → AppendsAlone disks m c body → AppendAlone disks m (cs ++ c ∷ []) (bodies ++ body ∷ [])

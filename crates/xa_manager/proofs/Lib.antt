@@ -68,5 +68,6 @@ pub mod GroupReplies
 pub mod Trims
 pub mod Driving
 pub mod Promised
-pub mod Landed
+pub mod Finished
+pub mod PendingCrash
 pub mod BesideWork

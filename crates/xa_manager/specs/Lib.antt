@@ -28,4 +28,4 @@ pub mod Plans
 pub mod Together
 pub mod GroupAnswers
 pub mod Once
-pub mod Flight
+pub mod Pending

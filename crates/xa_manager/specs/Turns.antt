@@ -8,6 +8,7 @@ use Rattle.xa_frame.specs.declared.reply.Reply.{Reply}
 use Rattle.xa_frame.specs.declared.request.Request.{Request}
 use Rattle.xa_record.specs.Spelling.{spelled}
 use Rattle.xa_record.specs.declared.record.Record.{Record}
+use Rattle.xa_log.specs.Calls.{SettlesBy}
 use Rattle.xa_log.specs.Ahead.{AppendsBy}
 use Rattle.xa_log.specs.Group.{as_one}
 use Rattle.xa_log.specs.Stands.{Stands, Leaves, Moves}
@@ -77,6 +78,7 @@ pub record HasJournaled {D : Type 0} (disks : Ghosts D) (group : List (List ℕ)
 pub record HasSettled {D : Type 0} (disks : Ghosts D) (w : Written) (a : Appending) (m m' : Manager D) : Type 0 where
   pub appended : (log : Log D) (group : List (List ℕ)) → HasWritten disks group w log m.log
       → HasAppended disks group a log m'.log
+  pub fails : SettlesBy w.write (as_appended a) (disks.failures m.log.disk) (disks.failures m'.log.disk)
   pub up : m.up ≡ true → m'.up ≡ up_after a
   pub doubt : m'.doubt ≡ doubt_after a m.log.end
   pub tables : m'.tables ≡ m.tables

@@ -1,6 +1,7 @@
 //! What can be said of a manager's two files, and of managers on disks in memory.
 ghost use Rattle.xa_manager.specs.CrashLaws.{ReadLeaves, ReadStands, CrashLeaves, FilesLast, FilesLastAsFated};
 ghost use Rattle.xa_manager.specs.LogStands.{Trusts};
+ghost use Rattle.xa_manager.specs.Pending.{PendingLeaves};
 ghost use Rattle.xa_manager.specs.Promises.{ReachedPromises, OnePromises, BegunIsReached};
 
 use xa_disk::{Disk, MemDisk};
@@ -18,6 +19,11 @@ pub fn read_stands<D: Disk>()
 /// So is what a crash leaves of the two files, where nothing is left to chance.
 pub fn crash_leaves<D: Disk>()
     ensures { CrashLeaves D.Disk }
+{}
+
+/// So is what a crash leaves at any moment while a group is pending, of the state in which its records are lost.
+pub fn pending_leaves<D: Disk>()
+    ensures { PendingLeaves D.Disk }
 {}
 
 /// The records of such files come to what lasts of the state: where the fate of a record is unknown, with it or without

@@ -13,12 +13,13 @@
 //!   that the log keeps free; `doubt`: `Doubt`, what is kept of a record that was lost; `done`, what a call comes to
 //! - calls that are asked together, and share one append: `together`, `Asked`, and how a group is answered; `gathering`,
 //!   which calls form one; `prepares`, the rooms of its prepares; `answers`, what becomes of its branches
-//! - a group whose sync is made apart: `flight`, `Flight`, whose records are written; `beside`, what sessions are answered
-//!   meanwhile (`working`, the rows of their work); `landing`, how its calls are answered
+//! - a group whose sync is made apart: `pending`, `PendingGroup`, whose records are written; `beside`, what sessions are
+//!   answered meanwhile (`working`, the rows of their work); `finish`, how its calls are answered
 //! - a boot: `settings`, `Settings`; `opening`, `restarting` or `trimming`, how it begins; `boots`, what is made
 //!   ready for it, and `rebuilding` its tables, of writes that are let go many together (`spent`); `first_records`, how an
 //!   opening logs it; `fault`: `ManagerFault`, why there is no manager, and `refused`: `RefusedOpening`, with the disks
-//! - `laws`: `read_leaves`, `read_stands` and `crash_leaves`, that a read and a crash leave the records of the state;
+//! - `laws`: `read_leaves`, `read_stands`, `crash_leaves` and `pending_leaves`, that a read and a crash leave the records
+//!   of the state;
 //!   `files_last`, what these come to; `reached_promises`, `one_promises` and `begun_is_reached`, what is promised of
 //!   histories; `memory_is_trusted`, that disks in memory meet the premises
 //! - `status`: how a manager is doing; `planning`: planned faults in memory
@@ -39,18 +40,18 @@ mod doubt;
 mod early;
 mod facts;
 mod fault;
+mod finish;
 mod first_records;
-mod flight;
 mod gathering;
 mod journal;
 mod known_list;
-mod landing;
 mod laws;
 mod log_space;
 mod logging;
 mod manager;
 mod opening;
 mod operator;
+mod pending;
 mod plan;
 mod planning;
 mod prepares;
@@ -73,12 +74,12 @@ mod working;
 
 pub use doubt::Doubt;
 pub use fault::ManagerFault;
-pub use flight::Flight;
 pub use laws::{
-    begun_is_reached, crash_leaves, files_last, memory_is_trusted, one_promises, reached_promises,
-    read_leaves, read_stands,
+    begun_is_reached, crash_leaves, files_last, memory_is_trusted, one_promises, pending_leaves,
+    reached_promises, read_leaves, read_stands,
 };
 pub use manager::Manager;
+pub use pending::PendingGroup;
 pub use refused::RefusedOpening;
 pub use replies::{connect_reply, memory_reply};
 pub use settings::Settings;

@@ -5,7 +5,7 @@ ghost use Rattle.xa_model.specs.Laws.Together.{is_work};
 ghost use Rattle.xa_assoc.specs.Company.{company_of};
 ghost use Rattle.xa_assoc.specs.Seats.{opened_at};
 ghost use Rattle.xa_manager.specs.Answered.{may_want};
-ghost use Rattle.xa_manager.specs.Flight.{work_by};
+ghost use Rattle.xa_manager.specs.Pending.{work_by};
 ghost use Rattle.xa_manager.specs.Replies.{IsFresh};
 ghost use Rattle.xa_manager.specs.Tables.{TablesFollow, TablesStay};
 

@@ -2,14 +2,14 @@
 ghost use Rattle.std.specs.List.{AllByRecursion};
 ghost use Rattle.std.specs.Prelude.{IfSome, IsSome};
 ghost use Rattle.xa_frame.specs.Limits.{IsRequest};
-ghost use Rattle.xa_manager.specs.Flight.{IsFlightOf};
+ghost use Rattle.xa_manager.specs.Pending.{IsGroupOf};
 ghost use Rattle.xa_model.specs.Events.{IsAsked};
 
 use std::alloc::Global;
 use xa_codes::{Bytes, XA_OK};
 use xa_disk::{Effect, MemDisk};
 use xa_frame::{Reply, Request};
-use xa_manager::{Asked, Flight, Manager, Settings, connect_reply};
+use xa_manager::{Asked, Manager, PendingGroup, Settings, connect_reply};
 use xa_rows::Play;
 use xa_script::{CallEffect, Line, LogFile, read_line, reply_line};
 
@@ -93,7 +93,7 @@ fn asked(manager: &mut Manager<MemDisk>, calls: &[Asked]) -> Option<Vec<(usize, 
     }
 }
 
-/// What session 1 asks while a group is on its way, on a branch of its own, and what of that has to wait.
+/// What session 1 asks while a group is pending, on a branch of its own, and what of that has to wait.
 const MEANWHILE: [(&str, &str); 3] = [
     ("1 start TMNOFLAGS 1:88:", NUMBER),
     ("1 put 7a 31", "0 Nothing"),
@@ -106,21 +106,21 @@ const WAITING: [&str; 3] = [
     "1 recover TMSTARTRSCAN|TMENDRSCAN 10",
 ];
 
-// Whether a call is replied so while a group is on its way; a call that has to wait is given back.
+// Whether a call is replied so while a group is pending; a call that has to wait is given back.
 fn works(
     alloc: Global,
     manager: &mut Manager<MemDisk>,
-    flight: &Flight,
+    group: &PendingGroup,
     line: &str,
     want: Option<&str>,
 ) -> bool
-    requires { IsFlightOf manager.old flight.now }
-    ensures { IsFlightOf manager.new flight.now }
+    requires { IsGroupOf manager.old group.now }
+    ensures { IsGroupOf manager.new group.now }
 {
     match read_line(alloc, line.as_bytes()) {
         Ok(Line::Call(session, request)) => {
             request.hold();
-            match (manager.work(flight, session, request), want) {
+            match (manager.work(group, session, request), want) {
                 (Ok(reply), Some(want)) => shows(alloc, &reply, want),
                 (Err(_), None) => true,
                 _ => false,
@@ -132,30 +132,30 @@ fn works(
 
 // What calls of a group were replied that were written, and answered once they were synced. Where memory was wanted
 // nothing was answered, and they are asked again.
-fn landed(
+fn finished(
     alloc: Global,
     manager: &mut Manager<MemDisk>,
     calls: Vec<Asked>,
 ) -> Option<Vec<(usize, Reply)>>
     requires { AllByRecursion (λ c. IsAsked c.request) calls.items }
 {
-    let Ok(flight) = manager.take_off(calls) else {
+    let Ok(group) = manager.begin_group(calls) else {
         return None;
     };
     let [first, second, third] = MEANWHILE;
     let [join, commit, scan] = WAITING;
-    let is_right = works(alloc, manager, &flight, first.0, Some(first.1))
-        && works(alloc, manager, &flight, join, None)
-        && works(alloc, manager, &flight, second.0, Some(second.1))
-        && works(alloc, manager, &flight, scan, None)
-        && works(alloc, manager, &flight, third.0, Some(third.1))
-        && works(alloc, manager, &flight, commit, None);
+    let is_right = works(alloc, manager, &group, first.0, Some(first.1))
+        && works(alloc, manager, &group, join, None)
+        && works(alloc, manager, &group, second.0, Some(second.1))
+        && works(alloc, manager, &group, scan, None)
+        && works(alloc, manager, &group, third.0, Some(third.1))
+        && works(alloc, manager, &group, commit, None);
     let answer = manager.syncer().sync();
-    let landed = match manager.land(flight, answer) {
-        Ok(landed) => Ok(landed),
-        Err((flight, answer)) => manager.land(flight, answer),
+    let finished = match manager.finish_group(group, answer) {
+        Ok(finished) => Ok(finished),
+        Err((group, answer)) => manager.finish_group(group, answer),
     };
-    match landed {
+    match finished {
         Ok((replies, _calls)) if is_right => Some(replies),
         _ => None,
     }
@@ -281,7 +281,7 @@ impl Player {
     pub fn apart(self, lines: &[&str], told: &[Told]) -> Option<Player> {
         let mut player = self;
         let calls = read_calls(player.alloc, lines)?;
-        let replies = landed(player.alloc, &mut player.manager, calls)?;
+        let replies = finished(player.alloc, &mut player.manager, calls)?;
         if are_told(player.alloc, &replies, told) {
             player.line("1 rollback TMNOFLAGS 1:88:", "0 Nothing")
         } else {

@@ -1,4 +1,4 @@
-use Rattle.std.proofs.Common.{arith, take}
+use Rattle.std.proofs.Common.{arith}
 use Rattle.std.proofs.lemmas.List.{length-take}
 use Rattle.xa_log.proofs.Tried.{fell_by, some_zeros, time_still, time_then, went_refused, went_lost}
 use Rattle.xa_log.proofs.appending.settle_at.Goals as goal

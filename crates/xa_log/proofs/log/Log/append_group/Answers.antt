@@ -6,7 +6,7 @@ use Rattle.xa_log.proofs.Grouped.{no_group_moments}
 use Rattle.xa_log.proofs.log.Log.append_group.Goals as goal
 
 pub returns-in-Some-clause-room : goal.returns-in-Some-clause-room
-returns-in-Some-clause-room g c = (c.settle.ensures c.args.self.now (bodies_in c.args.group) c.in-Some.ensures.written).room
+returns-in-Some-clause-room g c = (c.settle.ensures.group c.args.self.now (bodies_in c.args.group) c.in-Some.ensures.written).room
 
 pub returns-in-None-clause-any_moment : goal.returns-in-None-clause-any_moment
 returns-in-None-clause-any_moment g c h stand s =

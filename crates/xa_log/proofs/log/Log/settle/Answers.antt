@@ -3,8 +3,8 @@ use Rattle.xa_log.proofs.Room.{keeps_refilled}
 use Rattle.xa_log.proofs.Settled.{left, less, long, passed, within, settled_kept, settled_refused, settled_lost}
 use Rattle.xa_log.proofs.log.Log.settle.Goals as goal
 
-pub returns-in-Kept : goal.returns-in-Kept
-returns-in-Kept g c before group h =
+pub returns-in-Kept-clause-group : goal.returns-in-Kept-clause-group
+returns-in-Kept-clause-group g c before group h =
     settled_kept g.D.Disk g.met.D.Disk.tears_torn g.met.D.Disk.only_now group c.args.written before c.args.self.now _ h _ c.settle_at-outcome.ensures.not_full
     (λ honest. c.settle_at-outcome.ensures.went honest before.disk _ _ (long g.D.Disk group c.args.written before c.args.self.now h) (less g.D.Disk group c.args.written before c.args.self.now h) (left g.D.Disk group c.args.written before c.args.self.now h honest))
     (λ honest. c.settle_at-outcome.ensures.time honest before.disk _ (within g.D.Disk group c.args.written before c.args.self.now h) (passed g.D.Disk group c.args.written before c.args.self.now h honest))
@@ -12,8 +12,8 @@ returns-in-Kept g c before group h =
     (record { log_bytes = refl; format = refl; other = refl; on_first = refl; other_known = refl; room = keeps_refilled c.args.self.now c.settle_at-outcome.new.bytes })
     c.in-Kept.is refl refl refl refl c.max-self.ensures
 
-pub returns-in-Refused : goal.returns-in-Refused
-returns-in-Refused g c before group h =
+pub returns-in-Refused-clause-group : goal.returns-in-Refused-clause-group
+returns-in-Refused-clause-group g c before group h =
     settled_refused g.D.Disk g.met.D.Disk.tears_torn g.met.D.Disk.only_now group c.args.written before c.args.self.now _ h _ c.settle_at-outcome.ensures.not_full
     (λ honest. c.settle_at-outcome.ensures.went honest before.disk _ _ (long g.D.Disk group c.args.written before c.args.self.now h) (less g.D.Disk group c.args.written before c.args.self.now h) (left g.D.Disk group c.args.written before c.args.self.now h honest))
     (λ honest. c.settle_at-outcome.ensures.time honest before.disk _ (within g.D.Disk group c.args.written before c.args.self.now h) (passed g.D.Disk group c.args.written before c.args.self.now h honest))
@@ -21,8 +21,8 @@ returns-in-Refused g c before group h =
     (record { log_bytes = refl; format = refl; other = refl; on_first = refl; other_known = refl; room = keeps_refilled c.args.self.now c.settle_at-outcome.new.bytes })
     refl refl refl refl (inl c.in-Refused.is) refl
 
-pub returns-in-Lost : goal.returns-in-Lost
-returns-in-Lost g c before group h =
+pub returns-in-Lost-clause-group : goal.returns-in-Lost-clause-group
+returns-in-Lost-clause-group g c before group h =
     settled_lost g.D.Disk g.met.D.Disk.tears_torn g.met.D.Disk.only_now group c.args.written before c.args.self.now _ h _ c.settle_at-outcome.ensures.not_full
     (λ honest. c.settle_at-outcome.ensures.went honest before.disk _ _ (long g.D.Disk group c.args.written before c.args.self.now h) (less g.D.Disk group c.args.written before c.args.self.now h) (left g.D.Disk group c.args.written before c.args.self.now h honest))
     (λ honest. c.settle_at-outcome.ensures.time honest before.disk _ (within g.D.Disk group c.args.written before c.args.self.now h) (passed g.D.Disk group c.args.written before c.args.self.now h honest))

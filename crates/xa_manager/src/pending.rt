@@ -4,7 +4,7 @@ ghost use Rattle.xa_model.specs.Events.{IsAsked};
 ghost use Rattle.xa_model.specs.State.{State};
 ghost use Rattle.xa_manager.specs.Answered.{StaysFor};
 ghost use Rattle.xa_manager.specs.Connected.{connected_to};
-ghost use Rattle.xa_manager.specs.Flight.{Flies, IsFlightOf};
+ghost use Rattle.xa_manager.specs.Pending.{IsPending, IsGroupOf, WritesGroup};
 ghost use Rattle.xa_manager.specs.Managed.{ManagerStandsFor};
 ghost use Rattle.xa_manager.specs.Reserving.{HasReserved};
 
@@ -13,25 +13,35 @@ use crate::together::{Asked, Together};
 use xa_disk::{Disk, Syncer};
 use xa_log::{Group, Written};
 
-/// Calls that are asked together, as a group on its way: their records are written, and the sync is to follow.
+/// Calls that are asked together, as a group that is pending: their records are written, and the sync is to follow.
 #[derive(Debug, Drop)]
-pub struct Flight {
+pub struct PendingGroup {
     pub(crate) calls: Vec<Asked>,
     pub(crate) together: Together,
     pub(crate) written: Written,
 }
 
+impl PendingGroup {
+    /// Its calls, with those that were left out of it.
+    pub fn calls(&self) -> &[Asked]
+        ensures { result.now ≡ self.now.calls.items }
+    {
+        &self.calls
+    }
+}
+
 impl<D: Disk> Manager<D> {
     /// Writes the records of a group of calls, as `call_together`, and leaves the sync to whoever has the `syncer`. Until the
-    /// group has landed (`land`), the manager answers sessions' work on other branches (`work`), and nothing else.
+    /// group is finished (`finish_group`), the manager answers sessions' work on other branches (`work`), and nothing else.
     ///
     /// # Errors
     /// Gives the calls back where none of them logs, or out of memory: then nothing changed.
-    pub fn take_off(&mut self, calls: Vec<Asked>) -> Result<Flight, Vec<Asked>>
+    pub fn begin_group(&mut self, calls: Vec<Asked>) -> Result<PendingGroup, Vec<Asked>>
         requires asked { AllByRecursion (λ c. IsAsked c.request) calls.items }
         ensures ok { IfOk result
-            (λ f. (s : State) → ManagerStandsFor D.Disk self.old s → Flies D.Disk self.new f s) }
-        ensures flight { IfOk result (λ f. IsFlightOf self.new f × (f.calls ≡ calls)) }
+            (λ f. (s : State) → ManagerStandsFor D.Disk self.old s → IsPending D.Disk self.new f s) }
+        ensures group { IfOk result (λ f. IsGroupOf self.new f × (f.calls ≡ calls)) }
+        ensures wrote { IfOk result (λ f. WritesGroup D.Disk self.old f self.new) }
         ensures err { OnErr result (StaysFor D.Disk self.old self.new) }
         ensures back { IfErr result (λ given. given ≡ calls) }
         ensures reserved { OnErr result (HasReserved D.Disk self.old.log self.new.log) }
@@ -45,7 +55,7 @@ impl<D: Disk> Manager<D> {
             return Err(calls);
         }
         match self.log.write_group(Group::Many(&together.bodies)) {
-            Some(written) => Ok(Flight {
+            Some(written) => Ok(PendingGroup {
                 calls,
                 together,
                 written,
@@ -54,7 +64,7 @@ impl<D: Disk> Manager<D> {
         }
     }
 
-    /// What makes the sync of the group on its way.
+    /// What makes the sync of the pending group.
     pub fn syncer(&self) -> Syncer {
         self.log.syncer()
     }

@@ -1,4 +1,4 @@
-use Rattle.std.proofs.Common.{◌≡◌, ◌≤◌, List, arith, length, refl, rules, sym, subst, ◌∙◌, ap}
+use Rattle.std.proofs.Common.{◌≤◌, List, arith, length, refl, rules, sym, subst, ◌∙◌, ap}
 use Rattle.std.specs.List.{AllByRecursion}
 use Rattle.std.proofs.lemmas.List.{length-map}
 use Rattle.xa_log.specs.Chain.{IsBody}
@@ -10,7 +10,7 @@ use Rattle.xa_manager.specs.declared.together.Asked.{Asked}
 use Rattle.xa_manager.specs.Together.{IsGroup, members_of}
 use Rattle.xa_manager.proofs.GroupFacts.{bodies_are, each_row, each_size, group_stands}
 use Rattle.xa_manager.proofs.GroupReplies.{group_up, some_bodies}
-use Rattle.xa_manager.proofs.manager.Manager.take_off.Goals as goal
+use Rattle.xa_manager.proofs.manager.Manager.begin_group.Goals as goal
 
 pub has_reserved-requires : goal.has_reserved-requires
 has_reserved-requires g c =
@@ -49,8 +49,8 @@ returns-in-Some-clause-ok g c = λ s st.
       },
     )
 
-pub returns-in-Some-clause-flight : goal.returns-in-Some-clause-flight
-returns-in-Some-clause-flight g c =
+pub returns-in-Some-clause-group : goal.returns-in-Some-clause-group
+returns-in-Some-clause-group g c =
     let m = c.args.self.now in
     let t = c.in-Ok.together in
     let some : 1 ≤ length t.members.items = search rules in
@@ -65,3 +65,10 @@ returns-in-Some-clause-flight g c =
       },
       refl,
     )
+
+pub returns-in-Some-clause-wrote : goal.returns-in-Some-clause-wrote
+returns-in-Some-clause-wrote g c = record {
+  log = c.has_reserved.new.self.log;
+  reserved = c.has_reserved.ensures.log;
+  written = subst (λ (l : _). HasWritten g.D.Disk (bodies_of l) c.in-Some.written c.has_reserved.new.self.log c.write_group.new.self) c.deref-2.ensures.value c.in-Some.ensures.written;
+}

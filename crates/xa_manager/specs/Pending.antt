@@ -1,4 +1,4 @@
--- A group on its way to the device: its records are written, their sync is to follow, and sessions work on other branches
+-- A group that is pending: its records are written, their sync is to follow, and sessions work on other branches
 -- meanwhile.
 use Rattle.std.specs.Prelude.{ℕ, ◌≡◌, ◌<◌, ◌≤◌, true, false, Some, None, List, [], ◌∷◌, length, map, MatchBool, IsSomeAnd}
 use Rattle.std.specs.List.{AllByRecursion}
@@ -7,6 +7,7 @@ use Rattle.xa_disk.specs.declared.disk.Disk.{Ghosts}
 use Rattle.xa_frame.specs.declared.reply.Reply.{Reply}
 use Rattle.xa_frame.specs.declared.request.Request.{Request}
 use Rattle.xa_frame.specs.declared.request.Request.TheVariants as request
+use Rattle.xa_log.specs.Calls.{SettlesBy}
 use Rattle.xa_log.specs.Reading.{bodies_of}
 use Rattle.xa_log.specs.Written.{HasWritten, IsRange}
 use Rattle.xa_log.specs.declared.log.Log.{Log}
@@ -19,20 +20,21 @@ use Rattle.xa_model.specs.Answer.{Answer}
 use Rattle.xa_model.specs.Associations.{start_by, end_by}
 use Rattle.xa_model.specs.Answer.{ok}
 use Rattle.xa_model.specs.Data.{get_by, put_by}
-use Rattle.xa_model.specs.History.{Leads}
+use Rattle.xa_model.specs.History.{Entry, Leads}
 use Rattle.xa_model.specs.Laws.Together.{group_entries, records_of}
 use Rattle.xa_model.specs.State.{State, own_branch}
 use Rattle.xa_model.specs.Step.{step}
 use Rattle.xa_model.specs.Turn.{Asked as AskedOf}
 use Rattle.xa_xid.specs.Triple.{xid_eq}
-use Rattle.xa_manager.specs.declared.flight.Flight.{Flight}
+use Rattle.xa_manager.specs.declared.pending.PendingGroup.{PendingGroup}
 use Rattle.xa_manager.specs.declared.manager.Manager.{Manager}
 use Rattle.xa_manager.specs.Acts.{AreDistinct}
-use Rattle.xa_manager.specs.Answered.{HasCalled, IsPinned}
+use Rattle.xa_manager.specs.Answered.{HasCalled, IsPinned, as_appended}
 use Rattle.xa_manager.specs.Crash.{LeavesAppend}
 use Rattle.xa_manager.specs.GroupAnswers.{AreReplies, AreTogether}
 use Rattle.xa_manager.specs.LogStands.{Trusts}
 use Rattle.xa_manager.specs.Managed.{ManagerStandsFor}
+use Rattle.xa_manager.specs.Reserving.{HasReserved}
 use Rattle.xa_manager.specs.Rows.{asked_row}
 use Rattle.xa_manager.specs.Together.{Member, members_of, part_of, parts_of, prepares_of}
 
@@ -50,7 +52,7 @@ abbrev pub with_log : {D : Type 0} → Log D → Manager D → Manager D
 with_log log m = record m { log = log }
 
 -- The group has some calls, each with its row, of distinct XIDs, and its records stand where the manager's log ends.
-pub record IsFlightOf {D : Type 0} (m : Manager D) (f : Flight) : Type 0 where
+pub record IsGroupOf {D : Type 0} (m : Manager D) (f : PendingGroup) : Type 0 where
   pub range : IsRange f.written m.log
   pub some : 1 ≤ length f.together.members.items
   pub places : AllByRecursion (λ j. j.at < length f.calls.items) f.together.members.items
@@ -60,40 +62,58 @@ pub record IsFlightOf {D : Type 0} (m : Manager D) (f : Flight) : Type 0 where
   pub prepares : f.together.prepares.items ≡ prepares_of (members_of f.calls.items f.together.members.items)
 
 -- its calls
-abbrev pub flight_members : Flight → List Member
-flight_members f = members_of f.calls.items f.together.members.items
+abbrev pub pending_members : PendingGroup → List Member
+pending_members f = members_of f.calls.items f.together.members.items
 
 -- A call of a session's work that names a branch names none of the group's.
-abbrev pub WorksApartFrom : Request → Flight → Type 0
+abbrev pub WorksApartFrom : Request → PendingGroup → Type 0
 WorksApartFrom (request.Start flags xid) f = AllByRecursion (λ j. xid_eq j.xid xid ≡ false) f.together.members.items
 WorksApartFrom (request.End flags xid) f = AllByRecursion (λ j. xid_eq j.xid xid ≡ false) f.together.members.items
 WorksApartFrom _ f = Unit {0}
 
--- A manager stands for a state with a group on its way, whose records were written after those of this log: it stands for
--- it with that log, and there the calls might be asked together, and append these records.
-pub record FliesFrom {D : Type 0} (disks : Ghosts D) (log : Log D) (m : Manager D) (f : Flight) (s : State)
+-- A manager stands for a state with a pending group, whose records were written after those of this log: it stands for it
+-- with that log, and there the calls might be asked together, and append these records.
+pub record IsPendingFrom {D : Type 0} (disks : Ghosts D) (log : Log D) (m : Manager D) (f : PendingGroup) (s : State)
     : Type 0 where
   pub stands : ManagerStandsFor disks (with_log log m) s
   pub up : m.up ≡ true
   pub written : HasWritten disks (bodies_of f.together.bodies.items) f.written log m.log
-  pub at : AreTogether s (flight_members f)
-  pub bodies : map spelled (records_of (parts_of s (flight_members f))) ≡ bodies_of f.together.bodies.items
+  pub at : AreTogether s (pending_members f)
+  pub bodies : map spelled (records_of (parts_of s (pending_members f))) ≡ bodies_of f.together.bodies.items
 
-abbrev pub Flies : {D : Type 0} → Ghosts D → Manager D → Flight → State → Type 0
-Flies {D} disks m f s = (log : Log D) × FliesFrom disks log m f s
+abbrev pub IsPending : {D : Type 0} → Ghosts D → Manager D → PendingGroup → State → Type 0
+IsPending {D} disks m f s = (log : Log D) × IsPendingFrom disks log m f s
 
--- A call of a session's work was answered meanwhile: as the step, or memory was wanted. The group stays on its way.
-pub record WorksBeside {D : Type 0} (disks : Ghosts D) (m : Manager D) (f : Flight) (event : Event) (reply : Reply)
+-- The group's records were written after those of a log that is the manager's, but for its memory.
+pub record WritesGroup {D : Type 0} (disks : Ghosts D) (m : Manager D) (f : PendingGroup) (m' : Manager D) : Type 0 where
+  pub log : Log D
+  pub reserved : HasReserved disks m.log log
+  pub written : HasWritten disks (bodies_of f.together.bodies.items) f.written log m'.log
+
+-- the entries of calls whose records are lost
+abbrev pub lost_group : State → List Member → List Entry
+lost_group s [] = []
+lost_group s (c ∷ cs) = group_entries Lost (part_of s c) (parts_of s cs)
+
+-- What a crash at any moment since the write leaves stands for the state to which the group's calls lead where their
+-- records are lost.
+abbrev pub LeavesPending : {D : Type 0} → Ghosts D → Log D → Manager D → PendingGroup → State → Type 0
+LeavesPending disks log m f s =
+    Trusts disks → (lost : State) × Leads s (lost_group s (pending_members f)) lost × LeavesAppend disks log m.log s lost
+
+-- A call of a session's work was answered meanwhile: as the step, or memory was wanted. The group stays pending.
+pub record WorksBeside {D : Type 0} (disks : Ghosts D) (m : Manager D) (f : PendingGroup) (event : Event) (reply : Reply)
     (m' : Manager D) : Type 0 where
-  pub answered : (log : Log D) (s : State) → FliesFrom disks log m f s
-      → MatchBool (is_memory reply.detail) (FliesFrom disks log m' f s)
-      (IsSomeAnd (step s (AskedOf event) Quiet) (λ a. (a.reply ≡ reply) × FliesFrom disks log m' f a.after))
+  pub answered : (log : Log D) (s : State) → IsPendingFrom disks log m f s
+      → MatchBool (is_memory reply.detail) (IsPendingFrom disks log m' f s)
+      (IsSomeAnd (step s (AskedOf event) Quiet) (λ a. (a.reply ≡ reply) × IsPendingFrom disks log m' f a.after))
   pub pinned : IsPinned event reply
   pub log : m'.log ≡ m.log
+  pub crash : (log : Log D) (s : State) → IsPendingFrom disks log m f s → LeavesPending disks log m' f s
 
 -- Calls were answered together, of a state, with this of their records, which were appended to this log: as
 -- TakesTogether.
-pub record LandsFrom {D : Type 0} (disks : Ghosts D) (log : Log D) (s : State) (first : Member) (rest : List Member)
+pub record FinishesFrom {D : Type 0} (disks : Ghosts D) (log : Log D) (s : State) (first : Member) (rest : List Member)
     (a : Appending) (m' : Manager D) : Type 0 where
   pub leads : (s' : State) × Leads s (group_entries a (part_of s first) (parts_of s rest)) s' × ManagerStandsFor disks m' s'
   pub called : HasCalled disks (Appended a) log m'.log
@@ -101,9 +121,18 @@ pub record LandsFrom {D : Type 0} (disks : Ghosts D) (log : Log D) (s : State) (
       → (lost : State) × Leads s (group_entries Lost (part_of s first) (parts_of s rest)) lost
       × LeavesAppend disks log m'.log s lost
 
--- So were those of a group on its way, of each state that the manager stood for.
-abbrev pub HasLanded : {D : Type 0} → Ghosts D → Manager D → Flight → List (ℕ × Reply) → Manager D → Type 0
-HasLanded disks m f [] m' = ⊥
-HasLanded {D} disks m f (r ∷ rs) m' =
+-- So were those of a pending group, of each state that the manager stood for.
+abbrev pub HasFinished : {D : Type 0} → Ghosts D → Manager D → PendingGroup → List (ℕ × Reply) → Manager D → Type 0
+HasFinished disks m f [] m' = ⊥
+HasFinished {D} disks m f (r ∷ rs) m' =
     (first : Member) × (rest : List Member) × (a : Appending) × AreReplies f.calls.items a (first ∷ rest) (r ∷ rs)
-    × ((log : Log D) (s : State) → FliesFrom disks log m f s → LandsFrom disks log s first rest a m')
+    × SettlesBy f.written.write (as_appended a) (disks.failures m.log.disk) (disks.failures m'.log.disk)
+    × ((log : Log D) (s : State) → IsPendingFrom disks log m f s → FinishesFrom disks log s first rest a m')
+
+-- ---- law
+
+-- so it is of each state for which a manager stands with a pending group
+abbrev pub PendingLeaves : {D : Type 0} → Ghosts D → Type 0
+PendingLeaves {D} disks =
+    (log : Log D) (m : Manager D) (f : PendingGroup) (s : State) → IsGroupOf m f → IsPendingFrom disks log m f s
+    → LeavesPending disks log m f s
