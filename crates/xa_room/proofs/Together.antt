@@ -66,13 +66,13 @@ one_told calls a c r h = record {
   limits = subst IsReply (sym h.reply) (reply_short a c.request);
 }
 
-all_told : (calls : List Asked) (a : Appending) (cs : List Member) (rs : List (ℕ × Reply)) → AreReplies calls a cs rs → AllByRecursion (IsToldOf calls) rs
+pub all_told : (calls : List Asked) (a : Appending) (cs : List Member) (rs : List (ℕ × Reply)) → AreReplies calls a cs rs → AllByRecursion (IsToldOf calls) rs
 all_told calls a [] [] h = tt
 all_told calls a [] (r ∷ rs) h = absurd h
 all_told calls a (c ∷ cs) [] h = absurd h
 all_told calls a (c ∷ cs) (r ∷ rs) h = (one_told calls a c r h.0, all_told calls a cs rs h.1)
 
-all_unplaced : (calls : List Asked) (a : Appending) (cs : List Member) (rs : List (ℕ × Reply)) → AreReplies calls a cs rs → AreUnplaced rs
+pub all_unplaced : (calls : List Asked) (a : Appending) (cs : List Member) (rs : List (ℕ × Reply)) → AreReplies calls a cs rs → AreUnplaced rs
 all_unplaced calls a [] [] h = tt
 all_unplaced calls a [] (r ∷ rs) h = absurd h
 all_unplaced calls a (c ∷ cs) [] h = absurd h
@@ -91,7 +91,7 @@ all_entries s calls o a [] (r ∷ rs) h = absurd h
 all_entries s calls o a (c ∷ cs) [] h = absurd h
 all_entries s calls o a (c ∷ cs) (r ∷ rs) h = λ i. one_entry s calls o a c r h.0 i ∷ all_entries s calls o a cs rs h.1 i
 
-group_told : (s : State) (calls : List Asked) (a : Appending) (c : Member) (cs : List Member) (r : ℕ × Reply) (rs : List (ℕ × Reply))
+pub group_told : (s : State) (calls : List Asked) (a : Appending) (c : Member) (cs : List Member) (r : ℕ × Reply) (rs : List (ℕ × Reply))
     → AreReplies calls a (c ∷ cs) (r ∷ rs) → group_entries a (part_of s c) (parts_of s cs) ≡ told_entries calls a r rs
 group_told s calls a c cs r rs h = λ i. one_entry s calls (Appended a) a c r h.0 i ∷ all_entries s calls (Joined a) a cs rs h.1 i
 
@@ -108,7 +108,7 @@ all_lost s calls o a [] (r ∷ rs) h = absurd h
 all_lost s calls o a (c ∷ cs) [] h = absurd h
 all_lost s calls o a (c ∷ cs) (r ∷ rs) h = λ i. one_lost s calls o a c r h.0 i ∷ all_lost s calls o a cs rs h.1 i
 
-group_lost : (s : State) (calls : List Asked) (a : Appending) (c : Member) (cs : List Member) (r : ℕ × Reply) (rs : List (ℕ × Reply))
+pub group_lost : (s : State) (calls : List Asked) (a : Appending) (c : Member) (cs : List Member) (r : ℕ × Reply) (rs : List (ℕ × Reply))
     → AreReplies calls a (c ∷ cs) (r ∷ rs) → group_entries Lost (part_of s c) (parts_of s cs) ≡ lost_entries (events_of calls (r ∷ rs))
 group_lost s calls a c cs r rs h = λ i. one_lost s calls (Appended Lost) a c r h.0 i ∷ all_lost s calls (Joined Lost) a cs rs h.1 i
 

@@ -1,8 +1,9 @@
 pub mod Adding
-pub mod Talking
 pub mod Sharing
 pub mod Grouping
 pub mod Few
 pub mod Placing
 pub mod Asking
 pub mod Among
+pub mod Pendings
+pub mod Keeping

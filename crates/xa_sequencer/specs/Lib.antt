@@ -3,5 +3,6 @@ pub mod Numbers
 pub mod Posted
 pub mod Together
 pub mod Shared
-pub mod Talks
 pub mod Associates
+pub mod GroupCommits
+pub mod GroupManager

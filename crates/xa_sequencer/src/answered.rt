@@ -1,14 +1,14 @@
 ghost use Rattle.std.specs.Prelude.{◌≡◌, true};
-ghost use Rattle.xa_room.specs.declared.manages.Manages.{Ghosts};
 ghost use Rattle.xa_sequencer.specs.Posted.{WasAnswered};
 
+use crate::group_commits::GroupCommits;
 use std::marker::{Model, PhantomData};
 use xa_frame::{Reply, Request};
-use xa_room::{Manages, Start};
+use xa_room::Start;
 
 /// A call that a thread posted, and what it was answered as one of a group by whichever thread had the lock.
 #[derive(Drop)]
-pub struct Answered<M: Manages, S: Start> {
+pub struct Answered<M: GroupCommits, S: Start> {
     place: usize,
     session: u64,
     request: Request,
@@ -17,17 +17,17 @@ pub struct Answered<M: Manages, S: Start> {
     of: PhantomData<(M, S)>,
 }
 
-impl<M: Manages, S: Start> Model for Answered<M, S> {
+impl<M: GroupCommits, S: Start> Model for Answered<M, S> {
     ghost use Rattle.xa_sequencer.specs.Posted.{Answer, WasAnswered};
 
     ghost Value = { Answer };
 
     ghost view = { λ a. record { session = a.session; request = a.request; reply = a.reply; count = a.count } };
 
-    ghost invariant = { λ a. WasAnswered M.Manages S.start S.base a.session a.request a.reply a.count };
+    ghost invariant = { λ a. WasAnswered M.manages S.start S.base a.session a.request a.reply a.count };
 }
 
-impl<M: Manages, S: Start> Answered<M, S> {
+impl<M: GroupCommits, S: Start> Answered<M, S> {
     /// The call of a session at some place among those that its thread asks. After its group so many events had been
     /// numbered.
     pub(crate) fn new(
@@ -37,7 +37,7 @@ impl<M: Manages, S: Start> Answered<M, S> {
         reply: Reply,
         count: u64,
     ) -> Answered<M, S>
-        requires { WasAnswered M.Manages S.start S.base session request reply count }
+        requires { WasAnswered M.manages S.start S.base session request reply count }
     {
         Answered {
             place,
@@ -63,7 +63,7 @@ impl<M: Manages, S: Start> Answered<M, S> {
 
     pub(crate) fn count(&self) -> u64
         ensures is { result ≡ self.now.count }
-        ensures was { WasAnswered M.Manages S.start S.base self.now.session self.now.request self.now.reply self.now.count }
+        ensures was { WasAnswered M.manages S.start S.base self.now.session self.now.request self.now.reply self.now.count }
     {
         self.count
     }

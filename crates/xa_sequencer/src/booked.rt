@@ -1,9 +1,10 @@
-ghost use Rattle.std.specs.Prelude.{◌≡◌, ◌+◌, ◌<◌, MatchBool};
+ghost use Rattle.std.specs.Prelude.{◌≡◌, ◌+◌, ◌<◌, None, is_none, IfErr, IfOk, MatchBool};
 ghost use Rattle.xa_frame.specs.Limits.{IsReply, IsRequest};
+ghost use Rattle.xa_sequencer.specs.Associates.{AssociatedBy, EndedBy};
 ghost use Rattle.xa_sequencer.specs.Shared.{CalledBy, ConnectedBy, IsTold, LeftBy};
 
 use crate::answered::Answered;
-use crate::associates::Associates;
+use crate::group_commits::GroupCommits;
 use crate::mail::Mail;
 use crate::sequencer::Sequencer;
 use crate::trays::Trays;
@@ -12,14 +13,15 @@ use std::marker::Model;
 use std::mem;
 use std::sync::ledger::{Blank, Book, Ledger, Share};
 use xa_assoc::ConnectFault;
+use xa_disk::{SyncAnswer, Syncer};
 use xa_frame::{Reply, Request, Status};
 use xa_manager::connect_reply;
-use xa_room::{Manages, Start, is_memory};
+use xa_room::{Start, is_memory};
 
 /// What lies under the lock: a sequencer, and the ledger's book, whose total is the sequencer's count, less the answers to
 /// posted calls that are in no share yet.
 #[derive(Drop)]
-pub(crate) struct Booked<M: Manages, S: Start, L: Ledger> {
+pub(crate) struct Booked<M: GroupCommits, S: Start, L: Ledger> {
     sequencer: Sequencer<M, S>,
     book: Book<L>,
     trays: Trays<M, S>,
@@ -29,7 +31,7 @@ pub(crate) struct Booked<M: Manages, S: Start, L: Ledger> {
     mail: Mail,
 }
 
-impl<M: Manages, S: Start, L: Ledger> Model for Booked<M, S, L> {
+impl<M: GroupCommits, S: Start, L: Ledger> Model for Booked<M, S, L> {
     ghost use Rattle.std.specs.Prelude.{◌≡◌, ◌+◌};
     ghost use Rattle.xa_sequencer.specs.Stands.{Numbered};
 
@@ -40,7 +42,7 @@ impl<M: Manages, S: Start, L: Ledger> Model for Booked<M, S, L> {
     ghost invariant = { λ b. b.book.total + b.owed ≡ b.sequencer.count };
 }
 
-impl<M: Manages, S: Start, L: Ledger> Booked<M, S, L> {
+impl<M: GroupCommits, S: Start, L: Ledger> Booked<M, S, L> {
     /// Opens the ledger. The share has every part, and counts what was numbered so far.
     pub(crate) fn open(
         alloc: Global,
@@ -78,9 +80,17 @@ impl<M: Manages, S: Start, L: Ledger> Booked<M, S, L> {
         (sequencer, book, owed)
     }
 
+    /// Whether no group is pending.
+    pub(crate) fn is_settled(&self) -> bool
+        ensures { result ≡ is_none (M.pending self.now.now) }
+    {
+        self.sequencer.is_settled()
+    }
+
     pub(crate) fn connect(&mut self, share: &mut Share<L>) -> Result<u64, ConnectFault>
-        requires { 0 < share.old.parts }
-        ensures { ConnectedBy M.Manages S.start S.base (share.old.parts, share.old.amount) result
+        requires settled { M.pending self.old.now ≡ None }
+        requires share { 0 < share.old.parts }
+        ensures { ConnectedBy M.manages S.start S.base (share.old.parts, share.old.amount) result
             (share.new.parts, share.new.amount) }
     {
         let Booked {
@@ -99,9 +109,10 @@ impl<M: Manages, S: Start, L: Ledger> Booked<M, S, L> {
     }
 
     pub(crate) fn call(&mut self, share: &mut Share<L>, session: u64, request: Request) -> Reply
+        requires settled { M.pending self.old.now ≡ None }
         requires share { 0 < share.old.parts }
         requires limits { IsRequest request }
-        ensures called { CalledBy M.Manages S.start S.base session (share.old.parts, share.old.amount) request result
+        ensures called { CalledBy M.manages S.start S.base session (share.old.parts, share.old.amount) request result
             (share.new.parts, share.new.amount) }
         ensures limits { IsReply result }
     {
@@ -120,19 +131,79 @@ impl<M: Manages, S: Start, L: Ledger> Booked<M, S, L> {
         reply
     }
 
+    /// Answers a call of a session's work while a group is pending. Any other request is given back.
+    pub(crate) fn work(
+        &mut self,
+        share: &mut Share<L>,
+        session: u64,
+        request: Request,
+    ) -> Result<Reply, Request>
+        requires share { 0 < share.old.parts }
+        requires limits { IsRequest request }
+        ensures called { IfOk result (λ reply. CalledBy M.manages S.start S.base session
+            (share.old.parts, share.old.amount) request reply (share.new.parts, share.new.amount)) }
+        ensures limits { IfOk result IsReply }
+        ensures back { IfErr result (λ given. (given ≡ request) × (share.new.parts ≡ share.old.parts)
+            × (share.new.amount ≡ share.old.amount)) }
+    {
+        let Booked {
+            sequencer,
+            book,
+            ..
+        } = self;
+        sequencer.promises();
+        book.audit(share);
+        let reply = sequencer.work(session, request)?;
+        if is_memory(&reply) {
+            return Ok(reply);
+        }
+        book.add(share, 1);
+        Ok(reply)
+    }
+
     /// A tray for the answers to a thread's posted calls.
     pub(crate) fn add_tray(&mut self, alloc: Global) -> Result<usize, AllocError> {
         self.trays.add(alloc)
     }
 
     /// Takes the calls that were posted.
-    pub(crate) fn take_mail(&mut self, mailbox: &mut Mail) {
+    pub(crate) fn take_mail(&mut self, mailbox: &mut Mail)
+        ensures { self.new ≡ self.old }
+    {
         mem::swap(&mut self.mail, mailbox);
     }
 
-    /// Answers the posted calls that were taken, if they are several and there is memory for it: those that may share one
-    /// append. Their answers go to their senders' trays. Of a call that has none nothing has been done.
-    pub(crate) fn answer_mail(&mut self) {
+    /// Writes the records of the posted calls that were taken, those that may share one append, if there is memory for
+    /// their answers. Gives what makes their sync, where some were written: they are the pending group. Of the others
+    /// nothing has been done.
+    pub(crate) fn begin_mail(&mut self) -> Option<Syncer>
+        requires { M.pending self.old.now ≡ None }
+    {
+        let Booked {
+            sequencer,
+            trays,
+            mail,
+            ..
+        } = self;
+        if mail.is_empty() || !trays.reserve(mail.len()) {
+            mail.clear();
+            return None;
+        }
+        match sequencer.begin_group(mail.lend()) {
+            Ok(()) => Some(sequencer.syncer()),
+            Err(calls) => {
+                mail.give_back(calls);
+                mail.clear();
+                None
+            }
+        }
+    }
+
+    /// Answers the calls of the pending group, by their sync's answer: the answers go to their senders' trays.
+    ///
+    /// # Errors
+    /// Out of memory: gives the answer back, and the group is still pending.
+    pub(crate) fn finish_mail(&mut self, answer: SyncAnswer) -> Result<(), SyncAnswer> {
         let Booked {
             sequencer,
             trays,
@@ -140,14 +211,16 @@ impl<M: Manages, S: Start, L: Ledger> Booked<M, S, L> {
             mail,
             ..
         } = self;
-        if mail.len() > 1 && trays.reserve(mail.len()) {
-            sequencer.promises();
-            if let Ok(replies) = sequencer.call_together(mail.calls()) {
-                *owed += replies.len() as u64;
-                trays.put_all(mail, replies, sequencer.count());
-            }
+        if sequencer.is_settled() {
+            return Ok(());
         }
+        sequencer.promises();
+        let (replies, calls) = sequencer.finish_group(answer)?;
+        *owed += replies.len() as u64;
+        mail.give_back(calls);
+        trays.put_all(mail, replies, sequencer.count());
         mail.clear();
+        Ok(())
     }
 
     /// The next answer in a thread's tray.
@@ -170,8 +243,9 @@ impl<M: Manages, S: Start, L: Ledger> Booked<M, S, L> {
     }
 
     pub(crate) fn hangup(&mut self, share: &mut Share<L>, session: u64) -> bool
-        requires { 0 < share.old.parts }
-        ensures { LeftBy M.Manages S.start S.base session (share.old.parts, share.old.amount) result
+        requires settled { M.pending self.old.now ≡ None }
+        requires share { 0 < share.old.parts }
+        ensures { LeftBy M.manages S.start S.base session (share.old.parts, share.old.amount) result
             (share.new.parts, share.new.amount) }
     {
         let Booked {
@@ -189,25 +263,24 @@ impl<M: Manages, S: Start, L: Ledger> Booked<M, S, L> {
     }
 
     pub(crate) fn status(&self) -> Status
-        ensures { IsTold M.Manages S.start S.base result }
+        requires { M.pending self.now.now ≡ None }
+        ensures { IsTold M.manages S.start S.base result }
     {
         self.sequencer.promises();
         self.sequencer.status()
     }
-}
-
-impl<M: Associates, S: Start, L: Ledger> Booked<M, S, L> {
-    ghost use Rattle.xa_sequencer.specs.Associates.{AssociatedBy, EndedBy};
 
     pub(crate) fn has_association(&self, session: u64) -> bool
-        ensures { AssociatedBy M.Manages S.start S.base session result }
+        requires { M.pending self.now.now ≡ None }
+        ensures { AssociatedBy M.manages S.start S.base session result }
     {
         self.sequencer.promises();
         self.sequencer.has_association(session)
     }
 
     pub(crate) fn log_end(&self) -> u64
-        ensures { EndedBy M.Manages S.start S.base result }
+        requires { M.pending self.now.now ≡ None }
+        ensures { EndedBy M.manages S.start S.base result }
     {
         self.sequencer.promises();
         self.sequencer.log_end()

@@ -1,8 +1,8 @@
-ghost use Rattle.std.specs.Prelude.{◌≡◌, ◌+◌, ◌<◌, IfOk, MatchBool};
+ghost use Rattle.std.specs.Prelude.{◌≡◌, ◌+◌, ◌<◌, IfErr, IfOk, MatchBool};
 ghost use Rattle.xa_sequencer.specs.Stands.{most_numbers};
 
 use crate::answered::Answered;
-use crate::associates::Associates;
+use crate::group_commits::GroupCommits;
 use crate::held::Held;
 use crate::mail::Sender;
 use crate::shared::SharedSequencer;
@@ -14,11 +14,11 @@ use xa_assoc::ConnectFault;
 use xa_desk::Door;
 use xa_frame::{Reply, Request, Status};
 use xa_manager::connect_reply;
-use xa_room::{Manages, Start, is_memory};
+use xa_room::{Start, is_memory};
 
 /// A thread's handle of a sequencer that it shares with others: a door, with a share that counts what is asked at it.
 #[derive(Drop)]
-pub struct Handle<'a, M: Manages, S: Start, L: Ledger, R> {
+pub struct Handle<'a, M: GroupCommits, S: Start, L: Ledger, R> {
     rt: &'a R,
     sequencer: &'a SharedSequencer<M, S, L>,
     pub share: Share<L>,
@@ -29,8 +29,9 @@ pub struct Handle<'a, M: Manages, S: Start, L: Ledger, R> {
     pub ghost counts: { counted < most_numbers → counted ≡ share.amount },
 }
 
-impl<'a, M: Manages, S: Start, L: Ledger, R: Wait> Handle<'a, M, S, L, R> {
+impl<'a, M: GroupCommits, S: Start, L: Ledger, R: Wait> Handle<'a, M, S, L, R> {
     ghost use Rattle.xa_frame.specs.Limits.{IsReply, IsRequest};
+    ghost use Rattle.xa_sequencer.specs.Associates.{AssociatedBy, EndedBy};
     ghost use Rattle.xa_sequencer.specs.Shared.{CalledBy, ConnectedBy, IsTold};
 
     /// With a share that counts nothing yet.
@@ -59,7 +60,7 @@ impl<'a, M: Manages, S: Start, L: Ledger, R: Wait> Handle<'a, M, S, L, R> {
 
     /// Connects a session.
     pub fn connect(&mut self) -> Result<u64, ConnectFault>
-        ensures { ConnectedBy M.Manages S.start S.base (self.old.share.parts, self.old.share.amount) result
+        ensures { ConnectedBy M.manages S.start S.base (self.old.share.parts, self.old.share.amount) result
             (self.new.share.parts, self.new.share.amount) }
     {
         let session = self.sequencer.connect(self.rt, &mut self.share);
@@ -75,20 +76,25 @@ impl<'a, M: Manages, S: Start, L: Ledger, R: Wait> Handle<'a, M, S, L, R> {
     }
 
     /// Answers a request of a session, by the lock that was taken.
+    ///
+    /// # Errors
+    /// Gives a request back that is to wait until the pending group is finished.
     pub fn call_held(
         &mut self,
         held: &mut Held<'_, M, S, L>,
         session: u64,
         request: Request,
-    ) -> Reply
+    ) -> Result<Reply, Request>
         requires { IsRequest request }
-        ensures called { CalledBy M.Manages S.start S.base session (self.old.share.parts, self.old.share.amount) request result
-            (self.new.share.parts, self.new.share.amount) }
-        ensures limits { IsReply result }
+        ensures called { IfOk result (λ reply. CalledBy M.manages S.start S.base session
+            (self.old.share.parts, self.old.share.amount) request reply (self.new.share.parts, self.new.share.amount)) }
+        ensures limits { IfOk result IsReply }
+        ensures back { IfErr result (λ given. (given ≡ request) × (self.new.share.parts ≡ self.old.share.parts)
+            × (self.new.share.amount ≡ self.old.share.amount)) }
     {
-        let reply = held.call(&mut self.share, session, request);
+        let reply = held.call(&mut self.share, session, request)?;
         self.counted = after(self.counted, !is_memory(&reply));
-        reply
+        Ok(reply)
     }
 
     /// Posts a copy of a call: whichever thread has the lock may answer it, as one of a group that shares an append, until
@@ -103,10 +109,20 @@ impl<'a, M: Manages, S: Start, L: Ledger, R: Wait> Handle<'a, M, S, L, R> {
         self.sequencer.post(self.rt, sender, session, request);
     }
 
-    /// Answers the calls that threads have posted, by the lock that was taken: those that may share one append. Of a call
-    /// that gets no answer nothing has been done: it is to be called by itself.
-    pub fn answer_posted(&self, held: &mut Held<'_, M, S, L>) {
-        held.answer_posted(self.rt);
+    /// Whether no group is pending.
+    pub fn is_settled(&self, held: &Held<'_, M, S, L>) -> bool {
+        held.is_settled()
+    }
+
+    /// Answers the calls that threads have posted, those that may share one append: with the lock that was taken their
+    /// records are written, and their answers given once they are synced; for the sync it is let go. Gives the lock, taken
+    /// again. Of a call that gets no answer nothing has been done: it is to be called by itself.
+    pub fn answer_posted(&self, held: Held<'a, M, S, L>) -> Held<'a, M, S, L> {
+        let mut held = held;
+        match held.begin_posted(self.rt) {
+            Some(syncer) => self.sequencer.sync(self.rt, held, syncer),
+            None => held,
+        }
     }
 
     /// Takes the next answer to a call that this handle posted. It is to be counted.
@@ -118,7 +134,7 @@ impl<'a, M: Manages, S: Start, L: Ledger, R: Wait> Handle<'a, M, S, L, R> {
     /// nothing changes.
     pub fn count_answer(&mut self, held: &mut Held<'_, M, S, L>, answered: &Answered<M, S>) -> bool
         ensures { MatchBool result
-            (CalledBy M.Manages S.start S.base answered.now.session (self.old.share.parts, self.old.share.amount)
+            (CalledBy M.manages S.start S.base answered.now.session (self.old.share.parts, self.old.share.amount)
             answered.now.request answered.now.reply (self.new.share.parts, self.new.share.amount))
             ((self.new.share.parts ≡ self.old.share.parts) × (self.new.share.amount ≡ self.old.share.amount)) }
     {
@@ -137,14 +153,14 @@ impl<'a, M: Manages, S: Start, L: Ledger, R: Wait> Handle<'a, M, S, L, R> {
         self.sequencer.is_wanted()
     }
 
-    /// Whether no thread has the lock.
+    /// Whether no thread has the lock, and none syncs.
     pub fn is_free(&self) -> bool {
         self.sequencer.is_free()
     }
 
     /// How the manager is doing. The share doesn't count it.
     pub fn status(&self) -> Status
-        ensures { IsTold M.Manages S.start S.base result }
+        ensures { IsTold M.manages S.start S.base result }
     {
         self.sequencer.status(self.rt)
     }
@@ -162,36 +178,32 @@ impl<'a, M: Manages, S: Start, L: Ledger, R: Wait> Handle<'a, M, S, L, R> {
         } = self;
         share
     }
-}
-
-impl<M: Associates, S: Start, L: Ledger, R: Wait> Handle<'_, M, S, L, R> {
-    ghost use Rattle.xa_sequencer.specs.Associates.{AssociatedBy, EndedBy};
 
     /// Whether a session has an association of its own.
     pub fn has_association(&self, session: u64) -> bool
-        ensures { AssociatedBy M.Manages S.start S.base session result }
+        ensures { AssociatedBy M.manages S.start S.base session result }
     {
         self.sequencer.has_association(self.rt, session)
     }
 
     /// Where the log's next record begins, while the manager is up.
     pub fn log_end(&self) -> u64
-        ensures { EndedBy M.Manages S.start S.base result }
+        ensures { EndedBy M.manages S.start S.base result }
     {
         self.sequencer.log_end(self.rt)
     }
 }
 
-impl<M: Manages, S: Start, L: Ledger, R: Wait> Door for Handle<'_, M, S, L, R> {
+impl<M: GroupCommits, S: Start, L: Ledger, R: Wait> Door for Handle<'_, M, S, L, R> {
     ghost use Rattle.std.specs.Prelude.{Bool};
     ghost use Rattle.xa_sequencer.specs.Shared.{AskedBy, LeftBy};
 
     ghost called = { λ session a question reply b.
-        AskedBy M.Manages S.start S.base session (a.share.parts, a.share.amount) question reply
+        AskedBy M.manages S.start S.base session (a.share.parts, a.share.amount) question reply
         (b.share.parts, b.share.amount) };
 
     ghost left = { λ session a b.
-        (was : Bool) × LeftBy M.Manages S.start S.base session (a.share.parts, a.share.amount) was
+        (was : Bool) × LeftBy M.manages S.start S.base session (a.share.parts, a.share.amount) was
         (b.share.parts, b.share.amount) };
 
     fn call(&mut self, session: u64, request: Request) -> Reply {
@@ -224,7 +236,7 @@ fn after(counted: u64, is_entry: bool) -> u64
 }
 
 /// Shows the name alone, so that it never waits for the lock.
-impl<M: Manages, S: Start, L: Ledger, R> fmt::Debug for Handle<'_, M, S, L, R> {
+impl<M: GroupCommits, S: Start, L: Ledger, R> fmt::Debug for Handle<'_, M, S, L, R> {
     fn fmt<W: fmt::Write>(&self, f: &mut fmt::Formatter<W>) -> fmt::Result {
         f.debug_struct("Handle").finish_non_exhaustive()
     }

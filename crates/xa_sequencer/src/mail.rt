@@ -5,6 +5,7 @@ ghost use Rattle.xa_frame.specs.Limits.{IsRequest};
 
 use std::alloc::{AllocError, Global};
 use std::marker::Model;
+use std::mem;
 use xa_frame::Request;
 use xa_manager::Asked;
 
@@ -84,6 +85,26 @@ impl Mail {
 
     pub(crate) fn alloc(&self) -> Global {
         self.alloc
+    }
+
+    pub(crate) fn is_empty(&self) -> bool {
+        self.calls.is_empty()
+    }
+
+    /// Lends the calls. Who posted each is kept until they are given back.
+    pub(crate) fn lend(&mut self) -> Vec<Asked>
+        ensures is { result.items ≡ self.old }
+        ensures within { AllByRecursion (λ c. IsRequest c.request) self.old }
+    {
+        mem::replace(&mut self.calls, Vec::new(self.alloc))
+    }
+
+    /// Takes the calls back.
+    pub(crate) fn give_back(&mut self, calls: Vec<Asked>)
+        requires { AllByRecursion (λ c. IsRequest c.request) calls.items }
+        ensures { self.new ≡ calls.items }
+    {
+        self.calls = calls;
     }
 
     pub(crate) fn clear(&mut self) {

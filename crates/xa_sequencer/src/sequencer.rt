@@ -1,4 +1,4 @@
-ghost use Rattle.std.specs.Prelude.{◌≡◌, ℕ, [], IfOk, OnErr};
+ghost use Rattle.std.specs.Prelude.{◌≡◌, ◌≢◌, ℕ, [], is_none, None, Some, IfErr, IfOk, OnErr, OnOk};
 ghost use Rattle.std.specs.List.{AllByRecursion};
 ghost use Rattle.xa_frame.specs.Limits.{IsRequest, IsReply};
 ghost use Rattle.xa_manager.specs.Once.{AreOnce};
@@ -7,18 +7,18 @@ ghost use Rattle.xa_room.specs.Status.{Tells};
 ghost use Rattle.xa_room.specs.Together.{IsToldOf};
 ghost use Rattle.xa_sequencer.specs.Numbers.{Called, Connected, Left};
 ghost use Rattle.xa_sequencer.specs.Stands.{AllPromise, HasHistory, Stands};
-ghost use Rattle.xa_sequencer.specs.Together.{CalledTogether};
+ghost use Rattle.xa_sequencer.specs.Together.{CalledTogether, Rests};
 
-use crate::associates::Associates;
+use crate::group_commits::GroupCommits;
 use crate::numbers::are_left;
 use crate::together::{hold_all, number_all};
-use std::alloc::AllocError;
 use std::fmt;
 use std::marker::{Model, PhantomData};
 use xa_assoc::ConnectFault;
+use xa_disk::{SyncAnswer, Syncer};
 use xa_frame::{Reply, Request, Status};
 use xa_manager::{Asked, connect_reply, memory_reply, reached_promises};
-use xa_room::{Manages, Start, is_memory, placed};
+use xa_room::{Start, is_memory, placed};
 
 /// A manager whose events are numbered, from 1 on. To a contract it is the manager as it is now, and the count.
 ///
@@ -26,29 +26,32 @@ use xa_room::{Manages, Start, is_memory, placed};
 /// entries are a legal history from there to a state that the manager stands for now. Each event that found its memory
 /// adds the one entry that it is, to whichever history the sequencer stood for. No entry is kept.
 #[derive(Drop)]
-pub struct Sequencer<M: Manages, S: Start> {
+pub struct Sequencer<M: GroupCommits, S: Start> {
     manager: M,
     count: u64,
     of: PhantomData<S>,
 }
 
-impl<M: Manages, S: Start> Model for Sequencer<M, S> {
+impl<M: GroupCommits, S: Start> Model for Sequencer<M, S> {
+    ghost use Rattle.xa_sequencer.specs.GroupCommits.{KeepsPending};
     ghost use Rattle.xa_sequencer.specs.Stands.{HasHistory, Numbered};
 
     ghost Value = { Numbered M };
 
     ghost view = { λ s. record { now = s.manager; count = s.count } };
 
-    ghost invariant = { λ s. HasHistory M.Manages S.start S.base (record { now = s.manager; count = s.count }) };
+    ghost invariant = { λ s. HasHistory M.manages S.start S.base (record { now = s.manager; count = s.count })
+        × KeepsPending M.manages M.has_its_group (M.pending s.manager) s.manager s.count };
 }
 
-impl<M: Manages, S: Start> Sequencer<M, S> {
+impl<M: GroupCommits, S: Start> Sequencer<M, S> {
     /// A sequencer with an empty history.
     pub fn new(manager: M) -> Sequencer<M, S>
-        requires start { (s : State) → S.start s → M.stands manager s }
-        requires base { M.failures manager ≡ S.base }
+        requires settled { M.pending manager ≡ None }
+        requires start { (s : State) → S.start s → M.manages.stands manager s }
+        requires base { M.manages.failures manager ≡ S.base }
         ensures is { result ≡ record { now = manager; count = 0 } }
-        ensures stands { Stands M.Manages S.start S.base result [] }
+        ensures stands { Stands M.manages S.start S.base result [] }
     {
         // a number is left for the hang-up of each
         let _sessions = manager.connected();
@@ -61,7 +64,9 @@ impl<M: Manages, S: Start> Sequencer<M, S> {
 
     /// Connects a session.
     pub fn connect(&mut self) -> Result<u64, ConnectFault>
-        ensures { Connected M.Manages S.start S.base self.old result self.new }
+        requires { M.pending self.old.now ≡ None }
+        ensures connected { Connected M.manages S.start S.base self.old result self.new }
+        ensures pending { M.pending self.new.now ≡ None }
     {
         // one more for its hang-up
         if !are_left(self.count, self.manager.connected(), 2) {
@@ -78,9 +83,11 @@ impl<M: Manages, S: Start> Sequencer<M, S> {
     /// Answers a request of a session. The reply has its number, unless memory was wanted: then it has none, and there
     /// is no entry.
     pub fn call(&mut self, session: u64, request: Request) -> Reply
-        requires { IsRequest request }
-        ensures called { Called M.Manages S.start S.base session self.old request result self.new }
+        requires settled { M.pending self.old.now ≡ None }
+        requires limits { IsRequest request }
+        ensures called { Called M.manages S.start S.base session self.old request result self.new }
         ensures limits { IsReply result }
+        ensures pending { M.pending self.new.now ≡ None }
     {
         request.hold();
         if !are_left(self.count, self.manager.connected(), 1) {
@@ -94,34 +101,96 @@ impl<M: Manages, S: Start> Sequencer<M, S> {
         placed(reply, self.count)
     }
 
-    /// Answers calls of sessions together, those that may share one append, and gives their replies, with their numbers,
-    /// in the order in which they were answered, each with the place of its call among those that were asked. Of a call
-    /// that has none nothing has been done: it is to be called by itself afterwards.
+    /// Answers a call of a session's work on a branch that is none of a pending group's, as `call`.
     ///
     /// # Errors
-    /// Out of memory, or there aren't numbers left for all calls: then no call was answered.
-    pub fn call_together(&mut self, calls: &[Asked]) -> Result<Vec<(usize, Reply)>, AllocError>
-        requires { AllByRecursion (λ c. IsRequest c.request) calls.now }
-        ensures ok { IfOk result (λ replies.
-            CalledTogether M.Manages S.start S.base self.old calls.now replies.items self.new) }
-        ensures told { IfOk result (λ replies. AllByRecursion (IsToldOf calls.now) replies.items) }
-        ensures once { IfOk result (λ replies. AreOnce replies.items) }
-        ensures err { OnErr result (CalledTogether M.Manages S.start S.base self.old calls.now [] self.new) }
+    /// Gives any other request back, and this one where there isn't a number left: it is to wait until the group is finished.
+    pub fn work(&mut self, session: u64, request: Request) -> Result<Reply, Request>
+        requires { IsRequest request }
+        ensures called { IfOk result (λ reply. Called M.manages S.start S.base session self.old request reply self.new) }
+        ensures limits { IfOk result IsReply }
+        ensures back { IfErr result (λ given. (given ≡ request) × (self.new ≡ self.old)) }
+        ensures pending { M.pending self.new.now ≡ M.pending self.old.now }
     {
-        hold_all(calls);
-        if !are_left(self.count, self.manager.connected(), calls.len() as u64) {
-            return Err(AllocError);
+        request.hold();
+        // the pending calls have theirs
+        let taken = self.count + self.manager.pending_calls();
+        if !are_left(taken, self.manager.connected(), 1) {
+            return Err(request);
         }
-        let mut replies = self.manager.call_together(calls)?;
+        let reply = self.manager.work(session, request)?;
+        if is_memory(&reply) {
+            return Ok(reply);
+        }
+        self.count += 1;
+        Ok(placed(reply, self.count))
+    }
+
+    /// Writes the records of those calls of sessions that may share one append: then they are a group that is pending, until
+    /// it is finished with the answer of the sync that the `syncer` makes. Meanwhile sessions work on (`work`).
+    ///
+    /// # Errors
+    /// Gives the calls back where none of them logs, out of memory, or where there aren't numbers left for all of them.
+    pub fn begin_group(&mut self, calls: Vec<Asked>) -> Result<(), Vec<Asked>>
+        requires settled { M.pending self.old.now ≡ None }
+        requires limits { AllByRecursion (λ c. IsRequest c.request) calls.items }
+        ensures rests { Rests M.manages S.start S.base self.old self.new }
+        ensures pending { OnOk result (M.pending self.new.now ≡ Some calls.items) }
+        ensures back { IfErr result (λ given. (given ≡ calls) × (M.pending self.new.now ≡ None)) }
+    {
+        hold_all(&calls);
+        let many = calls.len() as u64;
+        if !are_left(self.count, self.manager.connected(), many) {
+            return Err(calls);
+        }
+        self.manager.begin_group(calls)
+    }
+
+    /// What makes the sync of the pending group.
+    pub fn syncer(&self) -> Syncer {
+        self.manager.syncer()
+    }
+
+    /// Answers the calls of the pending group, by the answer of its sync. Gives their replies, with their numbers, in the
+    /// order in which they were answered, each with the place of its call among those that were asked, and the calls back.
+    /// Of a call that has no reply nothing has been done: it is to be called by itself afterwards.
+    ///
+    /// # Errors
+    /// Out of memory: gives the answer back, and the group is still pending.
+    pub fn finish_group(
+        &mut self,
+        answer: SyncAnswer,
+    ) -> Result<(Vec<(usize, Reply)>, Vec<Asked>), SyncAnswer>
+        requires { M.pending self.old.now ≢ None }
+        ensures ok { IfOk result (λ r.
+            CalledTogether M.manages S.start S.base self.old r.1.items r.0.items self.new) }
+        ensures calls { IfOk result (λ r. M.pending self.old.now ≡ Some r.1.items) }
+        ensures told { IfOk result (λ r. AllByRecursion (IsToldOf r.1.items) r.0.items) }
+        ensures once { IfOk result (λ r. AreOnce r.0.items) }
+        ensures limits { IfOk result (λ r. AllByRecursion (λ c. IsRequest c.request) r.1.items) }
+        ensures settled { OnOk result (M.pending self.new.now ≡ None) }
+        ensures err { OnErr result (Rests M.manages S.start S.base self.old self.new) }
+        ensures still { OnErr result (M.pending self.new.now ≡ M.pending self.old.now) }
+    {
+        let (mut replies, calls) = self.manager.finish_group(answer)?;
         number_all(&mut replies, self.count);
         self.count += replies.len() as u64;
-        Ok(replies)
+        Ok((replies, calls))
+    }
+
+    /// Whether no group is pending.
+    pub fn is_settled(&self) -> bool
+        ensures { result ≡ is_none (M.pending self.now.now) }
+    {
+        self.manager.is_settled()
     }
 
     /// Hangs a session up, and says whether it was connected.
     pub fn hangup(&mut self, session: u64) -> bool
-        ensures was { result ≡ M.has_session self.old.now session }
-        ensures left { Left M.Manages S.start S.base session self.old self.new }
+        requires { M.pending self.old.now ≡ None }
+        ensures was { result ≡ M.manages.has_session self.old.now session }
+        ensures left { Left M.manages S.start S.base session self.old self.new }
+        ensures pending { M.pending self.new.now ≡ None }
     {
         if !self.manager.is_connected(session) {
             return false;
@@ -133,7 +202,8 @@ impl<M: Manages, S: Start> Sequencer<M, S> {
 
     /// How the manager is doing, with how many events were numbered. Changes nothing, and has no number.
     pub fn status(&self) -> Status
-        ensures { Tells M.Manages self.now.now self.now.count result }
+        requires { M.pending self.now.now ≡ None }
+        ensures { Tells M.manages self.now.now self.now.count result }
     {
         Status {
             calls: self.count,
@@ -153,34 +223,36 @@ impl<M: Manages, S: Start> Sequencer<M, S> {
     /// recovery until its completion is asked for, and what was completed isn't until it is prepared again. It does
     /// nothing.
     pub fn promises(&self)
-        ensures history { HasHistory M.Manages S.start S.base self.now }
-        ensures promises { AllPromise M.Manages S.start S.base self.now }
+        ensures history { HasHistory M.manages S.start S.base self.now }
+        ensures promises { AllPromise M.manages S.start S.base self.now }
     {
         reached_promises();
         let _count = self.count;
     }
 }
 
-impl<M: Associates, S: Start> Sequencer<M, S> {
+impl<M: GroupCommits, S: Start> Sequencer<M, S> {
     ghost use Rattle.xa_sequencer.specs.Associates.{IsAssociated, IsLogEnd};
 
     /// Whether a session has an association of its own.
     pub fn has_association(&self, session: u64) -> bool
-        ensures { IsAssociated M.stands self.now.now session result }
+        requires { M.pending self.now.now ≡ None }
+        ensures { IsAssociated M.manages.stands self.now.now session result }
     {
         self.manager.has_association(session)
     }
 
     /// Where the log's next record begins, while the manager is up.
     pub fn log_end(&self) -> u64
-        ensures { IsLogEnd M.stands self.now.now result }
+        requires { M.pending self.now.now ≡ None }
+        ensures { IsLogEnd M.manages.stands self.now.now result }
     {
         self.manager.log_end()
     }
 }
 
 /// Shows how many events were numbered.
-impl<M: Manages, S: Start> fmt::Debug for Sequencer<M, S> {
+impl<M: GroupCommits, S: Start> fmt::Debug for Sequencer<M, S> {
     fn fmt<W: fmt::Write>(&self, f: &mut fmt::Formatter<W>) -> fmt::Result {
         f.debug_struct("Sequencer")
             .field("count", &self.count)

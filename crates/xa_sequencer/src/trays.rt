@@ -3,18 +3,19 @@ ghost use Rattle.std.specs.List.{AllByRecursion};
 ghost use Rattle.xa_sequencer.specs.Posted.{IsAnswerTo};
 
 use crate::answered::Answered;
+use crate::group_commits::GroupCommits;
 use crate::mail::{Mail, Sender};
 use std::alloc::{AllocError, Global};
 use xa_frame::Reply;
-use xa_room::{Manages, Start};
+use xa_room::Start;
 
 /// A tray for each thread that posts calls, with what these were answered.
 #[derive(Drop)]
-pub(crate) struct Trays<M: Manages, S: Start> {
+pub(crate) struct Trays<M: GroupCommits, S: Start> {
     all: Vec<Vec<Answered<M, S>>>,
 }
 
-impl<M: Manages, S: Start> Trays<M, S> {
+impl<M: GroupCommits, S: Start> Trays<M, S> {
     pub(crate) fn new(alloc: Global) -> Trays<M, S> {
         Trays {
             all: Vec::new(alloc),
@@ -40,7 +41,7 @@ impl<M: Manages, S: Start> Trays<M, S> {
 
     /// Puts the replies of a group into their senders' trays, where there is room, after which so many events are numbered.
     pub(crate) fn put_all(&mut self, mail: &Mail, replies: Vec<(usize, Reply)>, count: u64)
-        requires { AllByRecursion (IsAnswerTo M.Manages S.start S.base mail.now count) replies.items }
+        requires { AllByRecursion (IsAnswerTo M.manages S.start S.base mail.now count) replies.items }
     {
         for told in replies {
             self.put(mail, told, count);
@@ -49,7 +50,7 @@ impl<M: Manages, S: Start> Trays<M, S> {
 
     // The reply of a call, by its place in the mail.
     fn put(&mut self, mail: &Mail, told: (usize, Reply), count: u64)
-        requires { IsAnswerTo M.Manages S.start S.base mail.now count told }
+        requires { IsAnswerTo M.manages S.start S.base mail.now count told }
     {
         let (at, reply) = told;
         let Some(Sender { tray, place }) = mail.sender(at) else {

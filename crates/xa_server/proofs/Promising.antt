@@ -27,19 +27,16 @@ served_promises L disks m stands manager bodies name log_bytes begun base worker
     }
 
 -- the same of what loops served
-pub looped_promises : {D : Type 0} (disks : disk.Ghosts D) (m : Ghosts (Manager D))
-    → ((manager : Manager D) (s : State) → ManagerStandsFor disks manager s → m.stands manager s)
-    → LoopedPromises disks m
-looped_promises disks m stands manager bodies name log_bytes begun base loops told serves =
+pub looped_promises : {D : Type 0} (disks : disk.Ghosts D) → LoopedPromises disks
+looped_promises disks manager bodies name log_bytes begun base loops told serves =
     let opened = promised.begun_is_reached disks manager bodies name log_bytes begun in
-    let stood = stands manager opened.0 opened.2 in
     record {
       first = opened.0;
       opens = opened.1.opens;
-      stood = stood;
+      stood = opened.2;
       entries = serves.entries;
       calls_are = serves.calls_are;
       promised = λ trusted.
-          let after = serves.promises opened.0 stood opened.1.opens trusted in
+          let after = serves.promises opened.0 opened.2 opened.1.opens trusted in
           (after.0, after.1, after.3, after.4, after.5);
     }

@@ -15,6 +15,7 @@ use Rattle.xa_room.specs.declared.entry.Entry.{Entry}
 use Rattle.xa_room.specs.declared.manages.Manages.{Ghosts}
 use Rattle.xa_room.specs.Upholds.{IsLegal, IsCounted}
 use Rattle.xa_room.specs.Promises.{Promises}
+use Rattle.xa_sequencer.specs.GroupManager.{alone, manages_of}
 use Rattle.xa_sequencer.specs.Shared.{CalledBy, ConnectedBy, IsTold, LeftBy}
 use Rattle.xa_server.specs.declared.engine.Looped.{Looped}
 use Rattle.xa_server.specs.Serves.{KeepsServed}
@@ -74,9 +75,10 @@ pub record ServesByLoops {M : Type 0} (m : Ghosts M) (start : State → Type 0) 
 -- ---- law
 
 -- what loops served of a manager that was opened keeps the same as what workers do
-abbrev pub LoopedPromises : {D : Type 0} → disk.Ghosts D → Ghosts (Manager D) → Type 0
-LoopedPromises {D} disks m =
+abbrev pub LoopedPromises : {D : Type 0} → disk.Ghosts D → Type 0
+LoopedPromises {D} disks =
     (manager : Manager D) (bodies : List (List ℕ)) (name : List ℕ) (log_bytes : ℕ)
     → HasBegun disks bodies name log_bytes manager
-    → (base : ℕ × ℕ) (loops : ℕ) (told : Looped) → ServesByLoops m (m.stands manager) base loops told
-    → KeepsServed m manager told.calls
+    → (base : ℕ × ℕ) (loops : ℕ) (told : Looped)
+    → ServesByLoops (manages_of disks) ((manages_of disks).stands (alone manager)) base loops told
+    → KeepsServed (manages_of disks) (alone manager) told.calls

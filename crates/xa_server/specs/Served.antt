@@ -18,6 +18,7 @@ use Rattle.xa_model.specs.State.{State}
 use Rattle.xa_model.specs.Step.{step}
 use Rattle.xa_model.specs.Turn.{Reopened}
 use Rattle.xa_room.specs.declared.manages.Manages as room
+use Rattle.xa_sequencer.specs.GroupManager.{alone, manages_of}
 use Rattle.xa_server.specs.declared.at.At.{At}
 use Rattle.xa_server.specs.declared.at.At.TheVariants.{Port, Socket}
 use Rattle.xa_server.specs.declared.at.Listening.{Listening}
@@ -127,15 +128,16 @@ AreLoops (suc n) loops = loops ≡ suc n
 
 -- All was ready, and the manager's sessions were served by loops, from each state that it stood for. All is well, unless
 -- the manager is down and a server that is down was to end.
-pub record HasLooped {D R : Type 0} (disks : disk.Ghosts D) (m : room.Ghosts (Manager D)) (opened : D → List ℕ → Type 0)
-    (net : listens.Ghosts R) (service : LoopService) (is_well : Bool) : Type 0 where
+pub record HasLooped {D R : Type 0} (disks : disk.Ghosts D) (opened : D → List ℕ → Type 0) (net : listens.Ghosts R)
+    (service : LoopService) (is_well : Bool) : Type 0 where
   pub listener : Listening
   pub manager : Manager D
   pub ready : IsReady disks opened net service.log_bytes (loop_place_of service) listener manager
   pub loops : ℕ
   pub loops_are : AreLoops service.loops loops
   pub told : Looped
-  pub serves : ServesByLoops m (m.stands manager) (m.failures manager) loops told
+  pub serves : ServesByLoops (manages_of disks) ((manages_of disks).stands (alone manager))
+      ((manages_of disks).failures (alone manager)) loops told
   pub whole : told.is_whole ≡ true
   pub well : is_well ≡ not (service.ends_when_down && told.is_down)
 

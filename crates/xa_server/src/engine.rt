@@ -1,4 +1,4 @@
-ghost use Rattle.std.specs.Prelude.{◌≡◌, ◌↔◌, ◌+◌, ◌<◌, ◌≤◌, ◌⊎◌, ℕ, List, IfErr, IfOk, IsErrOf, length, map, sum_by};
+ghost use Rattle.std.specs.Prelude.{◌≡◌, ◌↔◌, ◌+◌, ◌<◌, ◌≤◌, ◌⊎◌, ℕ, List, None, IfErr, IfOk, IsErrOf, length, map, sum_by};
 ghost use Rattle.xa_model.specs.State.{State};
 ghost use Rattle.xa_server.specs.Loops.{AllLoop, Held, ServesByLoops};
 ghost use Rattle.xa_server.specs.declared.engine.TheConstants.{MOST_LOOPS};
@@ -13,8 +13,8 @@ use std::sync::Wait;
 use std::sync::ledger::{Blank, Ledger, Share};
 use std::thread::Threads;
 use xa_reactor::{Ended, Listener, LoopFault, Settings, Watch, run_loops};
-use xa_room::{Manages, Start};
-use xa_sequencer::{Associates, Sequencer, SharedSequencer};
+use xa_room::Start;
+use xa_sequencer::{GroupCommits, Sequencer, SharedSequencer};
 
 /// The most loops, and the parts of the ledger of which each takes some.
 pub const MOST_LOOPS: u64 = 16;
@@ -37,7 +37,7 @@ pub struct Looped {
 /// committed branches are one copy; and what was answered as prepared is listed until its completion is asked for. Each
 /// entry is of a session that a loop connected, answered and hung up.
 pub fn loop_manager<
-    M: Associates + Send + Drop,
+    M: GroupCommits + Send + Drop,
     R: AllocGlobal + Clock + Eprint + Net + Threads + Wait + Sync,
 >(
     rt: &R,
@@ -46,7 +46,8 @@ pub fn loop_manager<
     loops: u64,
     settings: Settings,
 ) -> Result<Looped, ServerFault>
-    ensures served { IfOk result (λ told. ServesByLoops M.Manages (M.stands manager) (M.failures manager) loops told) }
+    requires { M.pending manager ≡ None }
+    ensures served { IfOk result (λ told. ServesByLoops M.manages (M.manages.stands manager) (M.manages.failures manager) loops told) }
     ensures loops { IsErrOf result (ServerFault.Loops loops) ↔ ((loops ≡ 0) ⊎ (MOST_LOOPS < loops)) }
     ensures fault { IfErr result (λ fault. (fault ≡ ServerFault.Memory) ⊎ ((fault ≡ ServerFault.Wait)
         ⊎ (fault ≡ ServerFault.Loops loops))) }
@@ -57,7 +58,7 @@ pub fn loop_manager<
 
 // The same from the states that `S` picks, with the ledger that `L` picks.
 fn loop_by<
-    M: Associates + Send + Drop,
+    M: GroupCommits + Send + Drop,
     S: Start + Send + Sync,
     L: Ledger + Send + Sync,
     R: AllocGlobal + Clock + Eprint + Net + Threads + Wait + Sync,
@@ -69,11 +70,12 @@ fn loop_by<
     loops: u64,
     settings: Settings,
 ) -> Result<Looped, ServerFault>
-    requires start { (s : State) → S.start s → M.stands manager s }
-    requires base { M.failures manager ≡ S.base }
+    requires settled { M.pending manager ≡ None }
+    requires start { (s : State) → S.start s → M.manages.stands manager s }
+    requires base { M.manages.failures manager ≡ S.base }
     requires name { blank.name ≡ L.name }
     requires parts { (blank.parts ≡ L.parts) × (blank.parts ≡ MOST_LOOPS) }
-    ensures served { IfOk result (λ told. ServesByLoops M.Manages S.start S.base loops told) }
+    ensures served { IfOk result (λ told. ServesByLoops M.manages S.start S.base loops told) }
     ensures loops { IsErrOf result (ServerFault.Loops loops) ↔ ((loops ≡ 0) ⊎ (MOST_LOOPS < loops)) }
     ensures fault { IfErr result (λ fault. (fault ≡ ServerFault.Memory) ⊎ ((fault ≡ ServerFault.Wait)
         ⊎ (fault ≡ ServerFault.Loops loops))) }
@@ -102,7 +104,7 @@ fn loop_by<
 }
 
 // A post for each loop. Its share has one part, and the last one's what is left.
-fn make_posts<'a, M: Manages, S: Start, L: Ledger, R: AllocGlobal + Clock + Wait>(
+fn make_posts<'a, M: GroupCommits, S: Start, L: Ledger, R: AllocGlobal + Clock + Wait>(
     rt: &'a R,
     sequencer: &'a SharedSequencer<M, S, L>,
     watch: &'a Watch,
@@ -128,7 +130,7 @@ fn make_posts<'a, M: Manages, S: Start, L: Ledger, R: AllocGlobal + Clock + Wait
 
 // Runs a loop at each post. Their shares as one, and whether each loop could wait to its end.
 fn run_posts<
-    M: Associates + Send,
+    M: GroupCommits + Send,
     S: Start + Send + Sync,
     L: Ledger + Send + Sync,
     R: AllocGlobal + Clock + Eprint + Net + Threads + Wait + Sync,
@@ -142,7 +144,7 @@ fn run_posts<
     requires { 0 < length posts.items }
     ensures parts { IfOk result (λ all. all.0.parts ≡ sum_by (λ p. p.handle.share.parts) posts.entry.items) }
     ensures loops { IfOk result (λ all. (ended : List Held)
-        × AllLoop M.Manages S.start S.base
+        × AllLoop M.manages S.start S.base
         (map (λ p. (p.handle.share.parts, p.handle.share.amount)) posts.entry.items) ended
         × (sum_by (λ (s : Held). s.1) ended ≡ all.0.amount)) }
 {
@@ -151,7 +153,7 @@ fn run_posts<
 }
 
 // The shares of loops that ended, as one, and whether each could wait to its end.
-fn gather<M: Manages, S: Start, L: Ledger, R: Clock + Wait>(
+fn gather<M: GroupCommits, S: Start, L: Ledger, R: Clock + Wait>(
     ended: Vec<Ended<Post<'_, M, S, L, R>>>,
 ) -> (Share<L>, bool)
     requires { 0 < length ended.items }

@@ -16,5 +16,5 @@ pub fn served_promises<D: Disk, L: Ledger>()
 
 /// The same of what loops served.
 pub fn looped_promises<D: Disk>()
-    ensures { LoopedPromises D.Disk ⟦<Manager<D> as Manages>⟧ }
+    ensures { LoopedPromises D.Disk }
 {}

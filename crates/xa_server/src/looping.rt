@@ -14,9 +14,8 @@ use std::rt::Clock;
 use std::sync::Wait;
 use std::thread::{Threads, available_parallelism};
 use xa_disk::{Disk, Opens};
-use xa_manager::Manager;
 use xa_reactor::{Listener, Settings};
-use xa_room::Manages;
+use xa_sequencer::GroupManager;
 
 /// What is to be served by loops.
 #[derive(Clone, Copy, Debug, Drop)]
@@ -50,7 +49,7 @@ pub fn serve_loops<
     'a,
     R: AllocGlobal + Print + Eprint + Opens + Listens + Clock + Net + Threads + Wait + Sync,
 >(rt: &R, service: &LoopService<'a>) -> Result<bool, ServeFault<'a>>
-    ensures served { IfOk result (HasLooped ⟦<R::Disk as Disk>⟧ ⟦<Manager<R::Disk> as Manages>⟧ R.opened R.Listens
+    ensures served { IfOk result (HasLooped ⟦<R::Disk as Disk>⟧ R.opened R.Listens
         service.now) }
     ensures failed { IfErr result (LoopsHaveFailed ⟦<R::Disk as Disk>⟧ R.opened R.refused R.Listens
         service.now) }
@@ -78,7 +77,7 @@ pub fn serve_loops<
         trim_bytes: service.trim_bytes,
         log_bytes: service.log_bytes,
     };
-    let told = loop_manager(rt, listener, manager, loops, settings)?;
+    let told = loop_manager(rt, listener, GroupManager::new(manager), loops, settings)?;
     if !told.is_whole {
         return Err(ServeFault::Wait);
     }

@@ -11,8 +11,8 @@ use xa_assoc::ConnectFault;
 use xa_desk::Door;
 use xa_frame::{Reply, Request, Status};
 use xa_reactor::{Ask, Reception, Watch};
-use xa_room::{Manages, Start, Uptime};
-use xa_sequencer::{Answered, Associates, Handle, Held, SharedSequencer};
+use xa_room::{Start, Uptime};
+use xa_sequencer::{Answered, GroupCommits, Handle, Held, SharedSequencer};
 
 /// How often a loop lets others have the lock who wait for it, before it answers what they all have posted: what they ask
 /// meanwhile needn't wait for the device, and what they have posted shares its sync.
@@ -21,7 +21,7 @@ const LETS: u32 = 4;
 /// A loop's post: a door at a sequencer that the loops share, with the loop's share of what is counted. A watch sees
 /// each reply.
 #[derive(Drop)]
-pub(crate) struct Post<'a, M: Manages, S: Start, L: Ledger, R> {
+pub(crate) struct Post<'a, M: GroupCommits, S: Start, L: Ledger, R> {
     pub(crate) handle: Handle<'a, M, S, L, R>,
     watch: &'a Watch,
     rt: &'a R,
@@ -30,7 +30,7 @@ pub(crate) struct Post<'a, M: Manages, S: Start, L: Ledger, R> {
     logged: u64,
 }
 
-impl<'a, M: Manages, S: Start, L: Ledger, R: Clock + Wait> Post<'a, M, S, L, R> {
+impl<'a, M: GroupCommits, S: Start, L: Ledger, R: Clock + Wait> Post<'a, M, S, L, R> {
     ghost use Rattle.std.specs.Prelude.{◌≡◌, ◌<◌, All, IfOk};
     ghost use Rattle.xa_reactor.specs.Asking.{IsAnswered, TellsSome};
     ghost use Rattle.xa_server.specs.Loops.{Called};
@@ -60,7 +60,7 @@ impl<'a, M: Manages, S: Start, L: Ledger, R: Clock + Wait> Post<'a, M, S, L, R> 
     // Answers those that can't log, in order.
     fn answer_quick(&mut self, held: &mut Option<Held<'a, M, S, L>>, asks: &mut [Ask])
         requires { All IsWithin asks.old }
-        ensures { TellsSome (Called M.Manages S.start S.base) (self.old.handle.share.parts, self.old.handle.share.amount)
+        ensures { TellsSome (Called M.manages S.start S.base) (self.old.handle.share.parts, self.old.handle.share.amount)
             asks.old asks.new (self.new.handle.share.parts, self.new.handle.share.amount) }
     {
         for ask in asks.iter_mut() {
@@ -69,10 +69,10 @@ impl<'a, M: Manages, S: Start, L: Ledger, R: Clock + Wait> Post<'a, M, S, L, R> 
     }
 
     // Answers those that were posted, as far as whoever had the lock didn't, together with what other loops have posted:
-    // they share one write and one sync. Those that have no room with the others are left, and so are all where there is
-    // no memory.
+    // they share one write and one sync, for which the lock is let go. Those that have no room with the others are left,
+    // and so are all where there is no memory.
     fn answer_posted(&mut self, held: &mut Option<Held<'a, M, S, L>>, asks: &mut [Ask])
-        ensures { TellsSome (Called M.Manages S.start S.base) (self.old.handle.share.parts, self.old.handle.share.amount)
+        ensures { TellsSome (Called M.manages S.start S.base) (self.old.handle.share.parts, self.old.handle.share.amount)
             asks.old asks.new (self.new.handle.share.parts, self.new.handle.share.amount) }
     {
         // it is taken anew
@@ -80,8 +80,8 @@ impl<'a, M: Manages, S: Start, L: Ledger, R: Clock + Wait> Post<'a, M, S, L, R> 
         if !are_left(asks) {
             return;
         }
-        let mut lock = self.take_turn(asks);
-        self.answer_mail(&mut lock, asks);
+        let lock = self.take_turn(asks);
+        let lock = self.answer_mail(lock, asks);
         if are_left(asks) {
             *held = Some(lock);
         } else {
@@ -91,37 +91,46 @@ impl<'a, M: Manages, S: Start, L: Ledger, R: Clock + Wait> Post<'a, M, S, L, R> 
     }
 
     // Answers what all have posted, if some are left.
-    fn answer_mail(&mut self, held: &mut Held<'a, M, S, L>, asks: &mut [Ask])
-        ensures { TellsSome (Called M.Manages S.start S.base) (self.old.handle.share.parts, self.old.handle.share.amount)
+    fn answer_mail(&mut self, held: Held<'a, M, S, L>, asks: &mut [Ask]) -> Held<'a, M, S, L>
+        ensures { TellsSome (Called M.manages S.start S.base) (self.old.handle.share.parts, self.old.handle.share.amount)
             asks.old asks.new (self.new.handle.share.parts, self.new.handle.share.amount) }
     {
-        if are_left(asks) {
-            self.handle.answer_posted(held);
-            self.take_answers(held, asks);
+        if !are_left(asks) {
+            return held;
         }
+        let mut held = self.handle.answer_posted(held);
+        self.take_answers(&mut held, asks);
+        held
     }
 
-    // Takes the lock, and the answers that others gave. While some are left, others who wait for the lock come first, some
-    // times.
+    // Takes the lock when no group is pending, and the answers that others gave, or when none are left. While some are left,
+    // others who wait for the lock come first, some times.
     fn take_turn(&mut self, asks: &mut [Ask]) -> Held<'a, M, S, L>
-        ensures { TellsSome (Called M.Manages S.start S.base) (self.old.handle.share.parts, self.old.handle.share.amount)
+        ensures { TellsSome (Called M.manages S.start S.base) (self.old.handle.share.parts, self.old.handle.share.amount)
             asks.old asks.new (self.new.handle.share.parts, self.new.handle.share.amount) }
     {
-        for _ in 0..LETS {
+        let mut lets = 0u32;
+        for _ in self.rt.forever() {
             let mut held = self.handle.hold();
             self.take_answers(&mut held, asks);
-            if !are_left(asks) || !self.handle.is_wanted() {
+            if !are_left(asks) || self.has_turn(&held, lets) {
                 return held;
             }
             drop(held);
+            lets = lets.saturating_add(1);
             yield_now();
         }
-        self.handle.hold()
+        unreachable!()
+    }
+
+    // Whether it may begin a group, after it let others have the lock so often.
+    fn has_turn(&self, held: &Held<'a, M, S, L>, lets: u32) -> bool {
+        self.handle.is_settled(held) && (lets >= LETS || !self.handle.is_wanted())
     }
 
     // Takes the answers to what was posted.
     fn take_answers(&mut self, held: &mut Held<'a, M, S, L>, asks: &mut [Ask])
-        ensures { TellsSome (Called M.Manages S.start S.base) (self.old.handle.share.parts, self.old.handle.share.amount)
+        ensures { TellsSome (Called M.manages S.start S.base) (self.old.handle.share.parts, self.old.handle.share.amount)
             asks.old asks.new (self.new.handle.share.parts, self.new.handle.share.amount) }
     {
         for _ in 0..asks.len() {
@@ -139,7 +148,7 @@ impl<'a, M: Manages, S: Start, L: Ledger, R: Clock + Wait> Post<'a, M, S, L, R> 
         asks: &mut [Ask],
         answered: Answered<M, S>,
     )
-        ensures { TellsSome (Called M.Manages S.start S.base) (self.old.handle.share.parts, self.old.handle.share.amount)
+        ensures { TellsSome (Called M.manages S.start S.base) (self.old.handle.share.parts, self.old.handle.share.amount)
             asks.old asks.new (self.new.handle.share.parts, self.new.handle.share.amount) }
     {
         let place = answered.place();
@@ -155,7 +164,7 @@ impl<'a, M: Manages, S: Start, L: Ledger, R: Clock + Wait> Post<'a, M, S, L, R> 
         ask: &mut Ask,
         answered: Answered<M, S>,
     )
-        ensures { TellsAtMost (Called M.Manages S.start S.base)
+        ensures { TellsAtMost (Called M.manages S.start S.base)
             (self.old.handle.share.parts, self.old.handle.share.amount) ask.old ask.new
             (self.new.handle.share.parts, self.new.handle.share.amount) }
     {
@@ -174,7 +183,7 @@ impl<'a, M: Manages, S: Start, L: Ledger, R: Clock + Wait> Post<'a, M, S, L, R> 
     // Answers those that are left, one by one.
     fn answer_left(&mut self, held: &mut Option<Held<'a, M, S, L>>, asks: &mut [Ask])
         requires { All IsWithin asks.old }
-        ensures some { TellsSome (Called M.Manages S.start S.base)
+        ensures some { TellsSome (Called M.manages S.start S.base)
             (self.old.handle.share.parts, self.old.handle.share.amount) asks.old asks.new
             (self.new.handle.share.parts, self.new.handle.share.amount) }
         ensures none { All IsAnswered asks.new }
@@ -187,7 +196,7 @@ impl<'a, M: Manages, S: Start, L: Ledger, R: Clock + Wait> Post<'a, M, S, L, R> 
     // Answers an ask that can't log.
     fn answer_if_quick(&mut self, held: &mut Option<Held<'a, M, S, L>>, ask: &mut Ask)
         requires { IsWithin ask.old }
-        ensures { TellsAtMost (Called M.Manages S.start S.base)
+        ensures { TellsAtMost (Called M.manages S.start S.base)
             (self.old.handle.share.parts, self.old.handle.share.amount) ask.old ask.new
             (self.new.handle.share.parts, self.new.handle.share.amount) }
     {
@@ -201,10 +210,10 @@ impl<'a, M: Manages, S: Start, L: Ledger, R: Clock + Wait> Post<'a, M, S, L, R> 
     }
 
     // Answers an ask that is left. The next one goes on by the same lock, but not after a call that may have waited for the
-    // device: others have their turn first.
+    // device: others have their turn first. One that a pending group holds up waits until that is finished.
     fn answer(&mut self, held: &mut Option<Held<'a, M, S, L>>, ask: &mut Ask)
         requires { IsWithin ask.old }
-        ensures told { TellsAtMost (Called M.Manages S.start S.base)
+        ensures told { TellsAtMost (Called M.manages S.start S.base)
             (self.old.handle.share.parts, self.old.handle.share.amount) ask.old ask.new
             (self.new.handle.share.parts, self.new.handle.share.amount) }
         ensures gone { IsAnswered ask.new }
@@ -213,12 +222,20 @@ impl<'a, M: Manages, S: Start, L: Ledger, R: Clock + Wait> Post<'a, M, S, L, R> 
             let lets_go = may_log(&request);
             let is_restart = self.count(&request);
             let mut lock = self.lock(held);
-            ask.reply = self.handle.call_held(&mut lock, ask.session, request);
-            if lets_go {
-                drop(lock);
-                yield_now();
-            } else {
-                *held = Some(lock);
+            match self.handle.call_held(&mut lock, ask.session, request) {
+                Ok(reply) => {
+                    ask.reply = reply;
+                    if lets_go {
+                        drop(lock);
+                        yield_now();
+                    } else {
+                        *held = Some(lock);
+                    }
+                }
+                Err(request) => {
+                    drop(lock);
+                    ask.reply = self.handle.call(ask.session, request);
+                }
             }
             self.watch.see(is_restart, &ask.reply);
         }
@@ -255,15 +272,15 @@ impl<'a, M: Manages, S: Start, L: Ledger, R: Clock + Wait> Post<'a, M, S, L, R> 
     }
 }
 
-impl<M: Manages, S: Start, L: Ledger, R: Clock + Wait> Door for Post<'_, M, S, L, R> {
+impl<M: GroupCommits, S: Start, L: Ledger, R: Clock + Wait> Door for Post<'_, M, S, L, R> {
     ghost use Rattle.xa_server.specs.Loops.{Called, Left};
 
     ghost called = { λ session a question reply b.
-        Called M.Manages S.start S.base session (a.handle.share.parts, a.handle.share.amount) question reply
+        Called M.manages S.start S.base session (a.handle.share.parts, a.handle.share.amount) question reply
         (b.handle.share.parts, b.handle.share.amount) };
 
     ghost left = { λ session a b.
-        Left M.Manages S.start S.base session (a.handle.share.parts, a.handle.share.amount)
+        Left M.manages S.start S.base session (a.handle.share.parts, a.handle.share.amount)
         (b.handle.share.parts, b.handle.share.amount) };
 
     fn call(&mut self, session: u64, request: Request) -> Reply {
@@ -285,17 +302,17 @@ impl<M: Manages, S: Start, L: Ledger, R: Clock + Wait> Door for Post<'_, M, S, L
     }
 }
 
-impl<M: Associates, S: Start, L: Ledger, R: Clock + Wait> Reception for Post<'_, M, S, L, R> {
+impl<M: GroupCommits, S: Start, L: Ledger, R: Clock + Wait> Reception for Post<'_, M, S, L, R> {
     ghost use Rattle.xa_sequencer.specs.Associates.{AssociatedBy, EndedBy};
     ghost use Rattle.xa_server.specs.Loops.{Connected};
 
     ghost connected = { λ a result b.
-        Connected M.Manages S.start S.base (a.handle.share.parts, a.handle.share.amount) result
+        Connected M.manages S.start S.base (a.handle.share.parts, a.handle.share.amount) result
         (b.handle.share.parts, b.handle.share.amount) };
 
-    ghost associates = { λ _ session result. AssociatedBy M.Manages S.start S.base session result };
+    ghost associates = { λ _ session result. AssociatedBy M.manages S.start S.base session result };
 
-    ghost ends = { λ _ result. EndedBy M.Manages S.start S.base result };
+    ghost ends = { λ _ result. EndedBy M.manages S.start S.base result };
 
     fn connect(&mut self) -> Result<u64, ConnectFault> {
         self.handle.connect()
@@ -346,7 +363,7 @@ fn are_left(asks: &[Ask]) -> bool {
 }
 
 /// Shows the name alone.
-impl<M: Manages, S: Start, L: Ledger, R> fmt::Debug for Post<'_, M, S, L, R> {
+impl<M: GroupCommits, S: Start, L: Ledger, R> fmt::Debug for Post<'_, M, S, L, R> {
     fn fmt<W: fmt::Write>(&self, f: &mut fmt::Formatter<W>) -> fmt::Result {
         f.debug_struct("Post").finish_non_exhaustive()
     }

@@ -4,7 +4,8 @@
 //! - `desks`: what these tests begin with, a desk of a new room; `clients`: frames, and who sends them
 //! - `rooms`: receipts, shares and audits; `crews`: callers at once; `meetings`: sessions at once, over connections
 //! - `broken`: a connection that breaks; `broken_clients`: clients that break off
-//! - `sequencers`: what a sequencer numbers, for one thread and for two; `posted`: calls that two handles post
+//! - `sequencers`: what a sequencer numbers, for one thread and for two; `posted`: calls that two handles post;
+//!   `pending`: what is answered while a group is synced
 //! - `servers`: a manager behind a port answers as a play; `looped`: the same by event loops, with connections that are cut;
 //!   `statuses`: how both are doing
 //! - `refused`: worked rows, with the lines in `refused_rows`, and audits; `refused_limits`: limits; all whichever one
@@ -25,6 +26,8 @@ mod desks;
 mod looped;
 #[cfg(test)]
 mod meetings;
+#[cfg(test)]
+mod pending;
 #[cfg(test)]
 mod posted;
 #[cfg(test)]

@@ -8,6 +8,7 @@ use std::rt::Clock;
 use std::sync::Wait;
 use std::thread::{Threads, join};
 use xa_reactor::{Listener, Settings};
+use xa_sequencer::GroupManager;
 use xa_server::{Looped, ServerFault, loop_manager};
 
 // Event loops: what connections are answered, wherever they are cut, and which of them are closed.
@@ -61,7 +62,7 @@ fn looped<
     let manager = opened(alloc)?;
     let (told, talked) = join(
         rt,
-        || loop_manager(rt, listener, manager, 2, settings_of(2)),
+        || loop_manager(rt, listener, GroupManager::new(manager), 2, settings_of(2)),
         || talked(rt, alloc, address, script),
     );
     if is_told_by(told, calls) {
@@ -166,7 +167,7 @@ fn loops_serve_the_cut<
     let manager = opened(alloc)?;
     let (told, are_right) = join(
         rt,
-        || loop_manager(rt, listener, manager, 1, settings_of(18)),
+        || loop_manager(rt, listener, GroupManager::new(manager), 1, settings_of(18)),
         || are_right(rt, alloc, address),
     );
     // three events of each of the first sixteen, four of the next, and two of the one that is hung up

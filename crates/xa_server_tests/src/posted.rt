@@ -1,4 +1,4 @@
-ghost use Rattle.std.specs.Prelude.{◌≡◌, ◌<◌, IfSome};
+ghost use Rattle.std.specs.Prelude.{◌≡◌, ◌<◌, IfSome, None};
 ghost use Rattle.xa_frame.specs.Limits.{IsRequest};
 ghost use Rattle.xa_model.specs.State.{State};
 
@@ -10,12 +10,11 @@ use std::sync::ledger::{Blank, Ledger};
 use xa_codes::XA_OK;
 use xa_disk::MemDisk;
 use xa_frame::Request;
-use xa_manager::Manager;
-use xa_room::{Manages, Start};
+use xa_room::Start;
 use xa_script::{Line, read_line};
-use xa_sequencer::{Handle, Held, Sequencer, SharedSequencer};
+use xa_sequencer::{GroupCommits, GroupManager, Handle, Held, Sequencer, SharedSequencer};
 
-fn call_of(alloc: Global, line: &str) -> Option<(u64, Request)>
+pub fn call_of(alloc: Global, line: &str) -> Option<(u64, Request)>
     ensures { IfSome result (λ call. IsRequest call.1) }
 {
     match read_line(alloc, line.as_bytes()).ok()? {
@@ -25,7 +24,7 @@ fn call_of(alloc: Global, line: &str) -> Option<(u64, Request)>
 }
 
 // Whether each line is answered by 0.
-fn calls<M: Manages, S: Start, L: Ledger, R: Wait>(
+fn calls<M: GroupCommits, S: Start, L: Ledger, R: Wait>(
     alloc: Global,
     handle: &mut Handle<'_, M, S, L, R>,
     lines: &[&str],
@@ -34,12 +33,12 @@ fn calls<M: Manages, S: Start, L: Ledger, R: Wait>(
     for line in lines {
         let (session, request) = call_of(alloc, line)?;
         let mut held = handle.hold();
-        are_right &= handle.call_held(&mut held, session, request).code == XA_OK;
+        are_right &= handle.call_held(&mut held, session, request).ok()?.code == XA_OK;
     }
     Some(are_right)
 }
 
-fn posts<M: Manages, S: Start, L: Ledger, R: Wait>(
+fn posts<M: GroupCommits, S: Start, L: Ledger, R: Wait>(
     alloc: Global,
     handle: &Handle<'_, M, S, L, R>,
     place: usize,
@@ -51,7 +50,7 @@ fn posts<M: Manages, S: Start, L: Ledger, R: Wait>(
 }
 
 // The number of the next answer, if it is 0 to this line, at this place, and to no other session.
-fn takes<M: Manages, S: Start, L: Ledger, R: Wait>(
+fn takes<M: GroupCommits, S: Start, L: Ledger, R: Wait>(
     alloc: Global,
     handle: &mut Handle<'_, M, S, L, R>,
     held: &mut Held<'_, M, S, L>,
@@ -73,35 +72,45 @@ fn takes<M: Manages, S: Start, L: Ledger, R: Wait>(
 }
 
 // Two prepares that two handles post are answered together, by the one that has the lock.
-fn share<M: Manages, S: Start, L: Ledger, R: Wait>(
+fn share<M: GroupCommits, S: Start, L: Ledger, R: Wait>(
     alloc: Global,
     first: &mut Handle<'_, M, S, L, R>,
     second: &mut Handle<'_, M, S, L, R>,
 ) -> Option<bool> {
     posts(alloc, first, 3, "1 prepare TMNOFLAGS 1:aa:")?;
     posts(alloc, second, 5, "2 prepare TMNOFLAGS 1:bb:")?;
-    let mut held = second.hold();
-    second.answer_posted(&mut held);
+    let held = second.hold();
+    let mut held = second.answer_posted(held);
     let later = takes(alloc, second, &mut held, 5, "2 prepare TMNOFLAGS 1:bb:")?;
     let earlier = takes(alloc, first, &mut held, 3, "1 prepare TMNOFLAGS 1:aa:")?;
     let is_over = first.next_answer(&mut held).is_none() && second.next_answer(&mut held).is_none();
     Some(is_over && earlier == 11 && later == 12)
 }
 
-// A call that is posted alone is left to its handle.
-fn is_left<M: Manages, S: Start, L: Ledger, R: Wait>(
+// So is a call that is posted alone.
+fn is_alone<M: GroupCommits, S: Start, L: Ledger, R: Wait>(
     alloc: Global,
     handle: &mut Handle<'_, M, S, L, R>,
 ) -> Option<bool> {
     posts(alloc, handle, 0, "1 commit TMNOFLAGS 1:aa:")?;
-    let mut held = handle.hold();
-    handle.answer_posted(&mut held);
-    let is_left = handle.next_answer(&mut held).is_none();
-    drop(held);
-    Some(is_left && calls(alloc, handle, &["1 commit TMNOFLAGS 1:aa:"])?)
+    let held = handle.hold();
+    let mut held = handle.answer_posted(held);
+    let number = takes(alloc, handle, &mut held, 0, "1 commit TMNOFLAGS 1:aa:")?;
+    Some(number == 13 && handle.next_answer(&mut held).is_none())
 }
 
-fn answers<M: Manages, S: Start, L: Ledger, R: Wait>(
+// One that logs nothing is left to its handle.
+fn is_left<M: GroupCommits, S: Start, L: Ledger, R: Wait>(
+    alloc: Global,
+    handle: &mut Handle<'_, M, S, L, R>,
+) -> Option<bool> {
+    posts(alloc, handle, 0, "1 forget TMNOFLAGS 1:aa:")?;
+    let held = handle.hold();
+    let mut held = handle.answer_posted(held);
+    Some(handle.next_answer(&mut held).is_none())
+}
+
+fn answers<M: GroupCommits, S: Start, L: Ledger, R: Wait>(
     alloc: Global,
     first: &mut Handle<'_, M, S, L, R>,
     second: &mut Handle<'_, M, S, L, R>,
@@ -128,18 +137,20 @@ fn answers<M: Manages, S: Start, L: Ledger, R: Wait>(
         ],
     )?;
     let is_shared = share(alloc, first, second)?;
+    let is_alone = is_alone(alloc, first)?;
     let is_left = is_left(alloc, first)?;
-    Some(are_connected && is_ready && is_other_ready && is_shared && is_left)
+    Some(are_connected && is_ready && is_other_ready && is_shared && is_alone && is_left)
 }
 
-fn shares_both<M: Manages + Drop, S: Start, L: Ledger, R: Wait>(
+fn shares_both<M: GroupCommits + Drop, S: Start, L: Ledger, R: Wait>(
     rt: &R,
     alloc: Global,
     manager: M,
     blank: Blank,
 ) -> Option<bool>
-    requires start { (s : State) → S.start s → M.stands manager s }
-    requires base { M.failures manager ≡ S.base }
+    requires settled { M.pending manager ≡ None }
+    requires start { (s : State) → S.start s → M.manages.stands manager s }
+    requires base { M.manages.failures manager ≡ S.base }
     requires name { blank.name ≡ L.name }
     requires parts { (blank.parts ≡ L.parts) × (blank.parts ≡ 8) }
 {
@@ -158,10 +169,10 @@ fn shares_both<M: Manages + Drop, S: Start, L: Ledger, R: Wait>(
 #[test]
 fn posted_calls_share_an_append(rt: HostRuntime) {
     let manager = opened(rt.alloc()).expect(&rt, "a manager");
-    let found = shares_both::<Manager<MemDisk>, Brand, Brand, HostRuntime>(
+    let found = shares_both::<GroupManager<MemDisk>, Brand, Brand, HostRuntime>(
         &rt,
         rt.alloc(),
-        manager,
+        GroupManager::new(manager),
         Blank::new(PARTS),
     );
     assert!(rt; found == Some(true));

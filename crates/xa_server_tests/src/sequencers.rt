@@ -1,4 +1,4 @@
-ghost use Rattle.std.specs.Prelude.{◌≡◌, ◌<◌, IfSome};
+ghost use Rattle.std.specs.Prelude.{◌≡◌, ◌<◌, IfSome, None};
 ghost use Rattle.xa_frame.specs.Limits.{IsRequest};
 ghost use Rattle.xa_model.specs.State.{State};
 
@@ -13,9 +13,8 @@ use xa_desk::Door;
 use xa_disk::MemDisk;
 use xa_fields::Key;
 use xa_frame::Request;
-use xa_manager::Manager;
-use xa_room::{Manages, Start};
-use xa_sequencer::{Handle, Sequencer, SharedSequencer};
+use xa_room::Start;
+use xa_sequencer::{GroupCommits, GroupManager, Handle, Sequencer, SharedSequencer};
 
 fn get_request() -> Option<Request>
     ensures { IfSome result IsRequest }
@@ -24,43 +23,52 @@ fn get_request() -> Option<Request>
     Some(Request::Get { key })
 }
 
-fn opens_second<M: Manages, S: Start>(
-    alloc: Global,
+// Whether a call has this code and this number.
+fn calls<M: GroupCommits, S: Start>(
     sequencer: &mut Sequencer<M, S>,
     session: u64,
-) -> Option<bool> {
-    let request = open_request(alloc)?;
+    request: Request,
+    code: i32,
+    number: u64,
+) -> bool
+    requires { IsRequest request }
+{
+    if !sequencer.is_settled() {
+        return false;
+    }
     let reply = sequencer.call(session, request);
-    Some(reply.code == XA_OK && reply.place == 2)
+    reply.code == code && reply.place == number
 }
 
-fn is_refused_third<M: Manages, S: Start>(
-    alloc: Global,
-    sequencer: &mut Sequencer<M, S>,
-    session: u64,
-) -> Option<bool> {
-    let request = get_request()?;
-    let reply = Door::call(sequencer, session, request);
-    Some(reply.code == XAER_PROTO && reply.place == 3)
+fn connects<M: GroupCommits, S: Start>(sequencer: &mut Sequencer<M, S>) -> Option<u64> {
+    if !sequencer.is_settled() {
+        return None;
+    }
+    sequencer.connect().ok()
+}
+
+fn hangs_up<M: GroupCommits, S: Start>(sequencer: &mut Sequencer<M, S>, session: u64) -> bool {
+    sequencer.is_settled() && sequencer.hangup(session)
 }
 
 // A connect, an Open, a get outside a branch, and two hang-ups, of which the second is of nobody.
-fn numbers_each<M: Manages, S: Start>(
+fn numbers_each<M: GroupCommits, S: Start>(
     alloc: Global,
     sequencer: &mut Sequencer<M, S>,
 ) -> Option<bool> {
-    let session = sequencer.connect().ok()?;
-    let are_right = opens_second(alloc, sequencer, session) == Some(true)
-        && is_refused_third(alloc, sequencer, session) == Some(true)
-        && sequencer.hangup(session)
-        && !sequencer.hangup(session);
+    let session = connects(sequencer)?;
+    let are_right = calls(sequencer, session, open_request(alloc)?, XA_OK, 2)
+        && calls(sequencer, session, get_request()?, XAER_PROTO, 3)
+        && hangs_up(sequencer, session)
+        && !hangs_up(sequencer, session);
     sequencer.promises();
     Some(are_right && sequencer.count() == 4)
 }
 
-fn numbers_all<M: Manages + Drop, S: Start>(alloc: Global, manager: M) -> Option<bool>
-    requires start { (s : State) → S.start s → M.stands manager s }
-    requires base { M.failures manager ≡ S.base }
+fn numbers_all<M: GroupCommits + Drop, S: Start>(alloc: Global, manager: M) -> Option<bool>
+    requires settled { M.pending manager ≡ None }
+    requires start { (s : State) → S.start s → M.manages.stands manager s }
+    requires base { M.manages.failures manager ≡ S.base }
 {
     let mut sequencer: Sequencer<M, S> = Sequencer::new(manager);
     numbers_each(alloc, &mut sequencer)
@@ -69,7 +77,7 @@ fn numbers_all<M: Manages + Drop, S: Start>(alloc: Global, manager: M) -> Option
 #[test]
 fn a_sequencer_numbers_each_event(rt: HostRuntime) {
     let manager = opened(rt.alloc()).expect(&rt, "a manager");
-    let found = numbers_all::<Manager<MemDisk>, Brand>(rt.alloc(), manager);
+    let found = numbers_all::<GroupManager<MemDisk>, Brand>(rt.alloc(), GroupManager::new(manager));
     assert!(rt; found == Some(true));
 }
 
@@ -82,7 +90,7 @@ struct Part<L: Ledger> {
 }
 
 // A connect, an Open and a hang-up.
-fn opens<M: Manages, S: Start, L: Ledger, R: Wait>(
+fn opens<M: GroupCommits, S: Start, L: Ledger, R: Wait>(
     alloc: Global,
     handle: &mut Handle<'_, M, S, L, R>,
 ) -> Option<bool> {
@@ -92,7 +100,7 @@ fn opens<M: Manages, S: Start, L: Ledger, R: Wait>(
     Some(reply.code == XA_OK && reply.place > 1)
 }
 
-fn visit<M: Manages, S: Start, L: Ledger, R: Wait>(
+fn visit<M: GroupCommits, S: Start, L: Ledger, R: Wait>(
     rt: &R,
     alloc: Global,
     sequencer: &SharedSequencer<M, S, L>,
@@ -109,13 +117,14 @@ fn visit<M: Manages, S: Start, L: Ledger, R: Wait>(
 
 // Two visitors at once.
 fn counts_both<
-    M: Manages + Send + Drop,
+    M: GroupCommits + Send + Drop,
     S: Start + Send + Sync,
     L: Ledger + Send + Sync,
     R: Threads + Wait + Sync,
 >(rt: &R, alloc: Global, manager: M, blank: Blank) -> Option<bool>
-    requires start { (s : State) → S.start s → M.stands manager s }
-    requires base { M.failures manager ≡ S.base }
+    requires settled { M.pending manager ≡ None }
+    requires start { (s : State) → S.start s → M.manages.stands manager s }
+    requires base { M.manages.failures manager ≡ S.base }
     requires name { blank.name ≡ L.name }
     requires parts { (blank.parts ≡ L.parts) × (blank.parts ≡ 8) }
 {
@@ -135,10 +144,10 @@ fn counts_both<
 #[test]
 fn a_sequencer_is_shared(rt: HostRuntime) {
     let manager = opened(rt.alloc()).expect(&rt, "a manager");
-    let found = counts_both::<Manager<MemDisk>, Brand, Brand, HostRuntime>(
+    let found = counts_both::<GroupManager<MemDisk>, Brand, Brand, HostRuntime>(
         &rt,
         rt.alloc(),
-        manager,
+        GroupManager::new(manager),
         Blank::new(PARTS),
     );
     assert!(rt; found == Some(true));

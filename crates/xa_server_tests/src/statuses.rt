@@ -6,6 +6,7 @@ use std::net::{Net, TcpListener, TcpStream};
 use std::rt::Clock;
 use std::sync::Wait;
 use std::thread::{Threads, join};
+use xa_sequencer::GroupManager;
 use xa_server::{loop_manager, serve_manager};
 
 // How a server is doing, by loops and by workers.
@@ -59,7 +60,7 @@ fn loops_tell<
     let manager = opened(alloc)?;
     let (told, talked) = join(
         rt,
-        || loop_manager(rt, listener, manager, 2, settings_of(2)),
+        || loop_manager(rt, listener, GroupManager::new(manager), 2, settings_of(2)),
         || talked(rt, alloc, address, script.as_slice()),
     );
     let (printed, _) = talked?;

@@ -1,5 +1,8 @@
-use Rattle.std.proofs.Common.{ap, rules, Err}
+use Rattle.std.proofs.Common.{ap, rules, subst, Err}
 use Rattle.std.proofs.lemmas.Result.{err_from_is_err_and}
+use Rattle.xa_sequencer.specs.GroupManager.{manages_of}
+use Rattle.xa_sequencer.specs.declared.group_manager.GroupManager.{GroupManager}
+use Rattle.xa_server.specs.Loops.{ServesByLoops}
 use Rattle.xa_server.specs.Served.{NoLoops, loop_place_of}
 use Rattle.xa_server.proofs.Failing.{failed_early, loops_failed}
 use Rattle.xa_server.proofs.looping.serve_loops.Goals as goal
@@ -44,7 +47,11 @@ returns-in-Ok-println-clause-served g c = record {
   loops = c.loops_of-loops.result;
   loops_are = c.loops_of-loops.ensures;
   told = c.in_ok-told.told;
-  serves = c.in_ok-told.ensures.served;
+  serves = subst
+      (λ (x : GroupManager g.row.R-Disk.Denot). ServesByLoops (manages_of {D = g.row.R-Disk.Denot} g.R.Disk.Disk)
+      ((manages_of {D = g.row.R-Disk.Denot} g.R.Disk.Disk).stands x) ((manages_of {D = g.row.R-Disk.Denot} g.R.Disk.Disk).failures x)
+      c.loops_of-loops.result c.in_ok-told.told)
+      c.new.ensures c.in_ok-told.ensures.served;
   whole = search rules;
   well = search rules;
 }

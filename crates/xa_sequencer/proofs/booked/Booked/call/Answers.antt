@@ -5,7 +5,7 @@ use Rattle.xa_sequencer.proofs.booked.Booked.call.Goals as goal
 
 pub returns-then-is_memory-clause-called : goal.returns-then-is_memory-clause-called
 returns-then-is_memory-clause-called g c =
-    let m = g.M.Manages in
+    let m = g.M.GroupCommits.manages in
     let audit = c.audit.ensures in (
       inl (did_next m g.S.Start.start g.S.Start.base c.self.inside.sequencer c.call-reply.new.self _ _ _ (λ a b. Called m g.S.Start.start g.S.Start.base c.args.session a c.args.request c.call-reply.result b)
           c.promises.ensures.history c.self.invariant audit.bound c.call-reply.ensures.called),
@@ -14,7 +14,7 @@ returns-then-is_memory-clause-called g c =
 
 pub returns-clause-called : goal.returns-clause-called
 returns-clause-called g c =
-    let m = g.M.Manages in
+    let m = g.M.GroupCommits.manages in
     let audit = c.audit.ensures in (
       inl (did_next m g.S.Start.start g.S.Start.base c.self.inside.sequencer c.call-reply.new.self _ _ _ (λ a b. Called m g.S.Start.start g.S.Start.base c.args.session a c.args.request c.call-reply.result b)
           c.promises.ensures.history c.self.invariant audit.bound c.call-reply.ensures.called),

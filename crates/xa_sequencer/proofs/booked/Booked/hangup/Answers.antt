@@ -5,7 +5,7 @@ use Rattle.xa_sequencer.proofs.booked.Booked.hangup.Goals as goal
 
 pub returns-then-not-hangup : goal.returns-then-not-hangup
 returns-then-not-hangup g c =
-    let m = g.M.Manages in
+    let m = g.M.GroupCommits.manages in
     let audit = c.audit.ensures in (
       did_next m g.S.Start.start g.S.Start.base c.self.inside.sequencer c.hangup.new.self _ _ _
           (λ a b. (false ≡ m.has_session a.now c.args.session) × Left m g.S.Start.start g.S.Start.base c.args.session a b)
@@ -15,7 +15,7 @@ returns-then-not-hangup g c =
 
 pub returns : goal.returns
 returns g c =
-    let m = g.M.Manages in
+    let m = g.M.GroupCommits.manages in
     let audit = c.audit.ensures in (
       did_next m g.S.Start.start g.S.Start.base c.self.inside.sequencer c.hangup.new.self _ _ _
           (λ a b. (true ≡ m.has_session a.now c.args.session) × Left m g.S.Start.start g.S.Start.base c.args.session a b)

@@ -6,13 +6,14 @@ use Rattle.xa_model.specs.declared.event.Event.TheVariants.{Connect}
 use Rattle.xa_room.proofs.Longer.{connect_place, one_more}
 use Rattle.xa_room.specs.Book.{placed}
 use Rattle.xa_sequencer.proofs.Adding.{added, has_more, left_out, none_more, so_false}
+use Rattle.xa_sequencer.proofs.Keeping.{keeps_alone}
 use Rattle.xa_sequencer.specs.Numbers.{Connected}
 use Rattle.xa_sequencer.specs.Stands.{Numbered}
 use Rattle.xa_sequencer.proofs.sequencer.Sequencer.connect.Goals as goal
 
 pub invariant_of-self : goal.invariant_of-self
 invariant_of-self g c =
-    let m = g.M.Manages in
+    let m = g.M.GroupCommits.manages in
     let s = c.self.inside in
     let connect = c.connect-session.ensures in
     let result = c.connect-session.result in
@@ -21,11 +22,11 @@ invariant_of-self g c =
     let new : Numbered g.row.M.Denot = record { now = c.connect-session.new.self; count = s.count } in
     let leaves = left_out m g.S.Start.start g.S.Start.base old new Connect (connect_reply result) connect.acts found refl
     (none_more result (m.sessions s.manager) (m.sessions c.connect-session.new.self) found connect.sessions) in
-    has_more m g.S.Start.start g.S.Start.base old new _ leaves.goes_on c.self.invariant
+    keeps_alone m g.M.GroupCommits.has_its_group g.S.Start.start g.S.Start.base _ new (g.met.M.GroupCommits.needs_none new.now connect.pending) connect.pending (has_more m g.S.Start.start g.S.Start.base old new _ leaves.goes_on c.self.invariant.0)
 
 pub invariant_of-self-2 : goal.invariant_of-self-2
 invariant_of-self-2 g c =
-    let m = g.M.Manages in
+    let m = g.M.GroupCommits.manages in
     let s = c.self.inside in
     let connect = c.connect-session.ensures in
     let result = c.connect-session.result in
@@ -35,11 +36,11 @@ invariant_of-self-2 g c =
     let adds = added m g.S.Start.start g.S.Start.base old new Connect (connect_reply result) (placed (s.count + 1) (connect_reply result))
     connect.acts found (connect_place result) tt refl refl
     (omega (arith, c.if-not-are_left.ensures.left refl, c.connected.ensures, one_more result (m.sessions s.manager) (m.sessions c.connect-session.new.self) connect.sessions)) in
-    has_more m g.S.Start.start g.S.Start.base old new _ adds.goes_on c.self.invariant
+    keeps_alone m g.M.GroupCommits.has_its_group g.S.Start.start g.S.Start.base _ new (g.met.M.GroupCommits.needs_none new.now connect.pending) connect.pending (has_more m g.S.Start.start g.S.Start.base old new _ adds.goes_on c.self.invariant.0)
 
-pub returns : goal.returns
-returns g c =
-    let m = g.M.Manages in
+pub returns-clause-connected : goal.returns-clause-connected
+returns-clause-connected g c =
+    let m = g.M.GroupCommits.manages in
     let s = c.self.inside in
     let connect = c.connect-session.ensures in
     let result = c.connect-session.result in

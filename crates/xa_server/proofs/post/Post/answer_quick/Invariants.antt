@@ -4,5 +4,5 @@ use Rattle.xa_server.proofs.post.Post.answer_quick.Given as goal
 
 abbrev pub invariant-loop-ask : goal.invariant-loop-ask
 invariant-loop-ask g l =
-    TellsSome (Called g.M.Manages g.S.Start.start g.S.Start.base) (l.initial.self.handle.share.parts, l.initial.self.handle.share.amount) l.fn.asks l.asks
+    TellsSome (Called g.M.GroupCommits.manages g.S.Start.start g.S.Start.base) (l.initial.self.handle.share.parts, l.initial.self.handle.share.amount) l.fn.asks l.asks
     (l.self.handle.share.parts, l.self.handle.share.amount)

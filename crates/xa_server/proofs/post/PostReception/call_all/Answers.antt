@@ -11,13 +11,13 @@ answer_quick-requires g c = have_requests c.args.asks.now c.requires
 
 pub answer_left-requires : goal.answer_left-requires
 answer_left-requires g c =
-    left_within (Called g.M.Manages g.S.Start.start g.S.Start.base) c.answer_quick.new.asks c.answer_posted.new.asks _ _ c.answer_posted.ensures
-    (left_within (Called g.M.Manages g.S.Start.start g.S.Start.base) c.args.asks.now c.answer_quick.new.asks _ _ c.answer_quick.ensures
+    left_within (Called g.M.GroupCommits.manages g.S.Start.start g.S.Start.base) c.answer_quick.new.asks c.answer_posted.new.asks _ _ c.answer_posted.ensures
+    (left_within (Called g.M.GroupCommits.manages g.S.Start.start g.S.Start.base) c.args.asks.now c.answer_quick.new.asks _ _ c.answer_quick.ensures
     (have_requests c.args.asks.now c.requires))
 
 pub returns : goal.returns
 returns g c =
-    let called = Called g.M.Manages g.S.Start.start g.S.Start.base in
+    let called = Called g.M.GroupCommits.manages g.S.Start.start g.S.Start.base in
     let x = c.args.self.now in
     let asks : List Ask = c.args.asks.now in
     let some : asks ≢ [] = λ is. absurd (cc (sym c.if-is_empty.false ∙ (c.is_empty.ensures ∙ ap (λ (xs : List Ask). length xs == 0) is))) in

@@ -1,0 +1,232 @@
+-- A manager with the group that it has pending does what a sequencer asks.
+use Rattle.std.proofs.Common.{◌≡◌, ◌∙◌, ℕ, ◌+◌, ◌≤◌, ◌<◌, ◌⊎◌, inl, inr, Bool, true, false, List, [], ◌∷◌, Option, None, Some, Result, Ok, Err, IsSomeAnd, refl, sym, ap, subst, arith}
+use Rattle.std.specs.Prelude.{if◌then◌else◌, MatchBool}
+use Rattle.std.proofs.lemmas.Bool.Decides.{nat_tests}
+use Rattle.xa_assoc.specs.Refusals.{is_memory}
+use Rattle.xa_disk.specs.Counts.{plus, top}
+use Rattle.xa_disk.specs.declared.counts.Counts.{Counts}
+use Rattle.xa_disk.specs.declared.disk.Disk as disk
+use Rattle.xa_disk.specs.declared.disk.DiskFault.{DiskFault}
+use Rattle.xa_frame.specs.declared.reply.Reply.{Reply}
+use Rattle.xa_log.specs.Calls.{SettlesBy, WritesAhead}
+use Rattle.xa_log.specs.declared.log.Log.{Log}
+use Rattle.xa_manager.specs.Answered.{FullyAnswered, HasCalled, StaysFor, as_appended}
+use Rattle.xa_manager.specs.Counted.{RiseBy, counted_by, failures_in, failures_of_append}
+use Rattle.xa_manager.specs.LogStands.{Trusts}
+use Rattle.xa_manager.specs.Managed.{ManagerStandsFor}
+use Rattle.xa_manager.specs.Pending.{HasFinished, IsPending, IsPendingFrom, WorksBeside, WritesGroup}
+use Rattle.xa_manager.specs.Reserving.{HasReserved}
+use Rattle.xa_manager.specs.declared.manager.Manager.{Manager}
+use Rattle.xa_manager.specs.declared.pending.PendingGroup.{PendingGroup}
+use Rattle.xa_manager.specs.declared.together.Asked.{Asked}
+use Rattle.xa_manager.proofs.Counting.{none_by, rise_both}
+use Rattle.xa_manager.proofs.Reserved.{none_rises}
+use Rattle.xa_model.specs.Answer.{Answer}
+use Rattle.xa_model.specs.Events.{begins_boot}
+use Rattle.xa_model.specs.History.{Entry, Leads, joins}
+use Rattle.xa_model.specs.State.{State}
+use Rattle.xa_model.specs.Step.{step}
+use Rattle.xa_model.specs.Turn as turn
+use Rattle.xa_model.specs.declared.event.Event.{Event}
+use Rattle.xa_model.specs.declared.outcome.Appending.{Appending}
+use Rattle.xa_model.specs.declared.outcome.Appending.TheVariants.{Kept, Refused, Lost}
+use Rattle.xa_model.specs.declared.outcome.Outcome.TheVariants.{Appended, Quiet}
+use Rattle.xa_room.proofs.Managing.{acted}
+use Rattle.xa_room.proofs.Together.{all_told, all_unplaced, group_lost, group_told, rests}
+use Rattle.xa_sequencer.specs.GroupCommits.{ActsAs, AnswersAs, RestsAs}
+use Rattle.xa_sequencer.specs.declared.group_manager.GroupManager.{GroupManager}
+use Rattle.xa_sequencer.specs.GroupManager.{before_write, calls_in, counted_before, manages_of}
+
+-- ---- which group is pending
+
+pub none_of : (p : Option PendingGroup) → calls_in p ≡ None → p ≡ None
+none_of None e = refl
+none_of (Some f) e = absurd (cc e)
+
+-- what holds with these groups pending, before and afterwards
+at : (p q p' q' : Option PendingGroup) (P : Option PendingGroup → Option PendingGroup → Type 0) → p ≡ q → p' ≡ q' → P q q' → P p p'
+at p q p' q' P e e' h = subst (λ (x : Option PendingGroup). P x p') (sym e) (subst (λ (x : Option PendingGroup). P q x) (sym e') h)
+
+abbrev gr : {D : Type 0} → Manager D → Option PendingGroup → GroupManager D
+gr m p = record { manager = m; pending = p }
+
+-- ---- counts of failures
+
+rise_none : (x : ℕ × ℕ) → RiseBy 0 x x
+rise_none x = λ first second. (first, second, omega arith)
+
+-- what the count of a write's disk says of the one before it
+begin_one : (w : Result (Unit {0}) DiskFault) (more p q : ℕ) (c c' : Counts) → WritesAhead more w p q c c' → before_write w q < top → (p < top) × (p ≤ before_write w q)
+begin_one (Ok u) more p q c c' (inl h) lt = let e : q ≡ p = h.0 in (omega (arith, lt, e), omega (arith, e))
+begin_one (Ok u) more p q c c' (inr h) lt = let e : q ≡ plus p 1 = h.1 in (omega (arith, lt, e), omega (arith, lt, e))
+begin_one (Err v) more p q c c' (inl h) lt = let e : q ≡ plus p 1 = h.0 in (grind (arith, nat_tests, lt, e), grind (arith, nat_tests, lt, e))
+begin_one (Err v) more p q c c' (inr h) lt = let e : q ≡ plus (plus p 1) 1 = h.1 in (grind (arith, nat_tests, lt, e), grind (arith, nat_tests, lt, e))
+
+-- a failed write was counted
+some_failed : (v : DiskFault) (more p q : ℕ) (c c' : Counts) → WritesAhead {T = Unit {0}} more (Err v) p q c c' → 1 ≤ q
+some_failed v more p q c c' (inl h) = let e : q ≡ plus p 1 = h.0 in omega (arith, e)
+some_failed v more p q c c' (inr h) = let e : q ≡ plus (plus p 1) 1 = h.1 in omega (arith, e)
+
+-- what the count says that there is behind a group that was settled
+finish_one : (w : Result (Unit {0}) DiskFault) (a : Appending) (more p q r : ℕ) (c c' : Counts) → WritesAhead more w p q c c' → SettlesBy w (as_appended a) q r → r < top
+    → (before_write w q < top) × (before_write w q + failures_of_append a ≤ r)
+finish_one (Ok u) Kept more p q r c c' h x lt = let e : r ≡ q = x in (omega (arith, lt, e), omega (arith, e))
+finish_one (Ok u) Refused more p q r c c' h x lt = let e : q < r = x lt in (omega (arith, lt, e), omega (arith, e))
+finish_one (Ok u) Lost more p q r c c' h x lt = let e : q < r = x lt in (omega (arith, lt, e), omega (arith, e))
+finish_one (Err v) Kept more p q r c c' h x lt = absurd x
+finish_one (Err v) Refused more p q r c c' h x lt =
+    let e : r ≡ q = x in let one = some_failed v more p q c c' h in (grind (arith, nat_tests, lt, e), grind (arith, nat_tests, lt, e, one))
+finish_one (Err v) Lost more p q r c c' h x lt = let e : q < r = x lt in (grind (arith, nat_tests, lt, e), grind (arith, nat_tests, lt, e))
+
+-- of the two disks
+
+begin_sides : (b : Bool) (p o x : ℕ) → (x < top → (p < top) × (p ≤ x)) → RiseBy 0 (if b then p else o, if b then o else p) (if b then (x, o) else (o, x))
+begin_sides true p o x h = λ first second. let r = h first in (r.0, second, omega (arith, r.1))
+begin_sides false p o x h = λ first second. let r = h second in (first, r.0, omega (arith, r.1))
+
+finish_sides : (n : ℕ) (b : Bool) (x o r : ℕ) → (r < top → (x < top) × (x + n ≤ r)) → RiseBy n (if b then (x, o) else (o, x)) (if b then r else o, if b then o else r)
+finish_sides n true x o r h = λ first second. let y = h first in (y.0, second, omega (arith, y.1))
+finish_sides n false x o r h = λ first second. let y = h second in (first, y.0, omega (arith, y.1))
+
+either : {D : Type 0} (f : D → ℕ) (b : Bool) (x y : D) → f (if b then x else y) ≡ (if b then f x else f y)
+either f true x y = refl
+either f false x y = refl
+
+module _ {D : Type 0} (disks : disk.Ghosts D) where
+  abbrev F : D → ℕ
+  F = disks.failures
+
+  sides : (log : Log D) → counted_by F log ≡ (if log.on_first then F log.disk else F log.other, if log.on_first then F log.other else F log.disk)
+  sides log = λ i. (either F log.on_first log.disk log.other i, either F log.on_first log.other log.disk i)
+
+  wrote_rises : (m m' : Manager D) (f : PendingGroup) → WritesGroup disks m f m' → RiseBy 0 (counted_by F m.log) (counted_before F f m'.log)
+  wrote_rises m m' f w =
+      let log = w.log in
+      let h = w.written in
+      let first = none_by disks m.log log (none_rises disks m.log log w.reserved m.log (refl, refl)) in
+      let then_ : RiseBy 0 (counted_by F log) (if log.on_first then (before_write f.written.write (F m'.log.disk), F log.other) else (F log.other, before_write f.written.write (F m'.log.disk)))
+      = subst (λ (x : ℕ × ℕ). RiseBy 0 x (if log.on_first then (before_write f.written.write (F m'.log.disk), F log.other) else (F log.other, before_write f.written.write (F m'.log.disk)))) (sym (sides log))
+      (begin_sides log.on_first (F log.disk) (F log.other) (before_write f.written.write (F m'.log.disk)) (begin_one f.written.write _ (F log.disk) (F m'.log.disk) _ _ h.calls)) in
+      let same : counted_before F f m'.log ≡ (if log.on_first then (before_write f.written.write (F m'.log.disk), F log.other) else (F log.other, before_write f.written.write (F m'.log.disk)))
+      = λ i. if h.other.1 i then (before_write f.written.write (F m'.log.disk), F (h.other.0 i)) else (F (h.other.0 i), before_write f.written.write (F m'.log.disk)) in
+      rise_both 0 0 (counted_by F m.log) (counted_by F log) (counted_before F f m'.log) first (subst (λ (x : ℕ × ℕ). RiseBy 0 (counted_by F log) x) (sym same) then_)
+
+  finished_rises : (m m' : Manager D) (f : PendingGroup) (a : Appending) (log : Log D) (s : State) → IsPendingFrom disks log m f s → HasCalled disks (Appended a) log m'.log
+      → SettlesBy f.written.write (as_appended a) (F m.log.disk) (F m'.log.disk) → RiseBy (failures_of_append a) (counted_before F f m.log) (counted_by F m'.log)
+  finished_rises m m' f a log s fl called fails =
+      let h = fl.written in
+      let other : m'.log.other ≡ m.log.other = called.0 ∙ sym h.other.0 in
+      let side : m'.log.on_first ≡ m.log.on_first = called.1 ∙ sym h.other.1 in
+      let x = before_write f.written.write (F m.log.disk) in
+      let there : RiseBy (failures_of_append a) (counted_before F f m.log) (if m.log.on_first then F m'.log.disk else F m.log.other, if m.log.on_first then F m.log.other else F m'.log.disk)
+      = finish_sides (failures_of_append a) m.log.on_first x (F m.log.other) (F m'.log.disk) (finish_one f.written.write a _ (F log.disk) (F m.log.disk) (F m'.log.disk) _ _ h.calls fails) in
+      let same : counted_by F m'.log ≡ (if m.log.on_first then F m'.log.disk else F m.log.other, if m.log.on_first then F m.log.other else F m'.log.disk)
+      = sides m'.log ∙ (λ i. (if side i then F m'.log.disk else F (other i), if side i then F (other i) else F m'.log.disk)) in
+      subst (λ (y : ℕ × ℕ). RiseBy (failures_of_append a) (counted_before F f m.log) y) (sym same) there
+
+  -- ---- events, with no group pending
+
+  pub acted_alone : (old new : GroupManager D) (event : Event) (reply : Reply) → calls_in old.pending ≡ None → calls_in new.pending ≡ None
+      → FullyAnswered disks old.manager event reply new.manager → ActsAs (manages_of disks) old event reply new
+  acted_alone old new event reply e e' full =
+      let a = acted disks old.manager event reply new.manager full in
+      at old.pending None new.pending None (λ p p'. ActsAs (manages_of disks) (gr old.manager p) event reply (gr new.manager p')) (none_of old.pending e) (none_of new.pending e')
+      (record { answered = a.answered; pinned = a.pinned; called = a.called; crash = a.crash; counted = a.counted })
+
+  -- ---- a group begins
+
+  pub begun : (m m' : Manager D) (p : Option PendingGroup) (f : PendingGroup) → calls_in p ≡ None → ((s : State) → ManagerStandsFor disks m s → IsPending disks m' f s) → WritesGroup disks m f m'
+      → RestsAs (manages_of disks) (gr m p) (gr m' (Some f))
+  begun m m' p f e stays w =
+      at p None (Some f) (Some f) (λ x y. RestsAs (manages_of disks) (gr m x) (gr m' y)) (none_of p e) refl
+      (record { stays = stays; counted = wrote_rises m m' f w })
+
+  pub not_begun : (m m' : Manager D) (p : Option PendingGroup) → calls_in p ≡ None → StaysFor disks m m' → HasReserved disks m.log m'.log
+      → RestsAs (manages_of disks) (gr m p) (gr m' p)
+  not_begun m m' p e stays reserved =
+      let r = rests disks m m' stays reserved in
+      at p None p None (λ x y. RestsAs (manages_of disks) (gr m x) (gr m' y)) (none_of p e) (none_of p e) (record { stays = r.stays; counted = r.counted })
+
+  -- ---- work beside it
+
+  map_some : (o : Option Answer) (P Q : Answer → Type 0) → ((a : Answer) → P a → Q a) → IsSomeAnd o P → IsSomeAnd o Q
+  map_some None P Q f h = h
+  map_some (Some a) P Q f h = f a h
+
+  module _ (m m' : Manager D) (f : PendingGroup) (event : Event) (reply : Reply) (w : WorksBeside disks m f event reply m') where
+    same_counts : RiseBy 0 (counted_before F f m.log) (counted_before F f m'.log)
+    same_counts = subst (λ (l : Log D). RiseBy 0 (counted_before F f m.log) (counted_before F f l)) (sym w.log) (rise_none (counted_before F f m.log))
+
+    stays_by : (b : Bool)
+        → ((log : Log D) (s : State) → IsPendingFrom disks log m f s → MatchBool b (IsPendingFrom disks log m' f s)
+        (IsSomeAnd (step s (turn.Asked event) Quiet) (λ a. (a.reply ≡ reply) × IsPendingFrom disks log m' f a.after)))
+        → MatchBool b ((s : State) → IsPending disks m f s → IsPending disks m' f s)
+        ((s : State) → IsPending disks m f s → Trusts disks ⊎ (begins_boot event ≡ false)
+        → IsSomeAnd (step s (turn.Asked event) Quiet) (λ a. (a.reply ≡ reply) × IsPending disks m' f a.after))
+    stays_by true h = λ s st. (st.0, h st.0 s st.1)
+    stays_by false h = λ s st premise. map_some (step s (turn.Asked event) Quiet) _ _ (λ a x. (x.0, (st.0, x.1))) (h st.0 s st.1)
+
+    counts_by : (b : Bool) → MatchBool b ((s : State) → IsPending disks m f s → RiseBy 0 (counted_before F f m.log) (counted_before F f m'.log))
+        ((s : State) → IsPending disks m f s → Trusts disks ⊎ (begins_boot event ≡ false) → (joins Quiet ≡ false) × RiseBy (failures_in Quiet) (counted_before F f m.log) (counted_before F f m'.log))
+    counts_by true = λ s st. same_counts
+    counts_by false = λ s st premise. (refl, same_counts)
+
+    pub acted_beside : ActsAs (manages_of disks) (gr m (Some f)) event reply (gr m' (Some f))
+    acted_beside = record {
+      answered = stays_by (is_memory reply.detail) w.answered;
+      pinned = w.pinned;
+      called = λ served s st premise. w.log;
+      crash = λ served. w.crash;
+      counted = counts_by (is_memory reply.detail);
+    }
+
+  -- ---- it is finished
+
+  pub answered_group : (m m' : Manager D) (f : PendingGroup) (replies : List (ℕ × Reply)) → HasFinished disks m f replies m'
+      → AnswersAs (manages_of disks) (gr m (Some f)) f.calls.items replies (gr m' None)
+  answered_group m m' f [] h = absurd h
+  answered_group m m' f (r ∷ rs) h =
+      let first = h.0 in
+      let rest = h.1 in
+      let a = h.2 in
+      let are = h.3 in
+      let per = h.5 in (
+        a,
+        record {
+          told = all_told f.calls.items a (first ∷ rest) (r ∷ rs) are;
+          unplaced = all_unplaced f.calls.items a (first ∷ rest) (r ∷ rs) are;
+          leads = λ s st.
+              let x = (per st.0 s st.1).leads in
+              (x.0, subst (λ (es : List Entry). Leads s es x.0) (group_told s f.calls.items a first rest r rs are) x.1, x.2);
+          called = λ s st log s' fl. (per log s' fl).called;
+          crash = λ log s fl trusts.
+              let y = (per log s fl).crash trusts in
+              (y.0, subst (λ (es : List Entry). Leads s es y.0) (group_lost s f.calls.items a first rest r rs are) y.1, y.2);
+          counted = λ s st. finished_rises m m' f a st.0 s st.1 (per st.0 s st.1).called h.4;
+        },
+      )
+
+  pub not_finished : (m m' : Manager D) (f : PendingGroup) → ((log : Log D) (s : State) → IsPendingFrom disks log m f s → IsPendingFrom disks log m' f s) → m'.log ≡ m.log
+      → RestsAs (manages_of disks) (gr m (Some f)) (gr m' (Some f))
+  not_finished m m' f stays same = record {
+    stays = λ s st. (st.0, stays st.0 s st.1);
+    counted = subst (λ (l : Log D). RiseBy 0 (counted_before F f m.log) (counted_before F f l)) (sym same) (rise_none (counted_before F f m.log));
+  }
+
+  -- ---- the same, of a manager that has it pending
+
+  pub worked : (g : GroupManager D) (m' : Manager D) (f : PendingGroup) (event : Event) (reply : Reply) → g.pending ≡ Some f → WorksBeside disks g.manager f event reply m'
+      → ActsAs (manages_of disks) g event reply (gr m' (Some f))
+  worked g m' f event reply is w =
+      at g.pending (Some f) (Some f) (Some f) (λ x y. ActsAs (manages_of disks) (gr g.manager x) event reply (gr m' y)) is refl (acted_beside g.manager m' f event reply w)
+
+  pub finished : (g : GroupManager D) (m' : Manager D) (p' : Option PendingGroup) (f : PendingGroup) (calls : List Asked) (replies : List (ℕ × Reply)) → g.pending ≡ Some f → p' ≡ None → calls ≡ f.calls.items → HasFinished disks g.manager f replies m'
+      → AnswersAs (manages_of disks) g calls replies (gr m' p')
+  finished g m' p' f calls replies is none same h =
+      at g.pending (Some f) p' None (λ x y. AnswersAs (manages_of disks) (gr g.manager x) calls replies (gr m' y)) is none
+      (subst (λ (l : List Asked). AnswersAs (manages_of disks) (gr g.manager (Some f)) l replies (gr m' None)) (sym same) (answered_group g.manager m' f replies h))
+
+  pub unfinished : (g : GroupManager D) (m' : Manager D) (f f' : PendingGroup) → g.pending ≡ Some f → f' ≡ f → ((log : Log D) (s : State) → IsPendingFrom disks log g.manager f s → IsPendingFrom disks log m' f s) → m'.log ≡ g.manager.log
+      → RestsAs (manages_of disks) g (gr m' (Some f'))
+  unfinished g m' f f' is same stays log =
+      at g.pending (Some f) (Some f') (Some f) (λ x y. RestsAs (manages_of disks) (gr g.manager x) (gr m' y)) is (ap Some same) (not_finished g.manager m' f stays log)

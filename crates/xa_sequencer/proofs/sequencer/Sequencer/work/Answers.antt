@@ -1,0 +1,39 @@
+use Rattle.std.proofs.Common.{◌+◌, ◌∙◌, refl, sym, ap, subst, arith}
+use Rattle.xa_assoc.specs.Refusals.{is_memory}
+use Rattle.xa_frame.specs.declared.reply.Reply.{Reply}
+use Rattle.xa_model.specs.declared.event.Event.TheVariants.{Call}
+use Rattle.xa_sequencer.proofs.Adding.{added, has_more, so_false}
+use Rattle.xa_sequencer.proofs.Keeping.{keeps_more}
+use Rattle.xa_sequencer.specs.Numbers.{Called}
+use Rattle.xa_sequencer.specs.Stands.{Numbered}
+use Rattle.xa_sequencer.proofs.sequencer.Sequencer.work.Goals as goal
+
+pub invariant_of-self-2 : goal.invariant_of-self-2
+invariant_of-self-2 g c =
+    let m = g.M.GroupCommits.manages in
+    let s = c.self.inside in
+    let work = c.in_ok-reply.ensures in
+    let old : Numbered g.row.M.Denot = record { now = s.manager; count = s.count } in
+    let new : Numbered g.row.M.Denot = record { now = c.work.new.self; count = s.count + 1 } in
+    let left = c.if-not-are_left.ensures.left refl in
+    let adds = added m g.S.Start.start g.S.Start.base old new (Call c.args.session c.args.request) c.in_ok-reply.reply (record c.in_ok-reply.reply { place = s.count + 1 })
+    work.acts (sym c.if-is_memory.ensures) work.place (record { limits = c.requires; held = c.hold.ensures }) refl refl
+    (omega (arith, left, c.connected.ensures, c.pending_calls.ensures, work.sessions)) in (
+      has_more m g.S.Start.start g.S.Start.base old new _ adds.goes_on c.self.invariant.0,
+      keeps_more m g.M.GroupCommits.has_its_group (g.M.GroupCommits.pending s.manager) (g.M.GroupCommits.pending c.work.new.self) s.manager c.work.new.self s.count 1 work.group work.pending work.sessions
+          (omega (arith, left, c.connected.ensures, c.pending_calls.ensures)) c.self.invariant.1,
+    )
+
+pub returns-clause-called : goal.returns-clause-called
+returns-clause-called g c =
+    let m = g.M.GroupCommits.manages in
+    let s = c.self.inside in
+    let work = c.in_ok-reply.ensures in
+    let old : Numbered g.row.M.Denot = record { now = s.manager; count = s.count } in
+    let new : Numbered g.row.M.Denot = record { now = c.work.new.self; count = s.count + 1 } in
+    let served = sym c.if-is_memory.ensures in
+    let adds = added m g.S.Start.start g.S.Start.base old new (Call c.args.session c.args.request) c.in_ok-reply.reply c.placed.result
+    work.acts served work.place (record { limits = c.requires; held = c.hold.ensures }) c.placed.ensures refl
+    (omega (arith, c.if-not-are_left.ensures.left refl, c.connected.ensures, c.pending_calls.ensures, work.sessions)) in
+    subst (λ (o : Numbered g.row.M.Denot). Called m g.S.Start.start g.S.Start.base c.args.session o c.args.request c.placed.result new) c.self.view_is
+    (so_false _ _ (is_memory c.placed.result.detail) (ap (λ (r : Reply). is_memory r.detail) c.placed.ensures ∙ served) adds)

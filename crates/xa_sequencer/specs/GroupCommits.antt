@@ -1,0 +1,41 @@
+-- What a sequencer asks of a manager.
+use Rattle.std.specs.Prelude.{ℕ, ◌+◌, ◌≤◌, List, length, Option, None, Some}
+use Rattle.std.specs.List.{AllByRecursion}
+use Rattle.xa_frame.specs.declared.reply.Reply.{Reply}
+use Rattle.xa_manager.specs.declared.together.Asked.{Asked}
+use Rattle.xa_model.specs.Events.{IsAsked}
+use Rattle.xa_model.specs.declared.event.Event.{Event}
+use Rattle.xa_room.specs.Manages.{Acts}
+use Rattle.xa_room.specs.Together as room
+use Rattle.xa_room.specs.declared.manages.Manages.{Ghosts}
+use Rattle.xa_sequencer.specs.Stands.{most_numbers}
+
+-- an event, as a room's manager does it
+abbrev pub ActsAs : {M : Type 0} → Ghosts M → M → Event → Reply → M → Type 0
+ActsAs m old event reply new = Acts m.stands m.trusts m.told m.has_called m.crashes m.failures old event reply new
+
+-- calls that are answered together
+abbrev pub AnswersAs : {M : Type 0} → Ghosts M → M → List Asked → List (ℕ × Reply) → M → Type 0
+AnswersAs m old calls replies new =
+    room.AnswersTogether m.stands m.has_called m.crashes_together m.failures old calls replies new
+
+-- no call
+abbrev pub RestsAs : {M : Type 0} → Ghosts M → M → M → Type 0
+RestsAs m old new = room.Rests m.stands m.failures old new
+
+-- how many calls are pending
+abbrev pub pending_count : Option (List Asked) → ℕ
+pending_count None = 0
+pending_count (Some calls) = length calls
+
+abbrev pub ArePending : Option (List Asked) → Type 0
+ArePending None = Unit {0}
+ArePending (Some calls) = AllByRecursion (λ c. IsAsked c.request) calls
+
+-- It has what it needs to finish the pending group: each of its calls may happen, and there are numbers left for all of
+-- them, beside those for the hang-ups.
+pub record KeepsPending {M : Type 0} (m : Ghosts M) (has_its_group : M → Type 0) (pending : Option (List Asked))
+    (now : M) (count : ℕ) : Type 0 where
+  pub group : has_its_group now
+  pub asked : ArePending pending
+  pub reserved : count + m.sessions now + pending_count pending ≤ most_numbers

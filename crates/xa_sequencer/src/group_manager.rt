@@ -1,0 +1,124 @@
+ghost use Rattle.std.specs.Prelude.{◌≡◌, None};
+
+use crate::group_commits::GroupCommits;
+use std::fmt;
+use xa_assoc::ConnectFault;
+use xa_disk::{Disk, SyncAnswer, Syncer};
+use xa_frame::{Reply, Request, Status};
+use xa_manager::{Asked, Manager, PendingGroup};
+
+/// A manager with the group that it has pending.
+#[derive(Drop)]
+pub struct GroupManager<D: Disk> {
+    manager: Manager<D>,
+    pending: Option<PendingGroup>,
+}
+
+impl<D: Disk> GroupManager<D> {
+    /// With none pending.
+    pub fn new(manager: Manager<D>) -> GroupManager<D>
+        ensures { result ≡ record { manager = manager; pending = None } }
+    {
+        GroupManager {
+            manager,
+            pending: None,
+        }
+    }
+}
+
+impl<D: Disk> GroupCommits for GroupManager<D> {
+    ghost use Rattle.xa_sequencer.specs.GroupManager.{HasItsGroup, calls_in, has_none, manages_of};
+
+    ghost manages = { manages_of D.Disk };
+
+    ghost pending = { λ g. calls_in g.pending };
+
+    ghost has_its_group = { λ g. HasItsGroup g.manager g.pending };
+
+    ghost needs_none = { λ g none. has_none g.manager g.pending none };
+
+    fn connect(&mut self) -> Result<u64, ConnectFault> {
+        self.manager.connect()
+    }
+
+    fn call(&mut self, session: u64, request: Request) -> Reply {
+        self.manager.call(session, request)
+    }
+
+    fn hangup(&mut self, session: u64) {
+        self.manager.hangup(session);
+    }
+
+    fn begin_group(&mut self, calls: Vec<Asked>) -> Result<(), Vec<Asked>> {
+        self.pending = Some(self.manager.begin_group(calls)?);
+        Ok(())
+    }
+
+    fn syncer(&self) -> Syncer {
+        self.manager.syncer()
+    }
+
+    fn work(&mut self, session: u64, request: Request) -> Result<Reply, Request> {
+        let GroupManager { manager, pending } = self;
+        match pending {
+            Some(group) => manager.work(group, session, request),
+            None => Err(request),
+        }
+    }
+
+    fn finish_group(
+        &mut self,
+        answer: SyncAnswer,
+    ) -> Result<(Vec<(usize, Reply)>, Vec<Asked>), SyncAnswer> {
+        let Some(group) = self.pending.take() else {
+            unreachable!()
+        };
+        match self.manager.finish_group(group, answer) {
+            Ok(finished) => Ok(finished),
+            Err((group, answer)) => {
+                self.pending = Some(group);
+                Err(answer)
+            }
+        }
+    }
+
+    fn is_settled(&self) -> bool {
+        self.pending.is_none()
+    }
+
+    fn pending_calls(&self) -> u64 {
+        match &self.pending {
+            Some(group) => group.calls().len() as u64,
+            None => 0,
+        }
+    }
+
+    fn is_connected(&self, session: u64) -> bool {
+        self.manager.is_connected(session)
+    }
+
+    fn connected(&self) -> u64 {
+        self.manager.connected()
+    }
+
+    fn status(&self) -> Status {
+        self.manager.status()
+    }
+
+    fn has_association(&self, session: u64) -> bool {
+        self.manager.has_association(session)
+    }
+
+    fn log_end(&self) -> u64 {
+        self.manager.log_end()
+    }
+}
+
+/// Shows whether a group is pending.
+impl<D: Disk> fmt::Debug for GroupManager<D> {
+    fn fmt<W: fmt::Write>(&self, f: &mut fmt::Formatter<W>) -> fmt::Result {
+        f.debug_struct("GroupManager")
+            .field("is_settled", &self.pending.is_none())
+            .finish_non_exhaustive()
+    }
+}
