@@ -1,5 +1,5 @@
 //! One loop.
-ghost use Rattle.std.specs.Prelude.{◌≡◌, IsTrue};
+ghost use Rattle.std.specs.Prelude.{◌≡◌};
 ghost use Rattle.mio.specs.Events.{capacity};
 ghost use Rattle.xa_reactor.specs.Peers.{HasRoom};
 ghost use Rattle.xa_reactor.specs.Tending.{HasTended, Tends, sessions_of};
@@ -203,8 +203,8 @@ impl Loop {
             .open_more(peers, round, &mut self.tools.scratch, door, turns);
     }
 
-    // While requests wait for a device at which another loop is, opens the turns of those that have one by now: what they
-    // ask is answered with the rest. Whether a connection waits to be accepted.
+    // While requests wait for a device at which another loop is, answers those that don't, and opens the turns of those that
+    // have one by then: what they ask of the device is answered with the rest. Whether a connection waits to be accepted.
     fn gather<D: Reception>(&mut self, alloc: Global, peers: &mut Peers, door: &mut D) -> bool
         requires { HasLent (sessions_of peers.old.all) self.old.tools.together }
         ensures tends { Tends D.connected D.called D.left (sessions_of peers.old.all) door.old (sessions_of peers.new.all) door.new }
@@ -212,10 +212,10 @@ impl Loop {
     {
         let mut accepts = false;
         for _ in 0..GATHERS {
-            if !self.may_gather(peers, door) {
+            if !self.is_held_up(door) {
                 return accepts;
             }
-            let Ok(told) = self.gather_once(alloc, peers, door) else {
+            let Ok(told) = self.linger_once(alloc, peers, door) else {
                 // the next wait fails too
                 return accepts;
             };
@@ -224,12 +224,9 @@ impl Loop {
         accepts
     }
 
-    // Whether there is something to gather for, and room for the turns that events make.
-    fn may_gather<D: Reception>(&self, peers: &mut Peers, door: &D) -> bool
-        ensures same { peers.new.all ≡ peers.old.all }
-        ensures room { IsTrue result → HasRoom peers.new (capacity self.now.events) }
-    {
-        self.tools.together.waits() && !door.is_free() && peers.reserve(self.events.capacity())
+    // Whether there are requests that may wait for the device, and another loop is at it.
+    fn is_held_up<D: Reception>(&self, door: &D) -> bool {
+        self.tools.together.waits() && !door.is_free()
     }
 
     // While requests are to be answered that may wait for a device, answers those that don't, and opens the turns of those
