@@ -1,12 +1,9 @@
 ghost use Rattle.std.specs.Prelude.{◌≡◌, ◌<◌, ◌^◌, IfOk};
 ghost use Rattle.xa_frame.specs.Limits.{Holds, HoldsCursor};
-ghost use Rattle.xa_xid.specs.Triple.{IsWithinLimits};
 
 use crate::known_branch::KnownBranch;
 use crate::request::Request;
-use arrayvec::ArrayVec;
 use std::alloc::{AllocError, Global};
-use xa_limits::XID_BYTES;
 use xa_xid::Xid;
 
 impl Request {
@@ -87,9 +84,9 @@ impl Request {
             | Request::Rollback { flags, xid }
             | Request::Forget { flags, xid } => {
                 hold_number(*flags);
-                hold_name(xid);
+                xid.hold();
             }
-            Request::Decide { xid, .. } | Request::Doom { xid } => hold_name(xid),
+            Request::Decide { xid, .. } | Request::Doom { xid } => xid.hold(),
             Request::Timeout { seconds } => hold_number(*seconds),
             Request::Tick { moment } => hold_moment(*moment),
             Request::Branches { count, after } => {
@@ -143,19 +140,11 @@ fn hold_moment(moment: u64)
     let _moment = moment;
 }
 
-/// What an XID holds.
-fn hold_name(xid: &Xid)
-    ensures { IsWithinLimits xid.now }
-{
-    let mut bytes: ArrayVec<u8, XID_BYTES> = ArrayVec::new();
-    xid.put(&mut bytes);
-}
-
 /// What an XID holds, if there is one.
 fn hold_cursor(after: &Option<Xid>)
     ensures { HoldsCursor after.now }
 {
     if let Some(xid) = after {
-        hold_name(xid);
+        xid.hold();
     }
 }

@@ -1,6 +1,6 @@
-ghost use Rattle.std.specs.Prelude.{◌≡◌, ◌≢◌, ◌↔◌, IfOk, IsOk, ◌≤◌, length};
+ghost use Rattle.std.specs.Prelude.{◌≡◌, ◌≢◌, ◌↔◌, IfOk, IsOk, ◌≤◌, ◌<◌, length, All};
 ghost use Rattle.xa_xid.specs.Fault.{xid_of};
-ghost use Rattle.xa_xid.specs.Triple.{IsXid};
+ghost use Rattle.xa_xid.specs.Triple.{IsXid, IsWithinLimits};
 ghost use Rattle.xa_limits.specs.declared.TheConstants.{MOST_PART};
 ghost use Rattle.xa_xid.specs.declared.xid.TheConstants.{NULL_FORMAT};
 
@@ -93,6 +93,15 @@ impl Xid {
         self.bqual.as_slice()
     }
 
+    /// What the types of its parts hold, for a proof. It does nothing.
+    pub fn hold(&self)
+        ensures { IsWithinLimits self.now }
+    {
+        let _format = self.format();
+        hold_bytes(self.gtrid());
+        hold_bytes(self.bqual());
+    }
+
     /// A copy. Takes no memory.
     pub fn copied(&self) -> Xid
         ensures { result ≡ self.now }
@@ -112,6 +121,13 @@ fn held(bytes: &[u8]) -> ArrayVec<u8, MOST_PART>
     let mut all: ArrayVec<u8, MOST_PART> = ArrayVec::new();
     let _ = all.try_extend_from_slice(bytes);
     all
+}
+
+// What bytes hold.
+fn hold_bytes(bytes: &[u8])
+    ensures { All (λ b. b < 256) bytes.now }
+{
+    let _bytes = bytes;
 }
 
 impl PartialEq for Xid {
