@@ -7,10 +7,10 @@
 //! - `peer`: a connection with its socket, and its turn; `peers`: those of a loop, whose turns come one behind the other
 //! - `ask`: a request that a connection brought in; `together`: the turns of a round, with one call at the door for all
 //!   requests that wait for no device, whose replies are sent then, and another for the rest
-//! - `tending`: a loop, round by round (`round`, `timing`, `clock`): while another loop holds up its answers, it takes in
-//!   more requests, and for a while before it waits for a device (`patience`); `beside`: what it does between rounds;
-//!   `noticing`: what events tell it; `acceptor`: the one that accepts; `common`: what the loops share, with a `mailbox`
-//!   for each
+//! - `tending`: a loop, round by round (`round`, `timing`, `clock`, `tools`): while another loop holds up its answers, it
+//!   takes in more requests, and for a while before it waits for a device (`patience`); `beside`: what it does between
+//!   rounds; `noticing`: what events tell it; `acceptor`: the one that accepts; `common`: what the loops share, with a
+//!   `mailbox` for each
 //! - `trims`: when the log is trimmed; `trimming`: by which session; `trimmed`: what became of that
 //! - `laws`: `trims_are_due`, `trims_are_told`, worked rows
 #![tactic(auto)]
@@ -35,6 +35,7 @@ mod socket;
 mod tending;
 mod timing;
 mod together;
+mod tools;
 mod trimmed;
 mod trimming;
 mod trims;

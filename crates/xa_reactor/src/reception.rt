@@ -40,6 +40,12 @@ pub trait Reception: Door {
     /// Whether a request would be answered now, without waiting for other doors. A hint.
     fn is_free(&self) -> bool;
 
+    /// After how many groups of requests of all doors a request has its reply that is posted now. A hint.
+    fn due(&self) -> u64;
+
+    /// Whether so many groups were answered. A hint.
+    fn is_due(&self, groups: u64) -> bool;
+
     /// Whether a session has an association of its own with a branch: it is at work for it, or has suspended that.
     fn has_association(&self, session: u64) -> bool
         ensures { associates self.now session result };

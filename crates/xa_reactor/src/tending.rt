@@ -10,12 +10,11 @@ use crate::beside::{accept, begin, goes_on, look, take_in, tell, wait_for};
 use crate::clock::LoopClock;
 use crate::common::Common;
 use crate::noticing::{note_all, notice_all};
-use crate::patience::Patience;
 use crate::peers::Peers;
 use crate::reception::Reception;
 use crate::round::Round;
-use crate::timing::{COMPANY, FEW_EVENTS, GATHERS, looks_of};
-use crate::together::Together;
+use crate::timing::{COMPANY, FEW_EVENTS, GATHERS, gather_wait, looks_of};
+use crate::tools::{Tools, give_each};
 use crate::trimming::{begin_trims, keep_short};
 use mio::{Events, Poll};
 use std::alloc::Global;
@@ -24,7 +23,6 @@ use std::rt::Clock;
 use std::sync::Wait;
 use std::thread::yield_now;
 use std::time::Duration;
-use xa_connection::MOST_INPUT;
 
 /// How many events one wait gives at most.
 const MOST_EVENTS: usize = 256;
@@ -71,17 +69,6 @@ fn run<D: Reception, R: AllocGlobal + Clock + Eprint + Wait>(
     unreachable!()
 }
 
-/// What the turns of connections use.
-#[derive(Drop)]
-struct Tools {
-    /// What a read fills.
-    scratch: Vec<u8>,
-    together: Together,
-    patience: Patience,
-    /// How many calls had been logged when the log's end was asked for.
-    seen: u64,
-}
-
 /// What a loop has beside its connections.
 #[derive(Drop)]
 struct Loop {
@@ -94,6 +81,8 @@ struct Loop {
     acceptor: Option<Acceptor>,
     /// Whether the last wait gave events, and few.
     had_few: bool,
+    /// After how many groups the requests of a round have their replies that were posted first.
+    due: u64,
 }
 
 impl Loop {
@@ -108,15 +97,11 @@ impl Loop {
             index,
             poll,
             events: Events::with_capacity(rt.alloc(), MOST_EVENTS)?,
-            tools: Tools {
-                scratch: Vec::from_elem(rt.alloc(), 0u8, MOST_INPUT)?,
-                together: Together::new(rt.alloc()),
-                patience: Patience::new(),
-                seen: 0,
-            },
+            tools: Tools::new(rt.alloc())?,
             clock: LoopClock::new(rt)?,
             acceptor,
             had_few: false,
+            due: 0,
         })
     }
 
@@ -181,13 +166,14 @@ impl Loop {
         ensures tends { Tends D.connected D.called D.left (sessions_of peers.old.all) door.old (sessions_of peers.new.all) door.new }
         ensures over { IsOver self.new.tools.together }
     {
+        self.due = door.due();
         self.open_turns(rt.alloc(), peers, door);
         let gathered = self.gather(rt.alloc(), peers, door);
-        let lingered = self.linger(rt.alloc(), peers, door);
+        let more = self.gather_more(rt.alloc(), peers, door);
         let round = Round::new(&self.poll, rt.alloc(), self.clock.now);
         self.tools.together.close_all(peers, round, door);
         keep_short(rt, common, door, round.now, &mut self.tools.seen);
-        gathered | lingered
+        gathered | more
     }
 
     // Opens the turns of those that have one.
@@ -211,11 +197,11 @@ impl Loop {
         ensures lent { HasLent (sessions_of peers.new.all) self.new.tools.together }
     {
         let mut accepts = false;
-        for _ in 0..GATHERS {
+        for looks in 0..GATHERS {
             if !self.is_held_up(door) {
                 return accepts;
             }
-            let Ok(told) = self.linger_once(alloc, peers, door) else {
+            let Ok(told) = self.linger_once(alloc, peers, door, gather_wait(looks)) else {
                 // the next wait fails too
                 return accepts;
             };
@@ -224,9 +210,22 @@ impl Loop {
         accepts
     }
 
-    // Whether there are requests that may wait for the device, and another loop is at it.
+    // Whether there are requests that may wait for the device, another loop is at it, and none of them can have been answered
+    // yet.
     fn is_held_up<D: Reception>(&self, door: &D) -> bool {
-        self.tools.together.waits() && !door.is_free()
+        self.tools.together.waits() && !door.is_free() && !door.is_due(self.due)
+    }
+
+    // Looks for more requests, and gathers again where another loop has gone to the device meanwhile. Whether a connection waits
+    // to be accepted.
+    fn gather_more<D: Reception>(&mut self, alloc: Global, peers: &mut Peers, door: &mut D) -> bool
+        requires { HasLent (sessions_of peers.old.all) self.old.tools.together }
+        ensures tends { Tends D.connected D.called D.left (sessions_of peers.old.all) door.old (sessions_of peers.new.all) door.new }
+        ensures lent { HasLent (sessions_of peers.new.all) self.new.tools.together }
+    {
+        let lingered = self.linger(alloc, peers, door);
+        let gathered = self.gather(alloc, peers, door);
+        lingered | gathered
     }
 
     // While requests are to be answered that may wait for a device, answers those that don't, and opens the turns of those
@@ -274,7 +273,7 @@ impl Loop {
             if !self.may_linger(peers) {
                 return (accepts, came);
             }
-            let Ok(told) = self.linger_once(alloc, peers, door) else {
+            let Ok(told) = self.linger_once(alloc, peers, door, Duration::ZERO) else {
                 // the next wait fails too
                 return (accepts, came);
             };
@@ -289,12 +288,13 @@ impl Loop {
         peers.len() >= COMPANY && self.tools.together.may_grow(peers.len())
     }
 
-    // Answers the requests that wait for no device, and looks for events once.
+    // Answers the requests that wait for no device, and looks for events once, for so long.
     fn linger_once<D: Reception>(
         &mut self,
         alloc: Global,
         peers: &mut Peers,
         door: &mut D,
+        wait: Duration,
     ) -> io::Result<bool>
         requires { HasLent (sessions_of peers.old.all) self.old.tools.together }
         ensures tends { Tends D.connected D.called D.left (sessions_of peers.old.all) door.old (sessions_of peers.new.all) door.new }
@@ -302,7 +302,7 @@ impl Loop {
     {
         let round = Round::new(&self.poll, alloc, self.clock.now);
         self.tools.together.answer_quick(peers, round, door);
-        self.gather_if_room(alloc, peers, door)
+        self.gather_if_room(alloc, peers, door, wait)
     }
 
     // Looks for events once, where there is room for the turns that they make.
@@ -311,6 +311,7 @@ impl Loop {
         alloc: Global,
         peers: &mut Peers,
         door: &mut D,
+        wait: Duration,
     ) -> io::Result<bool>
         requires { HasLent (sessions_of peers.old.all) self.old.tools.together }
         ensures tends { Tends D.connected D.called D.left (sessions_of peers.old.all) door.old (sessions_of peers.new.all) door.new }
@@ -319,7 +320,7 @@ impl Loop {
         if !peers.reserve(self.events.capacity()) {
             return Ok(false);
         }
-        self.gather_once(alloc, peers, door)
+        self.gather_once(alloc, peers, door, wait)
     }
 
     // Looks for events once.
@@ -328,13 +329,14 @@ impl Loop {
         alloc: Global,
         peers: &mut Peers,
         door: &mut D,
+        wait: Duration,
     ) -> io::Result<bool>
         requires lent { HasLent (sessions_of peers.old.all) self.old.tools.together }
         requires room { HasRoom peers.old (capacity self.old.events) }
         ensures tends { Tends D.connected D.called D.left (sessions_of peers.old.all) door.old (sessions_of peers.new.all) door.new }
         ensures lent { HasLent (sessions_of peers.new.all) self.new.tools.together }
     {
-        self.poll.poll(&mut self.events, Some(Duration::ZERO))?;
+        self.poll.poll(&mut self.events, Some(wait))?;
         if self.events.is_empty() {
             yield_now();
             return Ok(false);
@@ -368,35 +370,4 @@ impl Loop {
         }
         Ok(false)
     }
-}
-
-// The turns of so many that have one, one by one.
-fn give_each<D: Reception, R: AllocGlobal + Clock + Eprint + Wait>(
-    rt: &R,
-    common: &Common<'_>,
-    round: Round<'_>,
-    tools: &mut Tools,
-    peers: &mut Peers,
-    door: &mut D,
-    turns: usize,
-)
-    ensures { Tends D.connected D.called D.left (sessions_of peers.old.all) door.old (sessions_of peers.new.all) door.new }
-{
-    for _ in 0..turns {
-        give_turn(rt, common, round, tools, peers, door);
-    }
-}
-
-fn give_turn<D: Reception, R: AllocGlobal + Clock + Eprint + Wait>(
-    rt: &R,
-    common: &Common<'_>,
-    round: Round<'_>,
-    tools: &mut Tools,
-    peers: &mut Peers,
-    door: &mut D,
-)
-    ensures { Tends D.connected D.called D.left (sessions_of peers.old.all) door.old (sessions_of peers.new.all) door.new }
-{
-    peers.give_turn(round, &mut tools.scratch, door);
-    keep_short(rt, common, door, round.now, &mut tools.seen);
 }

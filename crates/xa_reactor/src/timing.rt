@@ -2,6 +2,8 @@
 ghost use Rattle.std.specs.Prelude.{◌≡◌};
 ghost use Rattle.xa_reactor.specs.Timing.{is_overdue, is_too_quiet, wait_of};
 
+use std::time::Duration;
+
 /// For how long accepting pauses where an accept failed.
 pub(crate) const PAUSE: u64 = 100;
 
@@ -14,8 +16,11 @@ const LOOKS: usize = 40;
 
 pub(crate) const FEW_EVENTS: usize = 4;
 
-/// How often at most a loop looks for events while another holds up its answers.
-pub(crate) const GATHERS: u32 = 1_000;
+/// How often at most a loop looks for events while another holds up its answers: for about a minute.
+pub(crate) const GATHERS: u32 = 61_000;
+
+/// How often of these it waits for none.
+const QUICK_GATHERS: u32 = 1_000;
 
 /// How many connections a loop has at least that looks for more requests before it answers those that may wait for a
 /// device.
@@ -25,6 +30,11 @@ pub(crate) const COMPANY: usize = 3;
 /// want the processor.
 pub(crate) fn looks_of(connections: usize) -> usize {
     LOOKS / connections.max(1)
+}
+
+/// For how long it waits for events when it has looked so often: not at all, later a millisecond.
+pub(crate) fn gather_wait(looks: u32) -> Duration {
+    Duration::from_millis(u64::from(looks >= QUICK_GATHERS))
 }
 
 /// Whether a connection is overdue: it brought a part of a frame, and for so long, if there is such a limit, no byte

@@ -158,6 +158,21 @@ impl<'a, M: GroupCommits, S: Start, L: Ledger, R: Wait> Handle<'a, M, S, L, R> {
         self.sequencer.is_free()
     }
 
+    /// After how many groups that were answered a call has its answer that is posted now.
+    pub fn due(&self) -> u64 {
+        self.sequencer.due()
+    }
+
+    /// Whether so many groups were answered.
+    pub fn is_due(&self, groups: u64) -> bool {
+        self.sequencer.is_due(groups)
+    }
+
+    /// Lets others run, after it was done so often in one wait: after many times it sleeps while a group is pending.
+    pub fn rest(&self, tries: u32) {
+        self.sequencer.rest(self.rt, tries);
+    }
+
     /// How the manager is doing. The share doesn't count it.
     pub fn status(&self) -> Status
         ensures { IsTold M.manages S.start S.base result }

@@ -12,12 +12,19 @@ use std::alloc::{AllocError, Global};
 use std::fmt;
 use std::sync::atomic::{AtomicU64, Ordering};
 use std::sync::ledger::{Blank, Book, Ledger, Share};
-use std::sync::{Mutex, MutexGuard, Wait};
+use std::sync::{Condvar, Mutex, MutexGuard, Wait};
 use std::thread::yield_now;
+use std::time::Duration;
 use xa_assoc::ConnectFault;
 use xa_disk::Syncer;
 use xa_frame::{Reply, Request, Status};
 use xa_room::{Start, take};
+
+/// How often a thread that waits for the pending group lets others run before it sleeps.
+const MOST_TRIES: u32 = 10_000;
+
+/// How long it sleeps at most, in milliseconds.
+const REST: u64 = 100;
 
 /// A sequencer behind a lock, which many threads share. Each call is one of the sequencer, and one more in its caller's
 /// share of a ledger, unless it is no entry: so a share that has every part of the ledger counts all entries.
@@ -30,6 +37,8 @@ pub struct SharedSequencer<M: GroupCommits, S: Start, L: Ledger> {
     waiting: AtomicU64,
     /// 1 while one of them makes the sync of the pending group.
     syncing: AtomicU64,
+    /// Notified of each group that was answered.
+    answered: Condvar,
 }
 
 impl<M: GroupCommits, S: Start, L: Ledger> SharedSequencer<M, S, L> {
@@ -50,6 +59,7 @@ impl<M: GroupCommits, S: Start, L: Ledger> SharedSequencer<M, S, L> {
             mailbox: Mutex::new(Mail::new(alloc)),
             waiting: AtomicU64::new(0),
             syncing: AtomicU64::new(0),
+            answered: Condvar::new(),
         };
         (shared, share)
     }
@@ -95,20 +105,51 @@ impl<M: GroupCommits, S: Start, L: Ledger> SharedSequencer<M, S, L> {
 
     /// Whether no thread has the lock, and none syncs.
     pub(crate) fn is_free(&self) -> bool {
-        self.syncing.load(Ordering::SeqCst) == 0 && self.lock.try_lock().is_some()
+        !self.is_syncing() && self.lock.try_lock().is_some()
+    }
+
+    // Whether a thread makes the sync of the pending group.
+    fn is_syncing(&self) -> bool {
+        self.syncing.load(Ordering::SeqCst) != 0
+    }
+
+    /// After how many groups that were answered a call has its answer that is posted now: a pending group is without it.
+    pub(crate) fn due(&self) -> u64 {
+        let groups = self.answered.notifications();
+        groups.saturating_add(1 + u64::from(self.is_syncing()))
+    }
+
+    /// Whether so many groups were answered.
+    pub(crate) fn is_due(&self, groups: u64) -> bool {
+        self.answered.notifications() >= groups
+    }
+
+    /// Lets others run. While the sync of a group is made, a thread that has done so many times sleeps until the group is
+    /// answered, but not for long.
+    pub(crate) fn rest<R: Wait>(&self, rt: &R, tries: u32) {
+        // read first: where the group is answered in between, it doesn't sleep
+        let groups = self.answered.notifications();
+        if tries >= MOST_TRIES && self.is_syncing() {
+            self.answered
+                .sleep(rt, groups, Duration::from_millis(REST));
+        } else {
+            yield_now();
+        }
     }
 
     // Takes the lock when no group is pending.
     fn take_settled<R: Wait>(&self, rt: &R) -> MutexGuard<'_, Booked<M, S, L>>
         ensures { M.pending result.value.now ≡ None }
     {
+        let mut tries = 0u32;
         for _ in rt.forever() {
             let booked = take(rt, &self.lock);
             if booked.is_settled() {
                 return booked;
             }
             drop(booked);
-            yield_now();
+            self.rest(rt, tries);
+            tries = tries.saturating_add(1);
         }
         unreachable!()
     }
@@ -124,17 +165,20 @@ impl<M: GroupCommits, S: Start, L: Ledger> SharedSequencer<M, S, L> {
         self.syncing.store(1, Ordering::SeqCst);
         drop(held);
         let mut answer = syncer.sync();
+        let mut tries = 0u32;
         for _ in rt.forever() {
             let mut held = self.hold(rt);
             match held.finish_posted(answer) {
                 Ok(()) => {
                     self.syncing.store(0, Ordering::SeqCst);
+                    self.answered.notify_all();
                     return held;
                 }
                 Err(given) => answer = given,
             }
             drop(held);
-            yield_now();
+            self.rest(rt, tries);
+            tries = tries.saturating_add(1);
         }
         unreachable!()
     }

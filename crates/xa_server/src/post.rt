@@ -117,8 +117,8 @@ impl<'a, M: GroupCommits, S: Start, L: Ledger, R: Clock + Wait> Post<'a, M, S, L
                 return held;
             }
             drop(held);
+            self.handle.rest(lets);
             lets = lets.saturating_add(1);
-            yield_now();
         }
         unreachable!()
     }
@@ -342,6 +342,14 @@ impl<M: GroupCommits, S: Start, L: Ledger, R: Clock + Wait> Reception for Post<'
 
     fn is_free(&self) -> bool {
         self.handle.is_free()
+    }
+
+    fn due(&self) -> u64 {
+        self.handle.due()
+    }
+
+    fn is_due(&self, groups: u64) -> bool {
+        self.handle.is_due(groups)
     }
 
     fn has_association(&self, session: u64) -> bool {

@@ -4,17 +4,17 @@ use Rattle.xa_reactor.proofs.tending.Loop.gather.Goals as goal
 
 pub returns-in_default-clause-tends : goal.returns-in_default-clause-tends
 returns-in_default-clause-tends g c =
-    let before : Table = sessions_of c.loop.peers.all in
+    let before : Table = sessions_of c.loop-looks.peers.all in
     let after : Table = sessions_of c.linger_once.new.peers.all in
     tends_twice g.D.Reception.connected g.D.Door.called g.D.Door.left (sessions_of c.args.peers.now.all) before after
-    c.args.door.now c.loop.door c.linger_once.new.door c.loop.invariant.tends c.linger_once.ensures.tends
+    c.args.door.now c.loop-looks.door c.linger_once.new.door c.loop-looks.invariant.tends c.linger_once.ensures.tends
 
-pub loop-preserved : goal.loop-preserved
-loop-preserved g c =
-    let before : Table = sessions_of c.loop.peers.all in
+pub loop-looks-preserved : goal.loop-looks-preserved
+loop-looks-preserved g c =
+    let before : Table = sessions_of c.loop-looks.peers.all in
     let after : Table = sessions_of c.linger_once.new.peers.all in
     record {
       tends = tends_twice g.D.Reception.connected g.D.Door.called g.D.Door.left (sessions_of c.args.peers.now.all) before after
-          c.args.door.now c.loop.door c.linger_once.new.door c.loop.invariant.tends c.linger_once.ensures.tends;
+          c.args.door.now c.loop-looks.door c.linger_once.new.door c.loop-looks.invariant.tends c.linger_once.ensures.tends;
       lent = c.linger_once.ensures.lent;
     }

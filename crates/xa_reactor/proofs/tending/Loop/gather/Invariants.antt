@@ -2,8 +2,8 @@ use Rattle.xa_reactor.specs.Tending.{Tends, sessions_of}
 use Rattle.xa_reactor.specs.Together.{HasLent}
 use Rattle.xa_reactor.proofs.tending.Loop.gather.Given as goal
 
-abbrev pub invariant-loop : goal.invariant-loop
-invariant-loop g l = record {
+abbrev pub invariant-loop-looks : goal.invariant-loop-looks
+invariant-loop-looks g l = record {
   tends : Tends g.D.Reception.connected g.D.Door.called g.D.Door.left (sessions_of l.initial.peers.all) l.initial.door (sessions_of l.peers.all) l.door;
   lent : HasLent (sessions_of l.peers.all) l.self.tools.together;
 }

@@ -1,7 +1,7 @@
 use Rattle.xa_reactor.specs.Tending.{sessions_of}
 use Rattle.xa_reactor.proofs.Aside.{tends_aside}
 use Rattle.xa_reactor.proofs.Doing.{tends_twice}
-use Rattle.xa_reactor.proofs.tending.give_turn.Goals as goal
+use Rattle.xa_reactor.proofs.tools.give_turn.Goals as goal
 
 pub returns : goal.returns
 returns g c =

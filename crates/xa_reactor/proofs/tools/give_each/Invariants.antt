@@ -1,5 +1,5 @@
 use Rattle.xa_reactor.specs.Tending.{Tends, sessions_of}
-use Rattle.xa_reactor.proofs.tending.give_each.Given as goal
+use Rattle.xa_reactor.proofs.tools.give_each.Given as goal
 
 abbrev pub invariant-loop : goal.invariant-loop
 invariant-loop g l =

@@ -1,6 +1,6 @@
 use Rattle.xa_reactor.specs.Tending.{sessions_of}
 use Rattle.xa_reactor.proofs.Doing.{tends_twice}
-use Rattle.xa_reactor.proofs.tending.give_each.Goals as goal
+use Rattle.xa_reactor.proofs.tools.give_each.Goals as goal
 
 pub loop-preserved : goal.loop-preserved
 loop-preserved g c =

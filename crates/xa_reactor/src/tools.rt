@@ -1,0 +1,67 @@
+//! What a loop's turns use.
+ghost use Rattle.xa_reactor.specs.Tending.{Tends, sessions_of};
+
+use crate::common::Common;
+use crate::patience::Patience;
+use crate::peers::Peers;
+use crate::reception::Reception;
+use crate::round::Round;
+use crate::together::Together;
+use crate::trimming::keep_short;
+use std::alloc::{AllocError, Global};
+use std::rt::Clock;
+use std::sync::Wait;
+use xa_connection::MOST_INPUT;
+
+/// What the turns of connections use.
+#[derive(Drop)]
+pub(crate) struct Tools {
+    /// What a read fills.
+    pub(crate) scratch: Vec<u8>,
+    pub(crate) together: Together,
+    pub(crate) patience: Patience,
+    /// How many calls had been logged when the log's end was asked for.
+    pub(crate) seen: u64,
+}
+
+impl Tools {
+    pub(crate) fn new(alloc: Global) -> Result<Tools, AllocError> {
+        Ok(Tools {
+            scratch: Vec::from_elem(alloc, 0u8, MOST_INPUT)?,
+            together: Together::new(alloc),
+            patience: Patience::new(),
+            seen: 0,
+        })
+    }
+}
+
+/// The turns of so many that have one, one by one.
+pub(crate) fn give_each<D: Reception, R: AllocGlobal + Clock + Eprint + Wait>(
+    rt: &R,
+    common: &Common<'_>,
+    round: Round<'_>,
+    tools: &mut Tools,
+    peers: &mut Peers,
+    door: &mut D,
+    turns: usize,
+)
+    ensures { Tends D.connected D.called D.left (sessions_of peers.old.all) door.old (sessions_of peers.new.all) door.new }
+{
+    for _ in 0..turns {
+        give_turn(rt, common, round, tools, peers, door);
+    }
+}
+
+fn give_turn<D: Reception, R: AllocGlobal + Clock + Eprint + Wait>(
+    rt: &R,
+    common: &Common<'_>,
+    round: Round<'_>,
+    tools: &mut Tools,
+    peers: &mut Peers,
+    door: &mut D,
+)
+    ensures { Tends D.connected D.called D.left (sessions_of peers.old.all) door.old (sessions_of peers.new.all) door.new }
+{
+    peers.give_turn(round, &mut tools.scratch, door);
+    keep_short(rt, common, door, round.now, &mut tools.seen);
+}
