@@ -2,7 +2,7 @@
    descriptor whose number stands in TELL: the call, the file's name, what was asked and what came of it. One call can be made to
    fail: FAULT has its name, which one of that name, counted from 1, and the error's number. The error 0 stands for a short write, of
    half of the bytes, and a + behind the count for all from that one on. The name 'over' stands for each pwrite of more bytes than the
-   number says. */
+   number says, and 'slow' for an fdatasync that takes so many milliseconds longer as the error says. */
 typedef unsigned long size_t;
 typedef long ssize_t;
 typedef long off_t;
@@ -18,6 +18,7 @@ extern int strncmp(const char *one, const char *other, size_t count);
 extern char *strrchr(const char *text, int character);
 extern ssize_t readlink(const char *path, char *to, size_t room);
 extern ssize_t write(int file, const void *bytes, size_t count);
+extern int poll(void *files, unsigned long count, int milliseconds);
 extern void abort(void);
 
 enum { PREAD = 17, PWRITE = 18, SENDTO = 44, FSYNC = 74, FDATASYNC = 75 };
@@ -93,6 +94,9 @@ ssize_t pwrite(int file, const void *bytes, size_t count, off_t at)
 
 int fdatasync(int file)
 {
+    /* counted by itself: it fails nothing */
+    if (fails("slow"))
+        poll((void *)0, 0, (int)error);
     return (int)told("fdatasync", file, 0, fails("fdatasync") ? failed() : syscall(FDATASYNC, file));
 }
 
