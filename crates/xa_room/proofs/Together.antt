@@ -39,10 +39,6 @@ pub if_ok : {A E : Type 0} (r : Result A E) (P Q : A → Type 0) → ((x : A) �
 if_ok (Ok x) P Q f h = f x h
 if_ok (Err e) P Q f h = h
 
-pub if_err : {A E : Type 0} (r : Result A E) (P Q R : Type 0) → (P → Q → R) → OnErr r P → OnErr r Q → OnErr r R
-if_err (Ok x) P Q R f g h = g
-if_err (Err e) P Q R f g h = f g h
-
 -- no reply of a group tells of a want of memory, and each is short and has no place
 reply_found : (a : Appending) (q : Request) → is_memory (replied a q).detail ≡ false
 reply_found Kept q = refl
@@ -112,57 +108,6 @@ pub group_lost : (s : State) (calls : List Asked) (a : Appending) (c : Member) (
     → AreReplies calls a (c ∷ cs) (r ∷ rs) → group_entries Lost (part_of s c) (parts_of s cs) ≡ lost_entries (events_of calls (r ∷ rs))
 group_lost s calls a c cs r rs h = λ i. one_lost s calls (Appended Lost) a c r h.0 i ∷ all_lost s calls (Joined Lost) a cs rs h.1 i
 
--- a call that has an XID is no trim
-no_trim : (q : Request) (xid : Triple) → xid_of q ≡ Some xid → asks_trim q ≡ false
-no_trim (Open flags info) xid h = refl
-no_trim (Close flags) xid h = refl
-no_trim (Start flags x) xid h = refl
-no_trim (End flags x) xid h = refl
-no_trim (Prepare flags x) xid h = refl
-no_trim (Commit flags x) xid h = refl
-no_trim (Rollback flags x) xid h = refl
-no_trim (Forget flags x) xid h = refl
-no_trim (Recover flags n) xid h = refl
-no_trim (Get key) xid h = refl
-no_trim (Put key value) xid h = refl
-no_trim (Delete key) xid h = refl
-no_trim (Decide direction x) xid h = refl
-no_trim (Doom x) xid h = refl
-no_trim Restart xid h = refl
-no_trim (Timeout seconds) xid h = refl
-no_trim (Tick moment) xid h = refl
-no_trim Trim xid h = absurd (cc h)
-no_trim (Branches n after) xid h = refl
-
 module _ {D : Type 0} (disks : Ghosts D) where
   pub rests : (old new : Manager D) → StaysFor disks old new → HasReserved disks old.log new.log → Rests (ManagerStandsFor disks) (λ m. counted_by disks.failures m.log) old new
   rests old new stays r = record { stays = stays; counted = none_by disks old.log new.log (none_rises disks old.log new.log r old.log (refl, refl)) }
-
-  acted_together : (old new : Manager D) (calls : List Asked) (first : Member) (rest : List Member) (a : Appending) (r : ℕ × Reply) (rs : List (ℕ × Reply))
-      → AreReplies calls a (first ∷ rest) (r ∷ rs) → TakesTogether disks old first rest a new
-      → ActsTogether (ManagerStandsFor disks)
-      (λ event outcome a b. HasCalledFor disks (is_trim event) outcome a.log b.log) (λ events a b. CrashesTogether disks events a b) (λ m. counted_by disks.failures m.log)
-      old calls r rs a new
-  acted_together old new calls first rest a r rs are takes = record {
-    told = all_told calls a (first ∷ rest) (r ∷ rs) are;
-    unplaced = all_unplaced calls a (first ∷ rest) (r ∷ rs) are;
-    leads = λ s stands.
-        let to = takes.leads s stands in
-        (to.0, subst (λ (es : List Entry). Leads s es to.0) (group_told s calls a first rest r rs are) to.1, to.2);
-    called = λ s stands.
-        let may = takes.together s stands in
-        let same : is_trim (event_at calls r.0) ≡ asks_trim first.request = ap asks_trim are.0.request in
-        let none = no_trim first.request first.xid may.appends.0.of_xid in
-        subst (λ (b : Bool). HasCalledFor disks b (Appended a) old.log new.log) (sym (same ∙ none)) (takes.called s stands);
-    crash = λ s stands trusts.
-        let to = takes.crash s stands trusts in
-        (to.0, subst (λ (es : List Entry). Leads s es to.0) (group_lost s calls a first rest r rs are) to.1, to.2);
-    counted = λ s stands. called_for disks false (Appended a) old.log new.log (takes.called s stands);
-  }
-
-  pub answered_together : (old new : Manager D) (calls : List Asked) (replies : List (ℕ × Reply)) → manager.AnswersTogether disks old calls replies new
-      → AnswersTogether (ManagerStandsFor disks)
-      (λ event outcome a b. HasCalledFor disks (is_trim event) outcome a.log b.log) (λ events a b. CrashesTogether disks events a b) (λ m. counted_by disks.failures m.log)
-      old calls replies new
-  answered_together old new calls [] h = rests old new h.0 (subst (λ (l : Log D). HasReserved disks old.log l) (sym h.1) (none_reserved disks old.log))
-  answered_together old new calls (r ∷ rs) h = (h.2, acted_together old new calls h.0 h.1 h.2 r rs h.3 h.4)

@@ -1,9 +1,8 @@
 use crate::manages::Manages;
-use std::alloc::AllocError;
 use xa_assoc::ConnectFault;
 use xa_disk::Disk;
 use xa_frame::{Reply, Request, Status};
-use xa_manager::{Asked, Manager};
+use xa_manager::Manager;
 use xa_model::Outcome;
 
 /// The manager over a log on two disks. Its counts of failures are those of the two.
@@ -45,10 +44,6 @@ impl<D: Disk> Manages for Manager<D> {
 
     fn call(&mut self, session: u64, request: Request) -> Reply {
         self.call(session, request)
-    }
-
-    fn call_together(&mut self, calls: &[Asked]) -> Result<Vec<(usize, Reply)>, AllocError> {
-        self.call_together(calls)
     }
 
     #[tactic(auto, using(crate::proofs::Managing::acted))]

@@ -1,14 +1,11 @@
-use std::alloc::AllocError;
 use xa_assoc::ConnectFault;
 use xa_frame::{Reply, Request, Status};
-use xa_manager::Asked;
 use xa_model::Outcome;
 
 /// What a room asks of a manager. Each event is a step of the sequential resource manager, from whichever state the
 /// manager stood for, and where memory was wanted it stands for whatever it stood for.
 pub trait Manages {
-    ghost use Rattle.std.specs.Prelude.{ℕ, ◌≡◌, ◌+◌, Bool, true, List, MatchResult, IfOk, OnErr, pos};
-    ghost use Rattle.std.specs.List.{AllByRecursion};
+    ghost use Rattle.std.specs.Prelude.{ℕ, ◌≡◌, ◌+◌, Bool, true, List, MatchResult, pos};
     ghost use Rattle.xa_frame.specs.Limits.{IsReply};
     ghost use Rattle.xa_model.specs.declared.event.Event.{Event};
     ghost use Rattle.xa_model.specs.declared.outcome.Outcome.{Outcome};
@@ -16,10 +13,8 @@ pub trait Manages {
     ghost use Rattle.xa_model.specs.Events.{IsAsked};
     ghost use Rattle.xa_model.specs.State.{State};
     ghost use Rattle.xa_manager.specs.Answered.{connect_reply};
-    ghost use Rattle.xa_manager.specs.Once.{AreOnce};
     ghost use Rattle.xa_manager.specs.Status.{status_of};
     ghost use Rattle.xa_room.specs.Manages.{Acts};
-    ghost use Rattle.xa_room.specs.Together.{AnswersTogether, Rests};
 
     /// The states that it stands for.
     ghost stands: { Self → State → Type 0 };
@@ -63,19 +58,6 @@ pub trait Manages {
             self.old (Event.Call session request) result self.new }
         ensures limits { IsReply result }
         ensures place { result.place ≡ 0 }
-        ensures sessions { sessions self.new ≡ sessions self.old };
-
-    /// Answers calls of sessions together, those that may share one append, and gives their replies in the order in
-    /// which they were answered, each with the place of its call among those that were asked.
-    ///
-    /// # Errors
-    /// Out of memory: then no call was answered.
-    fn call_together(&mut self, calls: &[Asked]) -> Result<Vec<(usize, Reply)>, AllocError>
-        requires { AllByRecursion (λ c. IsAsked c.request) calls.now }
-        ensures ok { IfOk result (λ replies. AnswersTogether stands has_called crashes_together failures
-            self.old calls.now replies.items self.new) }
-        ensures once { IfOk result (λ replies. AreOnce replies.items) }
-        ensures err { OnErr result (Rests stands failures self.old self.new) }
         ensures sessions { sessions self.new ≡ sessions self.old };
 
     fn hangup(&mut self, session: u64)

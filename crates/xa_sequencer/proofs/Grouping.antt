@@ -234,13 +234,6 @@ module _ {M : Type 0} (m : Ghosts M) (start : State → Type 0) (base : ℕ × �
     stays = kept.stays;
   }
 
-  pub rests_still : (c : Numbered M) → Rests m start base c c
-  rests_still c = record {
-    count = refl;
-    goes_on = λ entries stood. subst (λ (xs : List Entry). Stands m start base c xs) (sym (append-nil entries)) stood;
-    stays = λ s stands. stands;
-  }
-
   -- there are no more replies than calls
   pub no_more : (old then : M) (calls : List Asked) (replies : List (ℕ × Reply)) → room.AnswersTogether m.stands m.has_called m.crashes_together m.failures old calls replies then
       → AreOnce replies → length replies ≤ length calls

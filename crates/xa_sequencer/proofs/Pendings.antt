@@ -141,12 +141,6 @@ module _ {D : Type 0} (disks : disk.Ghosts D) where
       at p None (Some f) (Some f) (λ x y. RestsAs (manages_of disks) (gr m x) (gr m' y)) (none_of p e) refl
       (record { stays = stays; counted = wrote_rises m m' f w })
 
-  pub not_begun : (m m' : Manager D) (p : Option PendingGroup) → calls_in p ≡ None → StaysFor disks m m' → HasReserved disks m.log m'.log
-      → RestsAs (manages_of disks) (gr m p) (gr m' p)
-  not_begun m m' p e stays reserved =
-      let r = rests disks m m' stays reserved in
-      at p None p None (λ x y. RestsAs (manages_of disks) (gr m x) (gr m' y)) (none_of p e) (none_of p e) (record { stays = r.stays; counted = r.counted })
-
   -- ---- work beside it
 
   map_some : (o : Option Answer) (P Q : Answer → Type 0) → ((a : Answer) → P a → Q a) → IsSomeAnd o P → IsSomeAnd o Q

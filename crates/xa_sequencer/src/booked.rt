@@ -161,6 +161,31 @@ impl<M: GroupCommits, S: Start, L: Ledger> Booked<M, S, L> {
         Ok(reply)
     }
 
+    /// Answers a request of a session.
+    ///
+    /// # Errors
+    /// Gives a request back that is to wait until the pending group is finished.
+    pub(crate) fn ask(
+        &mut self,
+        share: &mut Share<L>,
+        session: u64,
+        request: Request,
+    ) -> Result<Reply, Request>
+        requires share { 0 < share.old.parts }
+        requires limits { IsRequest request }
+        ensures called { IfOk result (λ reply. CalledBy M.manages S.start S.base session
+            (share.old.parts, share.old.amount) request reply (share.new.parts, share.new.amount)) }
+        ensures limits { IfOk result IsReply }
+        ensures back { IfErr result (λ given. (given ≡ request) × (share.new.parts ≡ share.old.parts)
+            × (share.new.amount ≡ share.old.amount)) }
+    {
+        if self.is_settled() {
+            Ok(self.call(share, session, request))
+        } else {
+            self.work(share, session, request)
+        }
+    }
+
     /// A tray for the answers to a thread's posted calls.
     pub(crate) fn add_tray(&mut self, alloc: Global) -> Result<usize, AllocError> {
         self.trays.add(alloc)

@@ -1,4 +1,4 @@
-ghost use Rattle.std.specs.Prelude.{◌≡◌, ◌+◌, ◌<◌, IfErr, IfOk, MatchBool};
+ghost use Rattle.std.specs.Prelude.{◌≡◌, ◌+◌, ◌<◌, is_none, IfErr, IfOk, MatchBool};
 ghost use Rattle.xa_sequencer.specs.Stands.{most_numbers};
 
 use crate::answered::Answered;
@@ -14,7 +14,7 @@ use xa_assoc::ConnectFault;
 use xa_desk::Door;
 use xa_frame::{Reply, Request, Status};
 use xa_manager::connect_reply;
-use xa_room::{Start, is_memory};
+use xa_room::{Start, is_memory, take};
 
 /// A thread's handle of a sequencer that it shares with others: a door, with a share that counts what is asked at it.
 #[derive(Drop)]
@@ -63,7 +63,10 @@ impl<'a, M: GroupCommits, S: Start, L: Ledger, R: Wait> Handle<'a, M, S, L, R> {
         ensures { ConnectedBy M.manages S.start S.base (self.old.share.parts, self.old.share.amount) result
             (self.new.share.parts, self.new.share.amount) }
     {
-        let session = self.sequencer.connect(self.rt, &mut self.share);
+        let session = self
+            .sequencer
+            .take_settled(self.rt)
+            .connect(&mut self.share);
         self.counted = after(self.counted, !is_memory(&connect_reply(session)));
         session
     }
@@ -92,7 +95,7 @@ impl<'a, M: GroupCommits, S: Start, L: Ledger, R: Wait> Handle<'a, M, S, L, R> {
         ensures back { IfErr result (λ given. (given ≡ request) × (self.new.share.parts ≡ self.old.share.parts)
             × (self.new.share.amount ≡ self.old.share.amount)) }
     {
-        let reply = held.call(&mut self.share, session, request)?;
+        let reply = held.booked.ask(&mut self.share, session, request)?;
         self.counted = after(self.counted, !is_memory(&reply));
         Ok(reply)
     }
@@ -110,8 +113,10 @@ impl<'a, M: GroupCommits, S: Start, L: Ledger, R: Wait> Handle<'a, M, S, L, R> {
     }
 
     /// Whether no group is pending.
-    pub fn is_settled(&self, held: &Held<'_, M, S, L>) -> bool {
-        held.is_settled()
+    pub fn is_settled(&self, held: &Held<'_, M, S, L>) -> bool
+        ensures { result ≡ is_none (M.pending held.now.now) }
+    {
+        held.booked.is_settled()
     }
 
     /// Answers the calls that threads have posted, those that may share one append: with the lock that was taken their
@@ -119,7 +124,12 @@ impl<'a, M: GroupCommits, S: Start, L: Ledger, R: Wait> Handle<'a, M, S, L, R> {
     /// again. Of a call that gets no answer nothing has been done: it is to be called by itself.
     pub fn answer_posted(&self, held: Held<'a, M, S, L>) -> Held<'a, M, S, L> {
         let mut held = held;
-        match held.begin_posted(self.rt) {
+        if !held.booked.is_settled() {
+            return held;
+        }
+        held.booked
+            .take_mail(&mut take(self.rt, &self.sequencer.mailbox));
+        match held.booked.begin_mail() {
             Some(syncer) => self.sequencer.sync(self.rt, held, syncer),
             None => held,
         }
@@ -127,7 +137,7 @@ impl<'a, M: GroupCommits, S: Start, L: Ledger, R: Wait> Handle<'a, M, S, L, R> {
 
     /// Takes the next answer to a call that this handle posted. It is to be counted.
     pub fn next_answer(&self, held: &mut Held<'_, M, S, L>) -> Option<Answered<M, S>> {
-        held.next_answer(self.tray)
+        held.booked.next_answer(self.tray)
     }
 
     /// Counts an answer to a posted call in this handle's share, unless it tells of a time before the share's: then
@@ -141,7 +151,7 @@ impl<'a, M: GroupCommits, S: Start, L: Ledger, R: Wait> Handle<'a, M, S, L, R> {
         if answered.count() <= self.counted {
             return false;
         }
-        if !held.count(&mut self.share) {
+        if !held.booked.count(&mut self.share) {
             return false;
         }
         self.counted = after(self.counted, true);
@@ -177,7 +187,7 @@ impl<'a, M: GroupCommits, S: Start, L: Ledger, R: Wait> Handle<'a, M, S, L, R> {
     pub fn status(&self) -> Status
         ensures { IsTold M.manages S.start S.base result }
     {
-        self.sequencer.status(self.rt)
+        self.sequencer.take_settled(self.rt).status()
     }
 
     /// The share.
@@ -198,14 +208,16 @@ impl<'a, M: GroupCommits, S: Start, L: Ledger, R: Wait> Handle<'a, M, S, L, R> {
     pub fn has_association(&self, session: u64) -> bool
         ensures { AssociatedBy M.manages S.start S.base session result }
     {
-        self.sequencer.has_association(self.rt, session)
+        self.sequencer
+            .take_settled(self.rt)
+            .has_association(session)
     }
 
     /// Where the log's next record begins, while the manager is up.
     pub fn log_end(&self) -> u64
         ensures { EndedBy M.manages S.start S.base result }
     {
-        self.sequencer.log_end(self.rt)
+        self.sequencer.take_settled(self.rt).log_end()
     }
 }
 
@@ -224,7 +236,8 @@ impl<M: GroupCommits, S: Start, L: Ledger, R: Wait> Door for Handle<'_, M, S, L,
     fn call(&mut self, session: u64, request: Request) -> Reply {
         let reply = self
             .sequencer
-            .call(self.rt, &mut self.share, session, request);
+            .take_settled(self.rt)
+            .call(&mut self.share, session, request);
         self.counted = after(self.counted, !is_memory(&reply));
         reply
     }
@@ -234,7 +247,10 @@ impl<M: GroupCommits, S: Start, L: Ledger, R: Wait> Door for Handle<'_, M, S, L,
     }
 
     fn hangup(&mut self, session: u64) {
-        let was_connected = self.sequencer.hangup(self.rt, &mut self.share, session);
+        let was_connected = self
+            .sequencer
+            .take_settled(self.rt)
+            .hangup(&mut self.share, session);
         self.counted = after(self.counted, was_connected);
     }
 }

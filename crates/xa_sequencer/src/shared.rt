@@ -1,7 +1,5 @@
 ghost use Rattle.std.specs.Prelude.{◌≡◌, ◌+◌, ◌<◌, None};
-ghost use Rattle.xa_frame.specs.Limits.{IsReply, IsRequest};
-ghost use Rattle.xa_sequencer.specs.Associates.{AssociatedBy, EndedBy};
-ghost use Rattle.xa_sequencer.specs.Shared.{CalledBy, ConnectedBy, IsTold, LeftBy};
+ghost use Rattle.xa_frame.specs.Limits.{IsRequest};
 
 use crate::booked::Booked;
 use crate::group_commits::GroupCommits;
@@ -15,9 +13,8 @@ use std::sync::ledger::{Blank, Book, Ledger, Share};
 use std::sync::{Condvar, Mutex, MutexGuard, Wait};
 use std::thread::yield_now;
 use std::time::Duration;
-use xa_assoc::ConnectFault;
 use xa_disk::Syncer;
-use xa_frame::{Reply, Request, Status};
+use xa_frame::Request;
 use xa_room::{Start, take};
 
 /// How often a thread that waits for the pending group lets others run before it sleeps.
@@ -32,7 +29,7 @@ const REST: u64 = 100;
 pub struct SharedSequencer<M: GroupCommits, S: Start, L: Ledger> {
     lock: Mutex<Booked<M, S, L>>,
     /// Calls that wait for whichever thread has the lock.
-    mailbox: Mutex<Mail>,
+    pub(crate) mailbox: Mutex<Mail>,
     /// How many threads wait for the lock to hold it.
     waiting: AtomicU64,
     /// 1 while one of them makes the sync of the pending group.
@@ -64,38 +61,12 @@ impl<M: GroupCommits, S: Start, L: Ledger> SharedSequencer<M, S, L> {
         (shared, share)
     }
 
-    /// Connects a session.
-    pub fn connect<R: Wait>(&self, rt: &R, share: &mut Share<L>) -> Result<u64, ConnectFault>
-        requires { 0 < share.old.parts }
-        ensures { ConnectedBy M.manages S.start S.base (share.old.parts, share.old.amount) result
-            (share.new.parts, share.new.amount) }
-    {
-        self.take_settled(rt).connect(share)
-    }
-
-    /// Answers a request of a session.
-    pub fn call<R: Wait>(
-        &self,
-        rt: &R,
-        share: &mut Share<L>,
-        session: u64,
-        request: Request,
-    ) -> Reply
-        requires share { 0 < share.old.parts }
-        requires limits { IsRequest request }
-        ensures called { CalledBy M.manages S.start S.base session (share.old.parts, share.old.amount) request result
-            (share.new.parts, share.new.amount) }
-        ensures limits { IsReply result }
-    {
-        self.take_settled(rt).call(share, session, request)
-    }
-
     /// Takes the lock for several calls.
     pub(crate) fn hold<R: Wait>(&self, rt: &R) -> Held<'_, M, S, L> {
         self.waiting.fetch_add(1, Ordering::SeqCst);
         let booked = take(rt, &self.lock);
         self.waiting.fetch_sub(1, Ordering::SeqCst);
-        Held::new(booked, &self.mailbox)
+        Held::new(booked)
     }
 
     /// Whether a thread waits to hold the lock.
@@ -137,8 +108,8 @@ impl<M: GroupCommits, S: Start, L: Ledger> SharedSequencer<M, S, L> {
         }
     }
 
-    // Takes the lock when no group is pending.
-    fn take_settled<R: Wait>(&self, rt: &R) -> MutexGuard<'_, Booked<M, S, L>>
+    /// Takes the lock when no group is pending.
+    pub(crate) fn take_settled<R: Wait>(&self, rt: &R) -> MutexGuard<'_, Booked<M, S, L>>
         ensures { M.pending result.value.now ≡ None }
     {
         let mut tries = 0u32;
@@ -168,7 +139,7 @@ impl<M: GroupCommits, S: Start, L: Ledger> SharedSequencer<M, S, L> {
         let mut tries = 0u32;
         for _ in rt.forever() {
             let mut held = self.hold(rt);
-            match held.finish_posted(answer) {
+            match held.booked.finish_mail(answer) {
                 Ok(()) => {
                     self.syncing.store(0, Ordering::SeqCst);
                     self.answered.notify_all();
@@ -195,42 +166,12 @@ impl<M: GroupCommits, S: Start, L: Ledger> SharedSequencer<M, S, L> {
         let _posted = take(rt, &self.mailbox).post(sender, session, request);
     }
 
-    /// Hangs a session up, and says whether it was connected.
-    pub fn hangup<R: Wait>(&self, rt: &R, share: &mut Share<L>, session: u64) -> bool
-        requires { 0 < share.old.parts }
-        ensures { LeftBy M.manages S.start S.base session (share.old.parts, share.old.amount) result
-            (share.new.parts, share.new.amount) }
-    {
-        self.take_settled(rt).hangup(share, session)
-    }
-
-    /// How the manager is doing. No share counts it.
-    pub fn status<R: Wait>(&self, rt: &R) -> Status
-        ensures { IsTold M.manages S.start S.base result }
-    {
-        self.take_settled(rt).status()
-    }
-
     /// The sequencer, the ledger's book, whose total is its count less the answers to posted calls that are in no share,
     /// and how many these are: none, where each thread took its answers.
     pub fn into_sequencer(self) -> (Sequencer<M, S>, Book<L>, u64)
         ensures { result.1.total + result.2 ≡ result.0.count }
     {
         self.lock.into_inner().parts()
-    }
-
-    /// Whether a session has an association of its own.
-    pub fn has_association<R: Wait>(&self, rt: &R, session: u64) -> bool
-        ensures { AssociatedBy M.manages S.start S.base session result }
-    {
-        self.take_settled(rt).has_association(session)
-    }
-
-    /// Where the log's next record begins, while the manager is up.
-    pub fn log_end<R: Wait>(&self, rt: &R) -> u64
-        ensures { EndedBy M.manages S.start S.base result }
-    {
-        self.take_settled(rt).log_end()
     }
 }
 
