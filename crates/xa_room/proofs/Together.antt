@@ -9,7 +9,7 @@ use Rattle.xa_frame.specs.Limits.{IsReply}
 use Rattle.xa_frame.specs.declared.reply.Reply.{Reply}
 use Rattle.xa_frame.specs.declared.request.Request.{Request}
 use Rattle.xa_frame.specs.declared.request.Request.TheVariants.{Open, Close, Start, End, Prepare, Commit, Rollback, Forget, Recover, Get, Put, Delete, Decide, Doom, Restart, Timeout, Tick, Trim, Branches}
-use Rattle.xa_log.specs.declared.log.Log.{Log}
+use Rattle.xa_log.specs.LogView.{LogView}
 use Rattle.xa_xid.specs.Triple.{Triple}
 use Rattle.xa_model.specs.Answer.{detailed}
 use Rattle.xa_model.specs.Events.{asks_trim, is_trim}
@@ -164,5 +164,5 @@ module _ {D : Type 0} (disks : Ghosts D) where
       → AnswersTogether (ManagerStandsFor disks)
       (λ event outcome a b. HasCalledFor disks (is_trim event) outcome a.log b.log) (λ events a b. CrashesTogether disks events a b) (λ m. counted_by disks.failures m.log)
       old calls replies new
-  answered_together old new calls [] h = rests old new h.0 (subst (λ (l : Log D). HasReserved disks old.log l) (sym h.1) (none_reserved disks old.log))
+  answered_together old new calls [] h = rests old new h.0 (subst (λ (l : LogView D). HasReserved disks old.log l) (sym h.1) (none_reserved disks old.log))
   answered_together old new calls (r ∷ rs) h = (h.2, acted_together old new calls h.0 h.1 h.2 r rs h.3 h.4)
