@@ -1,7 +1,7 @@
 -- What a rescan that succeeds finds of a log.
 use Rattle.std.proofs.Common.{◌≡◌, ◌⊎◌, ⊎_elim, inl, inr, ℕ, ◌≤◌, Bool, true, false, List, ◌++◌, length, take, refl, sym, ◌∙◌, ap, cond, None}
 use Rattle.xa_disk.specs.declared.disk.Disk.{Ghosts}
-use Rattle.xa_log.specs.declared.log.Log.{Log}
+use Rattle.xa_log.specs.LogView.{LogView}
 use Rattle.xa_log.specs.Chain.{logged}
 use Rattle.xa_log.specs.Group.{HasFirstPart, IsFirstPart, NoChance}
 use Rattle.xa_log.specs.Reading.{is_newer, fault_of}
@@ -16,7 +16,7 @@ use Rattle.xa_log.proofs.Pair.{pair_log, calm_logged, beats_read}
 use Rattle.xa_log.proofs.Records.{rests_logged}
 use Rattle.xa_log.proofs.Which.{seal_law}
 
-module _ {D : Type 0} (disks : Ghosts D) (old new : Log D) (found : List (List ℕ))
+module _ {D : Type 0} (disks : Ghosts D) (old new : LogView D) (found : List (List ℕ))
     (first : disks.seen (cond new.on_first new.disk new.other) ≡ disks.seen (cond old.on_first old.disk old.other)) (second : disks.seen (cond new.on_first new.other new.disk) ≡ disks.seen (cond old.on_first old.other old.disk))
     (it : IsOpenPair disks found (logged (disks.seen new.other)) new) (is : logged_of old.on_first (disks.seen old.disk) (disks.seen old.other) ≡ found) where
   abbrev Read : Type 0

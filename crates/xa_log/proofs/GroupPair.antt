@@ -13,12 +13,12 @@ use Rattle.xa_log.specs.Stands.{Answers}
 use Rattle.xa_log.specs.TwoFiles.{AppendsTo, Pair}
 use Rattle.xa_log.specs.declared.appending.Appended.{Appended}
 use Rattle.xa_log.specs.declared.appending.Appended.TheVariants.{Kept, Refused, Lost, Full}
-use Rattle.xa_log.specs.declared.log.Log.{Log}
+use Rattle.xa_log.specs.LogView.{LogView}
 use Rattle.xa_log.proofs.Grouped.{beats_group, bytes_as_one, length-closed, length-closed_by}
 use Rattle.xa_log.proofs.Known.{append_grows, append_reaches}
 use Rattle.xa_log.proofs.Two.{pair_on}
 
-pub appends_group : {D : Type 0} (disks : Ghosts D) (bodies group stood : List (List ℕ)) (old new : Log D) (p : Pair disks bodies stood old) (o : Appended)
+pub appends_group : {D : Type 0} (disks : Ghosts D) (bodies group stood : List (List ℕ)) (old new : LogView D) (p : Pair disks bodies stood old) (o : Appended)
     → Answers disks o bodies group new → new.other ≡ old.other → new.on_first ≡ old.on_first → new.log_bytes ≡ old.log_bytes
     → AppendsTo disks o bodies group stood new
 appends_group disks bodies group stood old new p Kept a other first most = pair_on disks bodies stood old new p (bodies ++ group) a other first most (beats_group old.on_first bodies group stood p.older)
@@ -34,7 +34,7 @@ appends_group disks bodies group stood old new p Full a other first most = pair_
 -- ---- how far the files are known to reach
 
 module _ {D : Type 0} (disks : Ghosts D) (tears_torn : (old : List ℕ) (at : ℕ) (bytes new : List ℕ) → disks.tears old at bytes new → Torn at (length bytes) old new)
-    (group : List (List ℕ)) (more : ℕ) (old new : Log D) (other : new.other ≡ old.other) (other_known : new.other_known ≡ old.other_known) (o : Appended)
+    (group : List (List ℕ)) (more : ℕ) (old new : LogView D) (other : new.other ≡ old.other) (other_known : new.other_known ≡ old.other_known) (o : Appended)
     (went : PutAheadBecame disks o old.end (closed old.digest group) (closed_by more old.digest group) old.disk new.disk) (k : IsKnown disks old) where
   grows : length (disks.seen old.disk) ≤ length (disks.seen new.disk)
   grows = append_grows disks tears_torn old.end (closed old.digest group) (closed_by more old.digest group) old.disk new.disk o went
@@ -55,7 +55,7 @@ module _ {D : Type 0} (disks : Ghosts D) (tears_torn : (old : List ℕ) (at : �
 
 -- ---- what was written, and by which calls
 
-module _ {D : Type 0} (disks : Ghosts D) (group : List (List ℕ)) (old : Log D) (new : D) (more : ℕ) (o : Appended) (exact : more ≡ ready_for old (as_one group)) where
+module _ {D : Type 0} (disks : Ghosts D) (group : List (List ℕ)) (old : LogView D) (new : D) (more : ℕ) (o : Appended) (exact : more ≡ ready_for old (as_one group)) where
   pub writes_group : o ≡ Kept → PutAheadBecame disks o old.end (closed old.digest group) (closed_by more old.digest group) old.disk new
       → Wrote disks old.end (closed old.digest group) (closed_by (ready_for old (as_one group)) old.digest group) old.disk new
   writes_group is went =

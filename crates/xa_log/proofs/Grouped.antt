@@ -15,7 +15,7 @@ use Rattle.xa_log.specs.Stands.{Answers, Leaves, MayStand, Stands}
 use Rattle.xa_log.specs.declared.appending.Appended.{Appended}
 use Rattle.xa_log.specs.declared.appending.Appended.TheVariants.{Kept, Refused, Lost, Full}
 use Rattle.xa_log.specs.declared.format.Format.{Format}
-use Rattle.xa_log.specs.declared.log.Log.{Log}
+use Rattle.xa_log.specs.LogView.{LogView}
 use Rattle.xa_log.proofs.Again.{no_fault}
 use Rattle.xa_log.proofs.Append.{torn_begins, begins_same, refused, generation_more}
 use Rattle.xa_log.proofs.Records.{length-record_of, text_more, sizes_more, closed_zeros}
@@ -199,7 +199,7 @@ beats_group first [] (body ∷ group) stood wins = beats_more first [] body stoo
 
 -- ---- what a log stands for after each answer
 
-module _ {D : Type 0} (disks : Ghosts D) (bodies group : List (List ℕ)) (more : ℕ) (old new : Log D)
+module _ {D : Type 0} (disks : Ghosts D) (bodies group : List (List ℕ)) (more : ℕ) (old new : LogView D)
     (tears_torn : (f : List ℕ) (at : ℕ) (bytes g : List ℕ) → disks.tears f at bytes g → Torn at (length bytes) f g) (stands : Stands disks bodies old) (some : 1 ≤ length group) (ok : AllByRecursion (IsBody old.format) group) where
   abbrev format : Format
   format = old.format
@@ -325,7 +325,7 @@ module _ {D : Type 0} (disks : Ghosts D) (bodies group : List (List ℕ)) (more 
 
 -- ---- any moment
 
-module _ {D : Type 0} (disks : Ghosts D) (bodies group : List (List ℕ)) (old : Log D) (stands : Stands disks bodies old)
+module _ {D : Type 0} (disks : Ghosts D) (bodies group : List (List ℕ)) (old : LogView D) (stands : Stands disks bodies old)
     (only_now : (c : List ℕ) → disks.left_since old.disk (disks.moment old.disk) c → disks.may_leave old.disk c) (ok : AllByRecursion (IsBody old.format) group) where
   pub group_moments : (new : D) (n : ℕ) → old.end + n ≤ old.log_bytes → TimePasses disks (Torn old.end n) old.disk new
       → LeavesOnly disks old.disk new (Leaves old.log_bytes old.format bodies group)

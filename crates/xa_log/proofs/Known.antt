@@ -12,7 +12,7 @@ use Rattle.xa_log.specs.Chain.{start, closing, preamble, records}
 use Rattle.xa_log.specs.Checkpoint.{behind_front}
 use Rattle.xa_log.specs.declared.appending.Appended.{Appended}
 use Rattle.xa_log.specs.declared.appending.Appended.TheVariants.{Kept, Refused, Lost, Full}
-use Rattle.xa_log.specs.declared.log.Log.{Log}
+use Rattle.xa_log.specs.LogView.{LogView}
 use Rattle.xa_log.proofs.Header.{length-preamble}
 use Rattle.xa_log.proofs.Tried.{torn_wrote}
 
@@ -70,7 +70,7 @@ module _ {D : Type 0} (disks : Ghosts D) (tears_torn : (old : List ℕ) (at : �
 
 -- ---- a checkpoint
 
-module _ {D : Type 0} (disks : Ghosts D) (old new : Log D) (wrote : D) (grows : length (disks.seen old.other) ≤ length (disks.seen wrote)) (k : IsKnown disks old) where
+module _ {D : Type 0} (disks : Ghosts D) (old new : LogView D) (wrote : D) (grows : length (disks.seen old.other) ≤ length (disks.seen wrote)) (k : IsKnown disks old) where
   pub known_swapped : (n : ℕ) → n ≤ length (disks.seen wrote) → new.disk ≡ wrote → new.other ≡ old.disk → new.known ≡ max old.other_known n → new.other_known ≡ old.known → IsKnown disks new
   known_swapped n long disk other known other_known = record {
     current = omega (arith, known, k.other, grows, long, ap (λ (d : D). length (disks.seen d)) disk);

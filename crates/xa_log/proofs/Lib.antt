@@ -6,6 +6,7 @@ pub mod Known
 pub mod Encode
 pub mod Append
 pub mod Front
+pub mod Viewed
 pub mod Walk
 pub mod Chance
 pub mod Cached

@@ -6,7 +6,7 @@ use Rattle.xa_disk.specs.Disk.{Only}
 use Rattle.xa_disk.specs.declared.disk.Disk.{Ghosts}
 use Rattle.xa_disk.specs.Images.{torn_same}
 use Rattle.xa_log.specs.declared.fault.OpenFault.TheVariants.{NotALog, TooNew, TooLong}
-use Rattle.xa_log.specs.declared.log.Log.{Log}
+use Rattle.xa_log.specs.LogView.{LogView}
 use Rattle.xa_log.specs.declared.reading.Scan.{Scan}
 use Rattle.xa_log.specs.Chain.{start, last, text, Rests, logged}
 use Rattle.xa_log.specs.Reading.{is_newer, bodies_of, IsScan}
@@ -90,7 +90,7 @@ current_logged a b first scan it = by first it
     by true it = ap (λ (t : Bool). cond t (logged a) (logged b)) (sym it.choice) ∙ scan_logged a scan it.scan_is
     by false it = ap (λ (t : Bool). cond t (logged a) (logged b)) (sym it.choice) ∙ scan_logged b scan it.scan_is
 
-module _ {D : Type 0} (disks : Ghosts D) (a b : List ℕ) (log : Log D) (scan : Scan) (s : Sound log.log_bytes a b) (one : Only (disks.seen log.disk) (disks.may_leave log.disk)) (two : Only (disks.seen log.other) (disks.may_leave log.other))
+module _ {D : Type 0} (disks : Ghosts D) (a b : List ℕ) (log : LogView D) (scan : Scan) (s : Sound log.log_bytes a b) (one : Only (disks.seen log.disk) (disks.may_leave log.disk)) (two : Only (disks.seen log.other) (disks.may_leave log.other))
     (format : log.format ≡ scan.format) (end : log.end ≡ scan.end) (digest : log.digest ≡ scan.digest) (number : log.generation ≡ generation (bodies_of scan.bodies.items)) (alive : log.lost ≡ false) where
   abbrev bodies : List (List ℕ)
   bodies = bodies_of scan.bodies.items
@@ -139,7 +139,7 @@ pub opened_leaves : (most : ℕ) (a b : List ℕ) (found : List (List ℕ)) (c d
 opened_leaves most a b found c d p q none is = ((λ i. pair_fault most (p i) (q i)) ∙ none, (λ i. logged_pair (p i) (q i)) ∙ is)
 
 -- where the other file has no record it comes behind
-pub made_pair : {D : Type 0} (disks : Ghosts D) (found stood : List (List ℕ)) (log : Log D) → found ≡ [] → stood ≡ [] → IsOpenPair disks found stood log
+pub made_pair : {D : Type 0} (disks : Ghosts D) (found stood : List (List ℕ)) (log : LogView D) → found ≡ [] → stood ≡ [] → IsOpenPair disks found stood log
     → Pair disks [] [] log × IsQuiet disks [] log.other
 made_pair disks found stood log none nothing it =
     let now : IsOpenPair disks [] [] log = subst (λ s. IsOpenPair disks [] s log) nothing (subst (λ b. IsOpenPair disks b stood log) none it) in

@@ -13,14 +13,14 @@ use Rattle.xa_log.specs.Stands.{Answers, Moves, Renumbers, Stands}
 use Rattle.xa_log.specs.Written.{AppendsGroup, HasWritten, range_of, ready_range_of}
 use Rattle.xa_log.specs.declared.appending.Appended.{Appended}
 use Rattle.xa_log.specs.declared.appending.Appended.TheVariants.{Kept, Refused, Lost, Full}
-use Rattle.xa_log.specs.declared.log.Log.{Log}
+use Rattle.xa_log.specs.LogView.{LogView}
 use Rattle.xa_log.specs.declared.written.Written.{Written}
 use Rattle.xa_log.proofs.Append.{kept_ahead}
 use Rattle.xa_log.proofs.Grouped.{answers_kept, answers_refused, answers_lost, length-closed, length-closed_by, range_moments}
 use Rattle.xa_log.proofs.GroupPair.{appends_group, known_group, known_group_still, writes_group}
 use Rattle.xa_log.proofs.GroupSteps.{ends, end_after, room_of}
 
-module _ {D : Type 0} (disks : Ghosts D) (group : List (List ℕ)) (w : Written) (old mid : Log D) (h : HasWritten disks group w old mid) where
+module _ {D : Type 0} (disks : Ghosts D) (group : List (List ℕ)) (w : Written) (old mid : LogView D) (h : HasWritten disks group w old mid) where
   pub long : length (range_of old group) ≡ w.to - mid.end
   long = omega (arith, length-closed old.digest group, h.to, h.ends.0)
 
@@ -37,7 +37,7 @@ module _ {D : Type 0} (disks : Ghosts D) (group : List (List ℕ)) (w : Written)
   passed honest = subst (λ e. TimePasses disks (Torn e (length (ready_range_of old group))) old.disk mid.disk) (sym h.ends.0) (h.time honest)
 
 -- what stays of the log, whatever the group came to
-pub record Beside {D : Type 0} (mid new : Log D) : Type 0 where
+pub record Beside {D : Type 0} (mid new : LogView D) : Type 0 where
   pub log_bytes : new.log_bytes ≡ mid.log_bytes
   pub format : new.format ≡ mid.format
   pub other : new.other ≡ mid.other
@@ -48,7 +48,7 @@ pub record Beside {D : Type 0} (mid new : Log D) : Type 0 where
 module _ {D : Type 0} (disks : Ghosts D)
     (tears_torn : (f : List ℕ) (at : ℕ) (bytes g : List ℕ) → disks.tears f at bytes g → Torn at (length bytes) f g)
     (only_now : (d : D) (c : List ℕ) → disks.left_since d (disks.moment d) c → disks.may_leave d c)
-    (group : List (List ℕ)) (w : Written) (old mid new : Log D) (h : HasWritten disks group w old mid) (o : Appended) (not_full : o ≢ Full)
+    (group : List (List ℕ)) (w : Written) (old mid new : LogView D) (h : HasWritten disks group w old mid) (o : Appended) (not_full : o ≢ Full)
     (went_there : disks.honest → PutAheadBecame disks o mid.end (range_of old group) (ready_range_of old group) old.disk new.disk)
     (time_there : disks.honest → TimePasses disks (Torn mid.end (length (ready_range_of old group))) old.disk new.disk)
     (calls : AppendsAhead (ready_for old (as_one group)) o (disks.failures old.disk) (disks.failures new.disk) (disks.counts old.disk) (disks.counts new.disk))

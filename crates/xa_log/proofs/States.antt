@@ -5,7 +5,7 @@ use Rattle.xa_disk.specs.Disk.{Same}
 use Rattle.xa_disk.specs.Time.{TimePasses}
 use Rattle.xa_disk.specs.declared.disk.Disk.{Ghosts}
 use Rattle.xa_log.specs.declared.format.Format.{Format}
-use Rattle.xa_log.specs.declared.log.Log.{Log}
+use Rattle.xa_log.specs.LogView.{LogView}
 use Rattle.xa_log.specs.Group.{IsFirstPart}
 use Rattle.xa_log.specs.Pair.{generation, beats, CalmTears, IsCalm, fault_pair, logged_of, pair_fault, logged_pair}
 use Rattle.xa_log.specs.Checkpoint.{LeavesOf, SealTears}
@@ -34,7 +34,7 @@ log_of most format bodies c l = record { format = format; fits = l.fits; rests =
 
 -- ---- images
 
-module _ {D : Type 0} (disks : Ghosts D) (log : Log D) where
+module _ {D : Type 0} (disks : Ghosts D) (log : LogView D) where
   -- the other file comes behind the log without the group too
   older_alone : {bodies group stood : List (List ℕ)} → MayStandPair disks bodies group stood log → beats log.on_first bodies stood ≡ true
   older_alone {bodies} {group} {stood} p = subst (λ (b : List (List ℕ)). beats log.on_first b stood ≡ true) (append-nil bodies) (p.older 0)
@@ -83,7 +83,7 @@ same_left disks old new time only_now c left =
     ⊎_elim (λ past. only_now c past) (λ x. subst (λ (f : List ℕ). disks.may_leave old f) (sym x.2) x.1) (time.nothing_else (disks.moment old) c (omega arith) left)
 
 pub look_leaves : {D : Type 0} (disks : Ghosts D) → ((d : D) (c : List ℕ) → disks.left_since d (disks.moment d) c → disks.may_leave d c)
-    → (old new : Log D) → LooksTo disks old new → (state : LogState) → IsIn disks state old → (first second : List ℕ) → LeftByLook disks old new first second
+    → (old new : LogView D) → LooksTo disks old new → (state : LogState) → IsIn disks state old → (first second : List ℕ) → LeftByLook disks old new first second
     → LeavesBoth state old first second
 look_leaves disks only_now old new looks state is first second left =
     left_both disks old state is first second
@@ -92,7 +92,7 @@ look_leaves disks only_now old new looks state is first second left =
 
 -- ---- reads
 
-module _ {D : Type 0} (disks : Ghosts D) (log : Log D) where
+module _ {D : Type 0} (disks : Ghosts D) (log : LogView D) where
   calm_beside : (state : LogState) → (BesideTears disks.tears state → IsCalm (beside state) (disks.seen log.other)) → IsCalmBeside disks state log → IsCalm (beside state) (disks.seen log.other)
   calm_beside state on calm = ⊎_elim on (λ q. q.calm) calm
 
@@ -147,7 +147,7 @@ whole_append bodies [] some is = absurd (omega arith)
 whole_append [] (body ∷ group) some is = cc is
 whole_append (b ∷ bodies) (body ∷ group) some is = whole_append bodies (body ∷ group) some (cc is)
 
-module _ {D : Type 0} (disks : Ghosts D) (log : Log D) where
+module _ {D : Type 0} (disks : Ghosts D) (log : LogView D) where
   -- a log of which no more than these bodies may be found stands
   pub whole_of : (state : LogState) → IsIn disks state log → (bodies : List (List ℕ)) → ((found : List (List ℕ)) → MayFind state found → found ≡ bodies)
       → (stood : List (List ℕ)) × Pair disks bodies stood log

@@ -3,7 +3,7 @@ use Rattle.std.proofs.Common.{◌≡◌, ◌⊎◌, ⊎_elim, inl, inr, ℕ, ◌
 use Rattle.std.specs.Result.{IsErrAnd}
 use Rattle.xa_disk.specs.Disk.{Same, Passes}
 use Rattle.xa_disk.specs.declared.disk.Disk.{Ghosts}
-use Rattle.xa_log.specs.declared.log.Log.{Log}
+use Rattle.xa_log.specs.LogView.{LogView}
 use Rattle.xa_log.specs.declared.fault.OpenFault.{OpenFault}
 use Rattle.xa_log.specs.declared.fault.OpenFault.TheVariants.{Device, Memory}
 use Rattle.xa_log.specs.Chain.{start, last, text, Rests, logged}
@@ -19,7 +19,7 @@ use Rattle.xa_log.proofs.Again.{no_fault, rests_front, fits_of}
 use Rattle.xa_log.proofs.Pair.{no_pair_fault, calm_logged}
 use Rattle.xa_log.proofs.Choosing.{no_fault_log, no_fault_newer}
 
-module _ {D : Type 0} (disks : Ghosts D) (old new : Log D) (u : Untouched old new)
+module _ {D : Type 0} (disks : Ghosts D) (old new : LogView D) (u : Untouched old new)
     (same : disks.seen new.disk ≡ disks.seen old.disk) (left : (c : List ℕ) → disks.may_leave new.disk c → disks.may_leave old.disk c) (same_other : disks.seen new.other ≡ disks.seen old.other) (left_other : (c : List ℕ) → disks.may_leave new.other c → disks.may_leave old.other c) where
   stands_kept : (bodies : List (List ℕ)) → Stands disks bodies old → Stands disks bodies new
   stands_kept bodies s = record {
@@ -102,7 +102,7 @@ module _ {D : Type 0} (disks : Ghosts D) (old new : Log D) (u : Untouched old ne
 
 -- ---- what a crash may leave of each file
 
-module _ {D : Type 0} (disks : Ghosts D) (log : Log D) where
+module _ {D : Type 0} (disks : Ghosts D) (log : LogView D) where
   pub left_other : (stood : List (List ℕ)) → IsOther disks log.log_bytes stood log.other → (c : List ℕ) → disks.may_leave log.other c → LeavesOf log.log_bytes stood c
   left_other stood o c now = record { fits = o.left_fits c now; reads = calm_logged stood c (o.left_behind c now) }
 
@@ -117,7 +117,7 @@ module _ (most : ℕ) (first : Bool) (current other : List ℕ) (opens : fault_o
   pub reads_well : is_newer (take 8 other) ≡ false → fault_pair most first current other ≡ None
   reads_well known = no_pair_fault most (logged current) current other (no_fault_log most current opens) (no_fault_newer most current opens) (fits_of most current opens) refl short known first
 
-module _ {D : Type 0} (disks : Ghosts D) (log : Log D) where
+module _ {D : Type 0} (disks : Ghosts D) (log : LogView D) where
   pub pair_reads : (bodies stood : List (List ℕ)) → Pair disks bodies stood log → CalmTears disks.tears ⊎ IsQuiet disks stood log.other → fault_pair log.log_bytes log.on_first (disks.seen log.disk) (disks.seen log.other) ≡ None
   pair_reads bodies stood p calm =
       let s = p.current in

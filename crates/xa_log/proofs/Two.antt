@@ -12,7 +12,7 @@ use Rattle.xa_log.specs.Stands.{Stands}
 use Rattle.xa_log.specs.TwoFiles.{Pair, Checkpoints, written}
 use Rattle.xa_log.specs.declared.appending.Appended.{Appended}
 use Rattle.xa_log.specs.declared.appending.Appended.TheVariants.{Kept, Refused, Lost, Full}
-use Rattle.xa_log.specs.declared.log.Log.{Log}
+use Rattle.xa_log.specs.LogView.{LogView}
 use Rattle.xa_log.proofs.Pair.{beats_nil, beats_above, calm_logged}
 use Rattle.xa_log.specs.Answers.{HasCause}
 use Rattle.xa_log.proofs.Append.{kept_if}
@@ -33,7 +33,7 @@ beats_more first [] body (d ∷ stood) wins = absurd
     later false is = cc is
 
 -- a checkpoint that was kept, whatever stood in the other file
-pub replaced : {D : Type 0} (disks : Ghosts D) (bodies stood : List (List ℕ)) (old new : Log D) → (s : Stands disks bodies old)
+pub replaced : {D : Type 0} (disks : Ghosts D) (bodies stood : List (List ℕ)) (old new : LogView D) → (s : Stands disks bodies old)
     → (format : Format) (fresh : List (List ℕ)) → old.generation < generation fresh → (o : Appended) (d : D) → o ≡ Kept
     → Checkpointed disks o old.log_bytes format stood fresh old.other d
     → new.disk ≡ d → new.other ≡ old.disk → new.log_bytes ≡ old.log_bytes → new.format ≡ format
@@ -63,7 +63,7 @@ replaced disks bodies stood old new s format fresh less o d is left disk other m
     )
 
 module _ {D : Type 0} (disks : Ghosts D)
-    (bodies stood : List (List ℕ)) (old new : Log D) (p : Pair disks bodies stood old) where
+    (bodies stood : List (List ℕ)) (old new : LogView D) (p : Pair disks bodies stood old) where
   -- the other file stays
   pub pair_on : (now : List (List ℕ)) → Stands disks now new → new.other ≡ old.other → new.on_first ≡ old.on_first
       → new.log_bytes ≡ old.log_bytes → beats old.on_first now stood ≡ true → Pair disks now stood new
@@ -149,13 +149,13 @@ module _ {D : Type 0} (disks : Ghosts D)
       (record { later = omega arith; follows = λ c now. (c, now, refl); nothing_else = λ t c le left. inl left; keeps = λ t c le left. left })
 
 -- the file that was written
-pub wrote_kept : {D : Type 0} (o : Appended) (new : Log D) (d : D) → o ≡ Kept → new.disk ≡ d → written o new ≡ d
+pub wrote_kept : {D : Type 0} (o : Appended) (new : LogView D) (d : D) → o ≡ Kept → new.disk ≡ d → written o new ≡ d
 wrote_kept o new d is disk = subst (λ x. written x new ≡ d) (sym is) disk
 
-pub wrote_lost : {D : Type 0} (o : Appended) (new : Log D) (d : D) → o ≡ Lost → new.other ≡ d → written o new ≡ d
+pub wrote_lost : {D : Type 0} (o : Appended) (new : LogView D) (d : D) → o ≡ Lost → new.other ≡ d → written o new ≡ d
 wrote_lost o new d is other = subst (λ x. written x new ≡ d) (sym is) other
 
-pub wrote_refused : {D : Type 0} (o : Appended) (new : Log D) (d : D) → (o ≡ Refused) ⊎ (o ≡ Full) → new.other ≡ d → written o new ≡ d
+pub wrote_refused : {D : Type 0} (o : Appended) (new : LogView D) (d : D) → (o ≡ Refused) ⊎ (o ≡ Full) → new.other ≡ d → written o new ≡ d
 wrote_refused o new d (inl is) other = subst (λ x. written x new ≡ d) (sym is) other
 wrote_refused o new d (inr is) other = subst (λ x. written x new ≡ d) (sym is) other
 

@@ -12,22 +12,22 @@ use Rattle.xa_log.specs.Chain.{IsBody, last}
 use Rattle.xa_log.specs.Group.{as_one, closed, closed_by, first_of_group, group_bytes}
 use Rattle.xa_log.specs.Pair.{number_in}
 use Rattle.xa_log.specs.Written.{HasWritten, range_of}
-use Rattle.xa_log.specs.declared.log.Log.{Log}
+use Rattle.xa_log.specs.LogView.{LogView}
 use Rattle.xa_log.specs.declared.written.Written.{Written}
 use Rattle.xa_log.proofs.GroupSteps.{ready_same}
 use Rattle.xa_log.proofs.Grouped.{bytes_as_one, length-closed_by, range_moments}
 
 -- a buffer of so many bytes holds the records
-pub buffer_holds : {D : Type 0} (log : Log D) (group : List (List ℕ)) (to : ℕ) → 1 ≤ length group → to ≡ log.end + group_bytes group + 4 → Holds log (as_one group)
-    → 1048576 ≤ length log.buffer.items → to - log.end ≤ length log.buffer.items
+pub buffer_holds : {D : Type 0} (log : LogView D) (group : List (List ℕ)) (to : ℕ) → 1 ≤ length group → to ≡ log.end + group_bytes group + 4 → Holds log (as_one group)
+    → 1048576 ≤ log.room → to - log.end ≤ log.room
 buffer_holds log group to some is (inl few) wide = omega (arith, is, few, wide, bytes_as_one group some)
 buffer_holds log group to some is (inr holds) wide = omega (arith, is, holds, bytes_as_one group some)
 
-module _ {D : Type 0} (disks : Ghosts D) (only_now : (d : D) (c : List ℕ) → disks.left_since d (disks.moment d) c → disks.may_leave d c) (group : List (List ℕ)) (w : Written) (old new : Log D) (more : ℕ)
+module _ {D : Type 0} (disks : Ghosts D) (only_now : (d : D) (c : List ℕ) → disks.left_since d (disks.moment d) c → disks.may_leave d c) (group : List (List ℕ)) (w : Written) (old new : LogView D) (more : ℕ)
     (alive : old.lost ≡ false) (some : 1 ≤ length group) (sizes : AllByRecursion (IsBody old.format) group)
     (to : w.to ≡ old.end + group_bytes group + 4) (exact : more ≡ ready old.end w.to old.log_bytes old.known) (fits : w.to + more ≤ old.log_bytes)
     (digest : w.digest ≡ last old.digest group) (number : w.generation ≡ cond (nat_eq old.end 8) (number_in (first_of_group group)) old.generation)
-    (buffer : w.to - old.end ≤ length new.buffer.items)
+    (buffer : w.to - old.end ≤ new.room)
     (went : disks.honest → LeftWritten disks w.write old.end (closed old.digest group) (closed_by more old.digest group) old.disk new.disk)
     (time : disks.honest → TimePasses disks (Torn old.end (length (closed_by more old.digest group))) old.disk new.disk)
     (calls : WritesAhead more w.write (disks.failures old.disk) (disks.failures new.disk) (disks.counts old.disk) (disks.counts new.disk))

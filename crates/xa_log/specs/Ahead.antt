@@ -6,7 +6,7 @@ use Rattle.xa_log.specs.Calls.{AppendsAhead}
 use Rattle.xa_log.specs.Group.{as_one, closed, closed_by}
 use Rattle.xa_log.specs.declared.ahead.TheConstants.{READY_BYTES}
 use Rattle.xa_log.specs.declared.appending.Appended.{Appended}
-use Rattle.xa_log.specs.declared.log.Log.{Log}
+use Rattle.xa_log.specs.LogView.{LogView}
 use Rattle.xa_limits.specs.declared.TheConstants.{AROUND_CLOSED}
 
 -- how many bytes there are from an offset up to the end of its piece, within the limit
@@ -21,28 +21,28 @@ ready from to most known =
     if from / READY_BYTES == to / READY_BYTES || nat_le (to + piece_from to most) known then 0 else piece_from to most
 
 -- how many go behind an append of a body of so many bytes
-abbrev pub ready_for : {D : Type 0} → Log D → ℕ → ℕ
+abbrev pub ready_for : {D : Type 0} → LogView D → ℕ → ℕ
 ready_for log n = ready log.end (log.end + AROUND_CLOSED + n) log.log_bytes log.known
 
 -- A group that is kept has been written and nothing else, or where the write with zeros failed, over what it left, the
 -- records and the closing length.
-abbrev pub Writes : {D : Type 0} → Ghosts D → List (List ℕ) → Log D → Log D → Type 0
+abbrev pub Writes : {D : Type 0} → Ghosts D → List (List ℕ) → LogView D → LogView D → Type 0
 Writes disks group old new =
     Wrote disks old.end (closed old.digest group) (closed_by (ready_for old (as_one group)) old.digest group)
     old.disk new.disk
 
 -- the failures and the calls of an append of a body of so many bytes
-abbrev pub AppendsBy : {D : Type 0} → Ghosts D → ℕ → Appended → Log D → Log D → Type 0
+abbrev pub AppendsBy : {D : Type 0} → Ghosts D → ℕ → Appended → LogView D → LogView D → Type 0
 AppendsBy disks n outcome old new =
     AppendsAhead (ready_for old n) outcome
     (disks.failures old.disk) (disks.failures new.disk) (disks.counts old.disk) (disks.counts new.disk)
 
 -- each of the two files was measured, and is known to reach as far as it does
-pub record IsMeasured {D : Type 0} (disks : Ghosts D) (log : Log D) : Type 0 where
+pub record IsMeasured {D : Type 0} (disks : Ghosts D) (log : LogView D) : Type 0 where
   pub current : log.known ≡ length (disks.seen log.disk)
   pub other : log.other_known ≡ length (disks.seen log.other)
 
 -- neither is taken to reach further than it does
-pub record IsKnown {D : Type 0} (disks : Ghosts D) (log : Log D) : Type 0 where
+pub record IsKnown {D : Type 0} (disks : Ghosts D) (log : LogView D) : Type 0 where
   pub current : log.known ≤ length (disks.seen log.disk)
   pub other : log.other_known ≤ length (disks.seen log.other)

@@ -12,7 +12,7 @@ use Rattle.xa_log.specs.declared.checkpointing.TheConstants.{CLEARED_BYTES}
 use Rattle.xa_limits.specs.declared.TheConstants.{LENGTH_BYTES}
 use Rattle.xa_log.specs.Stands.{Leaves}
 use Rattle.xa_log.specs.TwoFiles.{Pair, IsOpenPair, NoStray, first_of, second_of}
-use Rattle.xa_log.specs.declared.log.Log.{Log}
+use Rattle.xa_log.specs.LogView.{LogView}
 
 -- an image that is a log of these bodies
 pub record IsLogOf (most : ℕ) (bodies : List (List ℕ)) (file : List ℕ) : Type 0 where
@@ -56,7 +56,7 @@ SealLaw = (most : ℕ) (first : Bool) (bodies fresh : List (List ℕ)) (current 
 -- What was read of two files is a pair, of which the other file comes behind, where no stray records would come before
 -- it.
 abbrev pub OpenedLaw : {D : Type 0} → Ghosts D → Type 0
-OpenedLaw {D} disks = (bodies : List (List ℕ)) (log : Log D)
+OpenedLaw {D} disks = (bodies : List (List ℕ)) (log : LogView D)
     → IsOpenPair disks bodies (logged (disks.seen log.other)) log
     → NoStray (disks.seen (first_of log)) (disks.seen (second_of log))
     → Pair disks bodies (logged (disks.seen log.other)) log

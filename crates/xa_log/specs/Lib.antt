@@ -14,6 +14,8 @@ pub mod Laws
 pub mod TwoFiles
 pub mod Group
 pub mod LogStates
+pub mod LogView
+pub mod LogFields
 pub mod Looking
 pub mod Worked
 pub mod Missing

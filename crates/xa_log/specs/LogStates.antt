@@ -11,7 +11,7 @@ use Rattle.xa_log.specs.Pair.{CalmTears, IsCalm, logged_pair, pair_fault}
 use Rattle.xa_log.specs.Stands.{Leaves, LeavesLog, MayStand, Stands}
 use Rattle.xa_log.specs.TwoFiles.{MaySeal, MayStandPair, Pair, first_of, second_of}
 use Rattle.xa_log.specs.declared.format.Format.{Format}
-use Rattle.xa_log.specs.declared.log.Log.{Log}
+use Rattle.xa_log.specs.LogView.{LogView}
 
 -- It stands, and so does what stood in the other file; or the append of a group to it was lost; or the checkpoint
 -- of fresh bodies was.
@@ -21,7 +21,7 @@ pub data LogState : Type 0 where
   LostCheckpoint : (bodies fresh : List (List ℕ)) → LogState
 
 -- a log is in this state
-abbrev pub IsIn : {D : Type 0} → Ghosts D → LogState → Log D → Type 0
+abbrev pub IsIn : {D : Type 0} → Ghosts D → LogState → LogView D → Type 0
 IsIn disks (Whole bodies stood) log = Pair disks bodies stood log
 IsIn disks (LostAppend bodies group stood) log = MayStandPair disks bodies group stood log
 IsIn disks (LostCheckpoint bodies fresh) log = MaySeal disks bodies fresh log
@@ -53,7 +53,7 @@ BesideTears tears (LostAppend bodies group stood) = CalmTears tears
 BesideTears tears (LostCheckpoint bodies fresh) = SealTears tears
 
 -- that, or whatever was left to chance of the other file came out well
-abbrev pub IsCalmBeside : {D : Type 0} → Ghosts D → LogState → Log D → Type 0
+abbrev pub IsCalmBeside : {D : Type 0} → Ghosts D → LogState → LogView D → Type 0
 IsCalmBeside disks state log = BesideTears disks.tears state ⊎ IsQuiet disks (beside state) log.other
 
 -- ---- what a crash leaves
@@ -76,7 +76,7 @@ IsWithoutChance state format current other = IsPlainIn state format current × I
 
 -- Images of the first and of the second file of a log in this state: each is as the state says of it, and without
 -- chance an opening takes the two, and finds what a look may find.
-pub record LeavesBoth {D : Type 0} (state : LogState) (log : Log D) (first second : List ℕ) : Type 0 where
+pub record LeavesBoth {D : Type 0} (state : LogState) (log : LogView D) (first second : List ℕ) : Type 0 where
   pub current : LeavesCurrent state log.log_bytes log.format (if log.on_first then first else second)
   pub other : LeavesOf log.log_bytes (beside state) (if log.on_first then second else first)
   pub opens :
@@ -87,7 +87,7 @@ pub record LeavesBoth {D : Type 0} (state : LogState) (log : Log D) (first secon
 -- ---- a look
 
 -- A look at a log leads to another: for each of the two files time passes, and nothing is written.
-pub record LooksTo {D : Type 0} (disks : Ghosts D) (old new : Log D) : Type 0 where
+pub record LooksTo {D : Type 0} (disks : Ghosts D) (old new : LogView D) : Type 0 where
   pub log_bytes : new.log_bytes ≡ old.log_bytes
   pub first : TimePasses disks Same (first_of old) (first_of new)
   pub second : TimePasses disks Same (second_of old) (second_of new)
@@ -95,12 +95,12 @@ pub record LooksTo {D : Type 0} (disks : Ghosts D) (old new : Log D) : Type 0 wh
   pub second_same : disks.seen (second_of new) ≡ disks.seen (second_of old)
 
 -- images of the first and of the second file at moments of it
-pub record LeftByLook {D : Type 0} (disks : Ghosts D) (old new : Log D) (first second : List ℕ) : Type 0 where
+pub record LeftByLook {D : Type 0} (disks : Ghosts D) (old new : LogView D) (first second : List ℕ) : Type 0 where
   pub first_left : disks.left_since (first_of new) (disks.moment (first_of old)) first
   pub second_left : disks.left_since (second_of new) (disks.moment (second_of old)) second
 
 -- whatever state a log was in it is in
-pub record KeepsAll {D : Type 0} (disks : Ghosts D) (old new : Log D) : Type 0 where
+pub record KeepsAll {D : Type 0} (disks : Ghosts D) (old new : LogView D) : Type 0 where
   pub state : (state : LogState) → IsIn disks state old → IsIn disks state new
   pub quiet : (stood : List (List ℕ)) → IsQuiet disks stood old.other → IsQuiet disks stood new.other
   pub known : IsKnown disks old → IsKnown disks new

@@ -9,11 +9,11 @@ use Rattle.xa_log.specs.Reading.{fault_of}
 use Rattle.xa_log.specs.declared.format.Format.{Format}
 use Rattle.xa_log.specs.declared.appending.Appended.{Appended}
 use Rattle.xa_log.specs.declared.appending.Appended.TheVariants.{Kept, Refused, Lost, Full}
-use Rattle.xa_log.specs.declared.log.Log.{Log}
+use Rattle.xa_log.specs.LogView.{LogView}
 use Rattle.xa_limits.specs.declared.TheConstants.{AROUND_BODY, AROUND_CLOSED, FIRST_OFFSET, LENGTH_BYTES}
 
 -- a log of these bodies, which a read gives and each crash leaves
-pub record Stands {D : Type 0} (disks : Ghosts D) (bodies : List (List ℕ)) (log : Log D) : Type 0 where
+pub record Stands {D : Type 0} (disks : Ghosts D) (bodies : List (List ℕ)) (log : LogView D) : Type 0 where
   pub file : Rests log.format bodies (disks.seen log.disk)
   pub fits : length (disks.seen log.disk) ≤ log.log_bytes
   pub end : log.end ≡ length (text log.format bodies)
@@ -37,7 +37,7 @@ pub record LeavesLog (most : ℕ) (format : Format) (bodies : List (List ℕ)) (
   pub rests : Rests format bodies file
 
 -- The append of a group to these was lost: without chance, a read and a crash give the bodies and some first part of it.
-pub record MayStand {D : Type 0} (disks : Ghosts D) (bodies group : List (List ℕ)) (log : Log D) : Type 0 where
+pub record MayStand {D : Type 0} (disks : Ghosts D) (bodies group : List (List ℕ)) (log : LogView D) : Type 0 where
   pub some : 1 ≤ length group
   pub seen_is : Leaves log.log_bytes log.format bodies group (disks.seen log.disk)
   -- the same, where the disk's failed writes leave nothing by chance to a read
@@ -46,12 +46,12 @@ pub record MayStand {D : Type 0} (disks : Ghosts D) (bodies group : List (List �
   pub lost : log.lost ≡ true
 
 -- Whatever its disks hold: the next record begins behind these bodies, and none was lost.
-pub record EndsBehind {D : Type 0} (bodies : List (List ℕ)) (log : Log D) : Type 0 where
+pub record EndsBehind {D : Type 0} (bodies : List (List ℕ)) (log : LogView D) : Type 0 where
   pub end : log.end ≡ length (text log.format bodies)
   pub alive : log.lost ≡ false
 
 -- what each answer says of a group
-abbrev pub Answers : {D : Type 0} → Ghosts D → Appended → List (List ℕ) → List (List ℕ) → Log D → Type 0
+abbrev pub Answers : {D : Type 0} → Ghosts D → Appended → List (List ℕ) → List (List ℕ) → LogView D → Type 0
 Answers disks Kept bodies group log = Stands disks (bodies ++ group) log
 -- a read gives zeros over the whole range that the records and the closing length took
 Answers disks Refused bodies group log =
@@ -62,7 +62,7 @@ Answers disks Lost bodies group log = MayStand disks bodies group log
 Answers disks Full bodies group log = Stands disks bodies log
 
 -- a log's own fields stay
-pub record Untouched {D : Type 0} (old new : Log D) : Type 0 where
+pub record Untouched {D : Type 0} (old new : LogView D) : Type 0 where
   pub on_first : new.on_first ≡ old.on_first
   pub log_bytes : new.log_bytes ≡ old.log_bytes
   pub format : new.format ≡ old.format
@@ -75,7 +75,7 @@ pub record Untouched {D : Type 0} (old new : Log D) : Type 0 where
 
 -- Where a log's next record begins after an append of so many bytes, and how far the files are known to reach: the
 -- current one as far as the record and its closing length, the zeros behind it not counted.
-abbrev pub Moves : {D : Type 0} → Appended → ℕ → Log D → Log D → Type 0
+abbrev pub Moves : {D : Type 0} → Appended → ℕ → LogView D → LogView D → Type 0
 Moves Kept n old new =
     (new.end ≡ old.end + (AROUND_BODY + n)) × (new.format ≡ old.format) × (new.lost ≡ old.lost)
     × (new.known ≡ max old.known (old.end + AROUND_CLOSED + n)) × (new.other_known ≡ old.other_known)
@@ -88,7 +88,7 @@ Moves Lost n old new =
 Moves Full n old new = new ≡ old
 
 -- a log's generation after an append of a body: where it had no record the body's number
-abbrev pub Renumbers : {D : Type 0} → Appended → List ℕ → Log D → Log D → Type 0
+abbrev pub Renumbers : {D : Type 0} → Appended → List ℕ → LogView D → LogView D → Type 0
 Renumbers Kept body old new =
     new.generation ≡ (if old.end == FIRST_OFFSET then number_in body else old.generation)
 Renumbers Refused body old new = new.generation ≡ old.generation

@@ -9,11 +9,11 @@ use Rattle.xa_log.specs.Checkpoint.{IsOther, IsQuiet, LeavesOf, SealTears}
 use Rattle.xa_log.specs.Stands.{Stands, MayStand}
 use Rattle.xa_log.specs.declared.appending.Appended.{Appended}
 use Rattle.xa_log.specs.declared.appending.Appended.TheVariants.{Kept, Refused, Lost, Full}
-use Rattle.xa_log.specs.declared.log.Log.{Log}
+use Rattle.xa_log.specs.LogView.{LogView}
 
 -- The current file is a log of these bodies; of the other one, each image is without chance a log that comes behind
 -- it, of those bodies that stood there, or none.
-pub record Pair {D : Type 0} (disks : Ghosts D) (bodies stood : List (List ℕ)) (log : Log D) : Type 0 where
+pub record Pair {D : Type 0} (disks : Ghosts D) (bodies stood : List (List ℕ)) (log : LogView D) : Type 0 where
   pub current : Stands disks bodies log
   pub other : IsOther disks log.log_bytes stood log.other
   pub calm_on : CalmTears disks.tears → IsCalm stood (disks.seen log.other)
@@ -22,7 +22,7 @@ pub record Pair {D : Type 0} (disks : Ghosts D) (bodies stood : List (List ℕ))
 -- The append of a group to these was lost; of the other file the same is said as before, and it comes behind whichever
 -- first part stands.
 pub record MayStandPair {D : Type 0} (disks : Ghosts D) (bodies group stood : List (List ℕ))
-    (log : Log D) : Type 0 where
+    (log : LogView D) : Type 0 where
   pub current : MayStand disks bodies group log
   pub other : IsOther disks log.log_bytes stood log.other
   pub calm_on : CalmTears disks.tears → IsCalm stood (disks.seen log.other)
@@ -30,7 +30,7 @@ pub record MayStandPair {D : Type 0} (disks : Ghosts D) (bodies group stood : Li
 
 -- The checkpoint of new bodies was lost: the other file begins as a log, and without chance it is one of them or of
 -- none.
-pub record MaySeal {D : Type 0} (disks : Ghosts D) (bodies fresh : List (List ℕ)) (log : Log D) : Type 0 where
+pub record MaySeal {D : Type 0} (disks : Ghosts D) (bodies fresh : List (List ℕ)) (log : LogView D) : Type 0 where
   pub file : Rests log.format bodies (disks.seen log.disk)
   pub fits : length (disks.seen log.disk) ≤ log.log_bytes
   pub durable : Only (disks.seen log.disk) (disks.may_leave log.disk)
@@ -44,7 +44,7 @@ pub record MaySeal {D : Type 0} (disks : Ghosts D) (bodies fresh : List (List �
 
 -- what each answer of a checkpoint says
 abbrev pub Checkpoints : {D : Type 0} → Ghosts D → Appended → List (List ℕ) → List (List ℕ) → List (List ℕ)
-    → Log D → Type 0
+    → LogView D → Type 0
 Checkpoints disks Kept bodies stood fresh log = Pair disks fresh bodies log × IsQuiet disks bodies log.other
 -- by a fault in the first part, or behind it
 Checkpoints disks Refused bodies stood fresh log =
@@ -53,7 +53,7 @@ Checkpoints disks Lost bodies stood fresh log = MaySeal disks bodies fresh log
 Checkpoints disks Full bodies stood fresh log = Pair disks bodies stood log
 
 -- the file that a checkpoint wrote, by its answer: the current one is not touched
-abbrev pub written : {D : Type 0} → Appended → Log D → D
+abbrev pub written : {D : Type 0} → Appended → LogView D → D
 written Kept log = log.disk
 written Refused log = log.other
 written Lost log = log.other
@@ -61,7 +61,7 @@ written Full log = log.other
 
 -- A log's fields after a checkpoint of new bodies: what was known of the two files changes places with them, and the
 -- one that was written is known to reach as far as the new log's closing length.
-abbrev pub Swaps : {D : Type 0} → Appended → List (List ℕ) → Log D → Log D → Type 0
+abbrev pub Swaps : {D : Type 0} → Appended → List (List ℕ) → LogView D → LogView D → Type 0
 Swaps Kept fresh old new =
     (new.other ≡ old.disk) × (new.on_first ≡ not old.on_first) × (new.format ≡ newest)
     × (new.end ≡ length (text newest fresh)) × (new.digest ≡ last (start newest) fresh) × (new.lost ≡ old.lost)
@@ -78,7 +78,7 @@ Swaps Lost fresh old new =
 Swaps Full fresh old new = new ≡ old
 
 -- what each answer of an append of a group says of two files
-abbrev pub AppendsTo : {D : Type 0} → Ghosts D → Appended → List (List ℕ) → List (List ℕ) → List (List ℕ) → Log D
+abbrev pub AppendsTo : {D : Type 0} → Ghosts D → Appended → List (List ℕ) → List (List ℕ) → List (List ℕ) → LogView D
     → Type 0
 AppendsTo disks Kept bodies group stood log = Pair disks (bodies ++ group) stood log
 AppendsTo disks Refused bodies group stood log = Pair disks bodies stood log
@@ -87,14 +87,14 @@ AppendsTo disks Full bodies group stood log = Pair disks bodies stood log
 
 -- Two files that were read: the current one stands, and the other one is what it was, on its disk too. It comes behind
 -- where both are logs; where it isn't one, that is a premise on what stands behind its first 8 bytes, NoStray.
-pub record IsOpenPair {D : Type 0} (disks : Ghosts D) (bodies stood : List (List ℕ)) (log : Log D) : Type 0 where
+pub record IsOpenPair {D : Type 0} (disks : Ghosts D) (bodies stood : List (List ℕ)) (log : LogView D) : Type 0 where
   pub current : Stands disks bodies log
   pub other : IsOther disks log.log_bytes stood log.other
   pub quiet : IsQuiet disks stood log.other
   pub older : (has_log (disks.seen log.other) ≡ true) → beats log.on_first bodies stood ≡ true
 
 -- What was read is a pair, and nothing of the other file is left to chance.
-abbrev pub IsReadPair : {D : Type 0} → Ghosts D → List (List ℕ) → Log D → Type 0
+abbrev pub IsReadPair : {D : Type 0} → Ghosts D → List (List ℕ) → LogView D → Type 0
 IsReadPair disks bodies log =
     Pair disks bodies (logged (disks.seen log.other)) log × IsQuiet disks (logged (disks.seen log.other)) log.other
 
@@ -106,8 +106,8 @@ NoStray first second =
     × (has_log second ≡ false → beats true (logged first) (logged second) ≡ true)
 
 -- the two disks in the order in which they were given
-abbrev pub first_of : {D : Type 0} → Log D → D
+abbrev pub first_of : {D : Type 0} → LogView D → D
 first_of log = if log.on_first then log.disk else log.other
 
-abbrev pub second_of : {D : Type 0} → Log D → D
+abbrev pub second_of : {D : Type 0} → LogView D → D
 second_of log = if log.on_first then log.other else log.disk

@@ -17,25 +17,25 @@ use Rattle.xa_log.specs.Stands.{Answers, Leaves, Moves, Renumbers, Stands}
 use Rattle.xa_log.specs.TwoFiles.{AppendsTo, Pair}
 use Rattle.xa_log.specs.declared.appending.Appended.{Appended}
 use Rattle.xa_log.specs.declared.appending.Appended.TheVariants.{Full, Kept}
-use Rattle.xa_log.specs.declared.log.Log.{Log}
+use Rattle.xa_log.specs.LogView.{LogView}
 use Rattle.xa_log.specs.declared.written.Written.{Written}
 
 -- a group's records and its closing length, as they go to the end of a log
-abbrev pub range_of : {D : Type 0} → Log D → List (List ℕ) → List ℕ
+abbrev pub range_of : {D : Type 0} → LogView D → List (List ℕ) → List ℕ
 range_of log group = closed log.digest group
 
 -- and with the zeros that make its file ready
-abbrev pub ready_range_of : {D : Type 0} → Log D → List (List ℕ) → List ℕ
+abbrev pub ready_range_of : {D : Type 0} → LogView D → List (List ℕ) → List ℕ
 ready_range_of log group = closed_by (ready_for log (as_one group)) log.digest group
 
--- What is written begins at the log's end, within the log's bytes, and its buffer has as many.
-abbrev pub IsRange : {D : Type 0} → Written → Log D → Type 0
+-- What is written begins at the log's end, within the log's bytes, and it has room for as many.
+abbrev pub IsRange : {D : Type 0} → Written → LogView D → Type 0
 IsRange w log =
-    (log.end + LENGTH_BYTES ≤ w.to) × (w.to ≤ log.log_bytes) × (w.to - log.end ≤ length log.buffer.items)
+    (log.end + LENGTH_BYTES ≤ w.to) × (w.to ≤ log.log_bytes) × (w.to - log.end ≤ log.room)
 
 -- The records of a group were written after the end of a log. Until they are settled the log counts as lost: nothing else
 -- is appended.
-pub record HasWritten {D : Type 0} (disks : Ghosts D) (group : List (List ℕ)) (w : Written) (old new : Log D)
+pub record HasWritten {D : Type 0} (disks : Ghosts D) (group : List (List ℕ)) (w : Written) (old new : LogView D)
     : Type 0 where
   pub alive : old.lost ≡ false
   pub some : 1 ≤ length group
@@ -64,7 +64,7 @@ pub record HasWritten {D : Type 0} (disks : Ghosts D) (group : List (List ℕ)) 
 
 -- A group was appended to a log, with this answer: what became of it, what a crash at any moment since then leaves, and
 -- which calls were made.
-pub record AppendsGroup {D : Type 0} (disks : Ghosts D) (group : List (List ℕ)) (o : Appended) (old new : Log D)
+pub record AppendsGroup {D : Type 0} (disks : Ghosts D) (group : List (List ℕ)) (o : Appended) (old new : LogView D)
     : Type 0 where
   pub answer : disks.honest → (stand : List (List ℕ)) → Stands disks stand old → Answers disks o stand group new
   pub any_moment : disks.honest → (stand : List (List ℕ)) → Stands disks stand old

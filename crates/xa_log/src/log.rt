@@ -8,8 +8,6 @@ ghost use Rattle.xa_log.specs.Chain.{newest, format_number, most_body, text, IsB
 ghost use Rattle.xa_log.specs.Checkpoint.{IsOther, IsQuiet, IsCleared, LeavesAny};
 ghost use Rattle.xa_log.specs.Pair.{generation};
 ghost use Rattle.xa_log.specs.Answers.{HasCause};
-ghost use Rattle.xa_log.specs.declared.ahead.TheConstants.{READY_BYTES};
-ghost use Rattle.xa_log.specs.declared.window.TheConstants.{WINDOW};
 ghost use Rattle.xa_limits.specs.declared.TheConstants.{AROUND_CLOSED, MOST_BODY};
 
 use crate::appending::Appended;
@@ -17,6 +15,7 @@ use crate::checkpointing::{checkpoint_on, end_of, zeros_behind};
 use crate::format::Format;
 use crate::generation::generation_of_snapshot;
 use crate::group::Group;
+use std::marker::Model;
 use std::mem;
 use xa_disk::Disk;
 use xa_limits::{DIGEST_BYTES, LENGTH_BYTES};
@@ -47,9 +46,18 @@ pub struct Log<D> {
     // An append or a checkpoint was lost, and no rescan has succeeded since: whether the last record stands, or which
     // file the next opening takes, isn't known, and a record that went to the wrong one would be passed over.
     pub(crate) lost: bool,
-    ghost within: { end ≤ log_bytes },
-    ghost room: { WINDOW ≤ length buffer.items },
-    ghost bounded: { length buffer.items ≤ AROUND_CLOSED + MOST_BODY + READY_BYTES },
+}
+
+impl<D> Model for Log<D> {
+    ghost use Rattle.xa_log.specs.LogView.{LogView};
+
+    ghost Value = { LogView D };
+
+    ghost use Rattle.xa_log.specs.LogFields.{shown, IsSized};
+
+    ghost view = { shown };
+
+    ghost invariant = { IsSized };
 }
 
 impl<D: Disk> Log<D> {

@@ -11,6 +11,7 @@ ghost use Rattle.xa_log.specs.Buffer.{Holds, KeepsRoom};
 ghost use Rattle.xa_log.specs.Chain.{IsBody};
 ghost use Rattle.xa_log.specs.Group.{as_one, bodies_in, first_of_group};
 ghost use Rattle.xa_log.specs.LogStates.{KeepsAll};
+ghost use Rattle.xa_log.specs.LogView.{LogView};
 ghost use Rattle.xa_log.specs.Stands.{Answers, Leaves, Moves, Renumbers, Stands, Untouched};
 ghost use Rattle.xa_log.specs.TwoFiles.{AppendsTo, Pair};
 ghost use Rattle.xa_log.specs.Written.{AppendsGroup, HasWritten, IsRange};
@@ -137,7 +138,7 @@ impl<D: Disk> Log<D> {
     pub fn settle(&mut self, written: Written, answer: SyncAnswer) -> Appended
         requires { IsRange written self.old }
         // said of the log as it was before the group was written
-        ensures group { (before : Log D) (group : List (List ℕ)) → HasWritten D.Disk group written before self.old
+        ensures group { (before : LogView D) (group : List (List ℕ)) → HasWritten D.Disk group written before self.old
             → AppendsGroup D.Disk group result before self.new }
         ensures not_full { result ≢ Appended.Full }
         ensures fails { SettlesBy written.write result (D.failures self.old.disk) (D.failures self.new.disk) }

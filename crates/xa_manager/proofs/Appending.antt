@@ -8,12 +8,12 @@ use Rattle.xa_log.specs.Stands.{Stands, Leaves, Moves}
 use Rattle.xa_log.specs.TwoFiles.{Pair, AppendsTo}
 use Rattle.xa_log.specs.declared.appending.Appended.{Appended}
 use Rattle.xa_log.specs.declared.appending.Appended.TheVariants as appended
-use Rattle.xa_log.specs.declared.log.Log.{Log}
+use Rattle.xa_log.specs.LogView.{LogView}
 use Rattle.xa_model.specs.declared.outcome.Appending.{Appending}
 use Rattle.xa_manager.specs.Answered.{as_appended}
 use Rattle.xa_manager.specs.Turns.{HasAppended}
 
-pub has_appended : {D : Type 0} (disks : Ghosts D) (group : List (List ℕ)) (a : Appending) (r : Appended) (old new : Log D)
+pub has_appended : {D : Type 0} (disks : Ghosts D) (group : List (List ℕ)) (a : Appending) (r : Appended) (old new : LogView D)
     → r ≡ as_appended a → new.log_bytes ≡ old.log_bytes → (new.other ≡ old.other) × (new.on_first ≡ old.on_first)
     → Moves r (as_one group) old new
     → (disks.honest → (bodies stood : List (List ℕ)) → Pair disks bodies stood old → AppendsTo disks r bodies group stood new)

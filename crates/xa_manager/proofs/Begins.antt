@@ -9,7 +9,7 @@ use Rattle.xa_record.specs.Spelling.{spelled}
 use Rattle.xa_log.specs.Chain.{IsBody, newest, text}
 use Rattle.xa_log.specs.Pair.{generation}
 use Rattle.xa_log.specs.declared.appending.Appended.{Appended}
-use Rattle.xa_log.specs.declared.log.Log.{Log}
+use Rattle.xa_log.specs.LogView.{LogView}
 use Rattle.xa_model.specs.Durable.{Durable, IsDurable}
 use Rattle.xa_model.specs.Fold.{snapshot, sizes}
 use Rattle.xa_model.specs.Logging.{log_room}
@@ -85,7 +85,7 @@ pub next_above : (g : ℕ) (bodies : List (List ℕ)) (o : Option NextBoot) → 
 next_above g bodies o is above = subst (λ (n : ℕ). IfSome o (λ next. n < generation next.bodies.items)) (sym is) above
 
 -- what became of its first records
-pub logs_boot : {D : Type 0} (disks : Ghosts D) (moment : ℕ) (is_new : Bool) (bodies : List (List ℕ)) (log_bytes : ℕ) (a : Appended) (old new : Log D) (d : Durable) (next : NextBoot) (xs : List (List ℕ))
+pub logs_boot : {D : Type 0} (disks : Ghosts D) (moment : ℕ) (is_new : Bool) (bodies : List (List ℕ)) (log_bytes : ℕ) (a : Appended) (old new : LogView D) (d : Durable) (next : NextBoot) (xs : List (List ℕ))
     → IsPlanned bodies d moment next → xs ≡ next.bodies.items → has_boot_room log_bytes d (d.boot + 1) ≡ true → LogsFirst disks is_new a xs old new
     → LogsBoot disks is_new bodies log_bytes a old new
 logs_boot disks moment is_new bodies log_bytes a old new d next xs it e room logs = record {

@@ -9,7 +9,7 @@ use Rattle.xa_frame.specs.declared.request.Request.{Request}
 use Rattle.xa_frame.specs.declared.request.Request.TheVariants as kind
 use Rattle.xa_log.specs.Reading.{bodies_of}
 use Rattle.xa_log.specs.Written.{HasWritten}
-use Rattle.xa_log.specs.declared.log.Log.{Log}
+use Rattle.xa_log.specs.LogView.{LogView}
 use Rattle.xa_record.specs.Spelling.{spelled}
 use Rattle.xa_xid.specs.Triple.{Triple, xid_eq}
 use Rattle.xa_xid.proofs.Same.{xid_eq_itself, xid_same}
@@ -85,7 +85,7 @@ module _ {D : Type 0} (disks : Ghosts D) where
       )
 
   -- a call that was done, of the manager with the log before
-  pub works : (m m' : Manager D) (f : PendingGroup) (n : ℕ) (request : Request) (reply : Reply) (log : Log D) (s : State) → IsGroupOf m f → IsPendingFrom disks log m f s
+  pub works : (m m' : Manager D) (f : PendingGroup) (n : ℕ) (request : Request) (reply : Reply) (log : LogView D) (s : State) → IsGroupOf m f → IsPendingFrom disks log m f s
       → is_work request ≡ true → WorksApartFrom request f → m'.up ≡ m.up → m'.log ≡ m.log → HasDone disks (with_log log m) (Call n request) reply Quiet (with_log log m')
       → IsSomeAnd (step s (Asked (Call n request)) Quiet) (λ a. (a.reply ≡ reply) × IsPendingFrom disks log m' f a.after)
   works m m' f n request reply log s is fl work apart up same done =
@@ -109,7 +109,7 @@ module _ {D : Type 0} (disks : Ghosts D) where
           record {
             stands = st;
             up = up ∙ fl.up;
-            written = subst (λ (l : Log D). HasWritten disks (bodies_of f.together.bodies.items) f.written log l) (sym same) fl.written;
+            written = subst (λ (l : LogView D). HasWritten disks (bodies_of f.together.bodies.items) f.written log l) (sym same) fl.written;
             at = both.0;
             bodies = ap (λ (l : List Part). map spelled (records_of l)) both.1 ∙ fl.bodies;
           }

@@ -11,7 +11,7 @@ use Rattle.xa_frame.specs.declared.reply.Reply.{Reply}
 use Rattle.xa_frame.specs.declared.request.Request.{Request}
 use Rattle.xa_frame.specs.declared.request.Request.TheVariants as request
 use Rattle.xa_frame.specs.declared.request.Request.TheVariants.{Restart, Trim}
-use Rattle.xa_log.specs.declared.log.Log.{Log}
+use Rattle.xa_log.specs.LogView.{LogView}
 use Rattle.xa_model.specs.declared.event.Event.{Event}
 use Rattle.xa_model.specs.declared.event.Event.TheVariants.{Connect, Call}
 use Rattle.xa_model.specs.declared.outcome.Outcome.{Outcome}
@@ -131,7 +131,7 @@ module _ {D : Type 0} (disks : Ghosts D) where
       → early_refusal (context_of s n) request ≡ early_refusal (context_at m.up (view m) n) request
   early_same m s n request st = ap (λ (c : Context). early_refusal c request) (context_by m.up (view m) s n st.tables)
 
-  quiet_called : (trims : Bool) (log : Log D) → HasCalledFor disks trims Quiet log log
+  quiet_called : (trims : Bool) (log : LogView D) → HasCalledFor disks trims Quiet log log
   quiet_called true log = refl
   quiet_called false log = refl
 
@@ -343,10 +343,10 @@ module _ {D : Type 0} (disks : Ghosts D) where
   either_stays_for m m' up log doubt stays down s st = record {
     tables = subst (λ (b : Bool). TablesStandFor b (view m') s) (sym up) (either_stays m.up (view m) (view m') s stays down st.tables);
     roomy = st.roomy;
-    end = λ e. ap (λ (l : Log D). l.end) log ∙ st.end (sym up ∙ e);
-    alive = λ e. ap (λ (l : Log D). l.lost) log ∙ st.alive (sym up ∙ e);
-    modern = λ e. ap (λ (l : Log D). l.format) log ∙ st.modern (sym up ∙ e);
-    log_bytes = ap (λ (l : Log D). l.log_bytes) log ∙ st.log_bytes;
+    end = λ e. ap (λ (l : LogView D). l.end) log ∙ st.end (sym up ∙ e);
+    alive = λ e. ap (λ (l : LogView D). l.lost) log ∙ st.alive (sym up ∙ e);
+    modern = λ e. ap (λ (l : LogView D). l.format) log ∙ st.modern (sym up ∙ e);
+    log_bytes = ap (λ (l : LogView D). l.log_bytes) log ∙ st.log_bytes;
     doubt = rw doubt st.doubt;
     log = λ trusts. rw log (st.log trusts);
   }

@@ -9,7 +9,7 @@ use Rattle.xa_disk.specs.Counts.{plus}
 use Rattle.xa_log.specs.Ahead.{AppendsBy}
 use Rattle.xa_log.specs.Answers.{HasRisen}
 use Rattle.xa_log.specs.TwoFiles.{first_of, second_of}
-use Rattle.xa_log.specs.declared.log.Log.{Log}
+use Rattle.xa_log.specs.LogView.{LogView}
 use Rattle.xa_model.specs.declared.event.Event.{Event}
 use Rattle.xa_model.specs.declared.outcome.Outcome.{Outcome}
 use Rattle.xa_model.specs.declared.outcome.Outcome.TheVariants as outcome
@@ -52,10 +52,10 @@ rise_both k n (a, b) (c, d) (e, f) h i = λ p q. let r = i p q in let t = h r.0 
 -- of a log's two disks
 
 module _ {D : Type 0} (disks : Ghosts D) where
-  pub none_by : (old new : Log D) → NoneRises disks.failures old new → RiseBy 0 (counted_by disks.failures old) (counted_by disks.failures new)
+  pub none_by : (old new : LogView D) → NoneRises disks.failures old new → RiseBy 0 (counted_by disks.failures old) (counted_by disks.failures new)
   none_by old new h = stay_by (disks.failures (first_of old)) (disks.failures (second_of old)) (disks.failures (first_of new)) (disks.failures (second_of new)) h.0 h.1
 
-  one_by : (old new : Log D) → OneRises disks.failures old new → RiseBy 1 (counted_by disks.failures old) (counted_by disks.failures new)
+  one_by : (old new : LogView D) → OneRises disks.failures old new → RiseBy 1 (counted_by disks.failures old) (counted_by disks.failures new)
   one_by old new (inl h) = first_by (disks.failures (first_of old)) (disks.failures (second_of old)) (disks.failures (first_of new)) (disks.failures (second_of new)) h.0 h.1
   one_by old new (inr h) = second_by (disks.failures (first_of old)) (disks.failures (second_of old)) (disks.failures (first_of new)) (disks.failures (second_of new)) h.0 h.1
 
@@ -64,13 +64,13 @@ module _ {D : Type 0} (disks : Ghosts D) where
   sides_by n true x y v w h = h
   sides_by n false x y v w h = λ p q. let r = h q p in (r.1, r.0, omega (arith, r.2))
 
-  in_order : (n : ℕ) (old new : Log D) → new.on_first ≡ old.on_first → RiseBy n (disks.failures old.disk, disks.failures old.other) (disks.failures new.disk, disks.failures new.other)
+  in_order : (n : ℕ) (old new : LogView D) → new.on_first ≡ old.on_first → RiseBy n (disks.failures old.disk, disks.failures old.other) (disks.failures new.disk, disks.failures new.other)
       → RiseBy n (counted_by disks.failures old) (counted_by disks.failures new)
   in_order n old new same h =
       subst (λ (b : Bool). RiseBy n (counted_by disks.failures old) (disks.failures (cond b new.disk new.other), disks.failures (cond b new.other new.disk))) (sym same)
       (sides_by n old.on_first old.disk old.other new.disk new.other h)
 
-  append_by : (a : Appending) (n : ℕ) (old new : Log D) → new.other ≡ old.other → new.on_first ≡ old.on_first → AppendsBy disks n (as_appended a) old new
+  append_by : (a : Appending) (n : ℕ) (old new : LogView D) → new.other ≡ old.other → new.on_first ≡ old.on_first → AppendsBy disks n (as_appended a) old new
       → RiseBy (failures_of_append a) (counted_by disks.failures old) (counted_by disks.failures new)
   append_by Kept n old new other same (inl x) = in_order 0 old new same (stay_by (disks.failures old.disk) (disks.failures old.other) (disks.failures new.disk) (disks.failures new.other) x.0 (ap disks.failures other))
   append_by Kept n old new other same (inr x) = in_order 0 old new same (more_by (disks.failures old.disk) (disks.failures old.other) (disks.failures new.disk) (disks.failures new.other) x.1 (ap disks.failures other))
@@ -81,9 +81,9 @@ module _ {D : Type 0} (disks : Ghosts D) where
   append_by Lost n old new other same (inr x) =
       in_order 1 old new same (first_by (disks.failures old.disk) (disks.failures old.other) (disks.failures new.disk) (disks.failures new.other) (risen_more (disks.failures old.disk) (disks.failures new.disk) x.1) (ap disks.failures other))
 
-  pub called_by : (o : Outcome) (old new : Log D)
+  pub called_by : (o : Outcome) (old new : LogView D)
       → HasCalled disks o old new → RiseBy (failures_in o) (counted_by disks.failures old) (counted_by disks.failures new)
-  called_by outcome.Quiet old new h = none_by old new (ap (λ (l : Log D). disks.failures (first_of l)) h, ap (λ (l : Log D). disks.failures (second_of l)) h)
+  called_by outcome.Quiet old new h = none_by old new (ap (λ (l : LogView D). disks.failures (first_of l)) h, ap (λ (l : LogView D). disks.failures (second_of l)) h)
   called_by (outcome.Appended a) old new h = append_by a h.2 old new h.0 h.1 h.4
   called_by (outcome.Joined a) old new h = absurd h
   called_by outcome.Failed old new h = one_by old new h
@@ -92,7 +92,7 @@ module _ {D : Type 0} (disks : Ghosts D) where
   called_by (outcome.Reread survived (Some Refused)) old new h = one_by old new h
   called_by (outcome.Reread survived (Some Lost)) old new h = one_by old new h
 
-  pub called_for : (trims : Bool) (o : Outcome) (old new : Log D)
+  pub called_for : (trims : Bool) (o : Outcome) (old new : LogView D)
       → HasCalledFor disks trims o old new → RiseBy (failures_in o) (counted_by disks.failures old) (counted_by disks.failures new)
   called_for false o old new h = called_by o old new h
   called_for true outcome.Quiet old new h = called_by outcome.Quiet old new h
@@ -104,7 +104,7 @@ module _ {D : Type 0} (disks : Ghosts D) where
   called_for true (outcome.Reread survived appended) old new h = absurd h
 
   -- a call by itself joins no other's append
-  pub called_alone : (trims : Bool) (o : Outcome) (old new : Log D) → HasCalledFor disks trims o old new → joins o ≡ false
+  pub called_alone : (trims : Bool) (o : Outcome) (old new : LogView D) → HasCalledFor disks trims o old new → joins o ≡ false
   called_alone trims outcome.Quiet old new h = refl
   called_alone trims (outcome.Appended a) old new h = refl
   called_alone false (outcome.Joined a) old new h = absurd h

@@ -10,7 +10,7 @@ use Rattle.xa_log.specs.Chain.{newest}
 use Rattle.xa_log.specs.Checkpoint.{LeavesAny}
 use Rattle.xa_log.specs.Pair.{generation}
 use Rattle.xa_log.specs.TwoFiles.{Swaps}
-use Rattle.xa_log.specs.declared.log.Log.{Log}
+use Rattle.xa_log.specs.LogView.{LogView}
 use Rattle.xa_log.proofs.Parts.{leaves_more}
 use Rattle.xa_limits.specs.declared.TheConstants.{MOST_BOOTS}
 use Rattle.xa_model.specs.declared.outcome.Appending.{Appending}
@@ -33,7 +33,7 @@ use Rattle.xa_manager.proofs.Fates.{down_backed, turn_opens}
 use Rattle.xa_manager.proofs.Generations.{newer}
 
 -- it is written, and the state is one in which its opened record is lost
-pub snapshot_leaves : {D : Type 0} (disks : Ghosts D) (old new : Log D) (lost : State) (boot : ℕ) (rs : List Record) (a : Appending)
+pub snapshot_leaves : {D : Type 0} (disks : Ghosts D) (old new : LogView D) (lost : State) (boot : ℕ) (rs : List Record) (a : Appending)
     → IsRecoverable lost → lost.open_records ≡ logged.Opened boot ∷ [] → Backs rs lost → (has : HasRecords disks rs old)
     → generation (map spelled rs) < generation (snapshot_bodies lost boot)
     → new.log_bytes ≡ old.log_bytes → LeavesCurrent a old new
@@ -52,7 +52,7 @@ snapshot_leaves disks old new lost boot rs a h opens backs has above same curren
       leaves;
 }
 
-pub boot_leaves : {D : Type 0} (disks : Ghosts D) (old new : Log D) (s t : State) (survived : ℕ) (rs : List Record) (a : Appending)
+pub boot_leaves : {D : Type 0} (disks : Ghosts D) (old new : LogView D) (s t : State) (survived : ℕ) (rs : List Record) (a : Appending)
     → IsRecoverable (boot_became t (t.logged_boot + 1) Lost).after → IsFate survived s t → Backs rs t → (has : HasRecords disks rs old)
     → nat_lt t.logged_boot MOST_BOOTS ≡ true → t.logged_boot < MOST_BOOTS
     → new.log_bytes ≡ old.log_bytes → LeavesCurrent a old new
@@ -64,13 +64,13 @@ boot_leaves disks old new s t survived rs a h fate backs has less below same cur
     (snapshot_leaves disks old new lost (t.logged_boot + 1) rs a h refl (down_backed rs t _ backs) has (newer rs (durable t) backs.lasts below) same current leaves)
 
 -- the current file isn't touched
-pub swap_leaves : {D : Type 0} (a : Appending) (fresh : List (List ℕ)) (old new : Log D) → Swaps (as_appended a) fresh old new → LeavesCurrent a old new
+pub swap_leaves : {D : Type 0} (a : Appending) (fresh : List (List ℕ)) (old new : LogView D) → Swaps (as_appended a) fresh old new → LeavesCurrent a old new
 swap_leaves Kept fresh old new x = (x.0, x.1)
 swap_leaves Refused fresh old new x = (x.0, x.1)
 swap_leaves Lost fresh old new x = (x.0, x.1)
 
 -- once the log in the middle is known
-pub boot_by : {D : Type 0} (disks : Ghosts D) (old mid : Log D) (s : State) (o : Outcome) (new : Log D) → LeavesLook disks old mid s
+pub boot_by : {D : Type 0} (disks : Ghosts D) (old mid : LogView D) (s : State) (o : Outcome) (new : LogView D) → LeavesLook disks old mid s
     → LeavesBoot disks mid (restart_turn s) o new → LeavesBy disks old (restart_turn s) o new s
 boot_by disks old mid s Quiet new look boot = absurd boot
 boot_by disks old mid s (Appended a) new look boot = absurd boot
@@ -78,6 +78,6 @@ boot_by disks old mid s (Joined a) new look boot = absurd boot
 boot_by disks old mid s Failed new look boot = absurd boot
 boot_by disks old mid s (Reread survived appended) new look boot = (mid, look, boot)
 
-pub failed_leaves : {D : Type 0} (disks : Ghosts D) (old new : Log D) (s : State) (o : Outcome) → o ≡ Failed → LeavesLook disks old new s
+pub failed_leaves : {D : Type 0} (disks : Ghosts D) (old new : LogView D) (s : State) (o : Outcome) → o ≡ Failed → LeavesLook disks old new s
     → LeavesBy disks old (restart_turn s) o new s
 failed_leaves disks old new s o is look = subst (λ (x : Outcome). LeavesBy disks old (restart_turn s) x new s) (sym is) look

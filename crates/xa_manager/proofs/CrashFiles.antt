@@ -15,7 +15,7 @@ use Rattle.xa_log.specs.Laws.{IsLogOf}
 use Rattle.xa_log.specs.LogStates.{LogState, IsIn, MayFind, LeavesBoth, LooksTo, LeftByLook}
 use Rattle.xa_log.specs.Stands.{Leaves}
 use Rattle.xa_log.specs.TwoFiles.{Pair, first_of, second_of}
-use Rattle.xa_log.specs.declared.log.Log.{Log}
+use Rattle.xa_log.specs.LogView.{LogView}
 use Rattle.xa_log.proofs.States.{left_both, reads_both}
 use Rattle.xa_model.specs.State.{State}
 use Rattle.xa_model.specs.Invariants.Loggable.{IsRecoverable, is_boot}
@@ -49,7 +49,7 @@ first_for most first rs s k current other h backs few f =
 
 -- ---- what a crash leaves while records are appended
 
-pub append_files : {D : Type 0} (disks : Ghosts D) (log : Log D) (rs : List Record) (t : State) (group : List Record) (stood : List (List ℕ)) (current other : List ℕ)
+pub append_files : {D : Type 0} (disks : Ghosts D) (log : LogView D) (rs : List Record) (t : State) (group : List Record) (stood : List (List ℕ)) (current other : List ℕ)
     → AllByRecursion (λ (r : Record). is_boot r ≡ false) group → Pair disks (map spelled rs) stood log
     → Leaves log.log_bytes log.format (map spelled rs) (map spelled group) current
     → IsPlain log.format (map spelled rs) (map spelled group) current → disks.may_leave log.other other → IsCalm stood other
@@ -69,7 +69,7 @@ append_files disks log rs t group stood current other others p leaves plain two 
 
 -- ---- what a crash leaves while a snapshot is written
 
-pub checkpoint_files : {D : Type 0} (disks : Ghosts D) (log : Log D) (rs : List Record) (t : State) (boot : ℕ) (stood : List (List ℕ)) (current other : List ℕ)
+pub checkpoint_files : {D : Type 0} (disks : Ghosts D) (log : LogView D) (rs : List Record) (t : State) (boot : ℕ) (stood : List (List ℕ)) (current other : List ℕ)
     → Pair disks (map spelled rs) stood log → generation (map spelled rs) < generation (snapshot_bodies t boot)
     → IsRecoverable t → Backs rs t → t.open_records ≡ logged.Opened boot ∷ []
     → disks.may_leave log.disk current → LeavesAny log.log_bytes newest stood (snapshot_bodies t boot) other
@@ -97,7 +97,7 @@ checkpoint_files {D} disks log rs t boot stood current other p above h k is one 
 -- ---- what the log stands for
 
 -- what is found by the state that the log is in
-found_files : {D : Type 0} (disks : Ghosts D) (log : Log D) (s : State) (most : ℕ) (first second : List ℕ) → IsRecoverable s → (l : LogStandsFor disks log s)
+found_files : {D : Type 0} (disks : Ghosts D) (log : LogView D) (s : State) (most : ℕ) (first second : List ℕ) → IsRecoverable s → (l : LogStandsFor disks log s)
     → (pair_fault most first second ≡ None) × MayFind l.state (logged_pair first second) → FilesStandFor most first second s
 found_files disks log s most first second h l it = by (l.finds (logged_pair first second) it.1)
   where
@@ -116,7 +116,7 @@ crash_leaves disks log s first second h one two w =
     found_files disks log s log.log_bytes first second h w.stands ((left_both disks log w.stands.state w.stands.is_in first second one two).opens w.plain)
 
 -- a look leaves of both files what the state says that the log is in
-pub look_files : {D : Type 0} (disks : Ghosts D) (old new : Log D) (s : State) → IsRecoverable s → LooksTo disks old new
+pub look_files : {D : Type 0} (disks : Ghosts D) (old new : LogView D) (s : State) → IsRecoverable s → LooksTo disks old new
     → ((state : LogState) → IsIn disks state old → (first second : List ℕ) → LeftByLook disks old new first second → LeavesBoth state old first second)
     → LeavesLook disks old new s
 look_files disks old new s h looks leaves = (

@@ -13,7 +13,7 @@ use Rattle.xa_log.specs.TwoFiles.{Pair, NoStray, first_of, second_of, written}
 use Rattle.xa_log.specs.declared.appending.Appended.{Appended}
 use Rattle.xa_log.specs.declared.appending.Appended.TheVariants as appended
 use Rattle.xa_log.specs.declared.fault.OpenFault.TheVariants.{TooLong, NotALog}
-use Rattle.xa_log.specs.declared.log.Log.{Log}
+use Rattle.xa_log.specs.LogView.{LogView}
 use Rattle.xa_log.proofs.Opens.{opened_law}
 use Rattle.xa_limits.specs.declared.TheConstants.{MOST_BOOTS}
 use Rattle.xa_model.specs.declared.outcome.Appending.{Appending}
@@ -98,29 +98,29 @@ module _ {D : Type 0} (disks : Ghosts D) (only_now : (d : D) (c : List ℕ) → 
   became_kept appended.Lost h = λ e. absurd (cc e)
   became_kept appended.Full h = λ e. absurd (cc e)
 
-  same_written : (a : Appended) (new : Log D) → written a new ≡ wrote (became a) new
+  same_written : (a : Appended) (new : LogView D) → written a new ≡ wrote (became a) new
   same_written appended.Kept new = refl
   same_written appended.Refused new = refl
   same_written appended.Lost new = refl
   same_written appended.Full new = refl
 
-  same_current : (a : Appended) (old new : Log D) → KeepsCurrent a old new → LeavesCurrent (became a) old new
+  same_current : (a : Appended) (old new : LogView D) → KeepsCurrent a old new → LeavesCurrent (became a) old new
   same_current appended.Kept old new k = k
   same_current appended.Refused old new k = k
   same_current appended.Lost old new k = k
   same_current appended.Full old new k = k
 
   -- the first records are a snapshot, since the log wasn't made
-  read_snapshot : (is_new : Bool) (a : Appended) (fresh : List (List ℕ)) (old new : Log D) → (is_new ≡ true → ⊥) → LogsFirst disks is_new a fresh old new → SnapshotsFirst disks a fresh old new
+  read_snapshot : (is_new : Bool) (a : Appended) (fresh : List (List ℕ)) (old new : LogView D) → (is_new ≡ true → ⊥) → LogsFirst disks is_new a fresh old new → SnapshotsFirst disks a fresh old new
   read_snapshot is_new a fresh old new not_new (inl x) = absurd (not_new x.0)
   read_snapshot is_new a fresh old new not_new (inr x) = x
 
-  read_pair : (is_new : Bool) (bodies : List (List ℕ)) (log : Log D) → (is_new ≡ true → ⊥) → NoStray (disks.seen (first_of log)) (disks.seen (second_of log))
+  read_pair : (is_new : Bool) (bodies : List (List ℕ)) (log : LogView D) → (is_new ≡ true → ⊥) → NoStray (disks.seen (first_of log)) (disks.seen (second_of log))
       → IsFound disks is_new bodies log → Pair disks bodies (logged (disks.seen log.other)) log
   read_pair true bodies log not_new stray found = absurd (not_new refl)
   read_pair false bodies log not_new stray found = opened_law disks bodies log found stray
 
-  reopening_leaves : (first second : D) (s : State) (name : List ℕ) (log_bytes : ℕ) (a : Appended) (after : Log D)
+  reopening_leaves : (first second : D) (s : State) (name : List ℕ) (log_bytes : ℕ) (a : Appended) (after : LogView D)
       → Trusts disks → IsRecoverable s → FilesStandFor log_bytes (disks.seen first) (disks.seen second) s → NoStray (disks.seen first) (disks.seen second)
       → LeavesLogging disks log_bytes first second a after → LeavesReopening disks first second s name log_bytes (became a) after
   reopening_leaves first second s name log_bytes a after trusts h files stray l =

@@ -5,7 +5,7 @@ use Rattle.xa_frame.specs.declared.reply.Reply.{Reply}
 use Rattle.xa_log.specs.Calls.{SettlesBy}
 use Rattle.xa_log.specs.Reading.{bodies_of}
 use Rattle.xa_log.specs.Written.{HasWritten}
-use Rattle.xa_log.specs.declared.log.Log.{Log}
+use Rattle.xa_log.specs.LogView.{LogView}
 use Rattle.xa_model.specs.declared.outcome.Appending.{Appending}
 use Rattle.xa_model.specs.declared.outcome.Appending.TheVariants.{Lost}
 use Rattle.xa_model.specs.declared.outcome.Outcome.TheVariants.{Appended}
@@ -34,12 +34,12 @@ module _ {D : Type 0} (disks : Ghosts D) where
   distinct_prepares m f is = subst AreDistinct (sym is.prepares) (prepares_distinct f.calls.items f.together.members.items is.distinct)
 
   -- it pends on where the tables stand for what they stood for
-  pub still_pending : (m m' : Manager D) (f : PendingGroup) (log : Log D) (s : State) → m'.up ≡ m.up → m'.log ≡ m.log → m'.doubt ≡ m.doubt → Stays (view m) (view m')
+  pub still_pending : (m m' : Manager D) (f : PendingGroup) (log : LogView D) (s : State) → m'.up ≡ m.up → m'.log ≡ m.log → m'.doubt ≡ m.doubt → Stays (view m) (view m')
       → IsPendingFrom disks log m f s → IsPendingFrom disks log m' f s
   still_pending m m' f log s up same doubt stays fl = record {
     stands = stays_up disks (with_log log m) (with_log log m') fl.up up refl doubt stays s fl.stands;
     up = up ∙ fl.up;
-    written = subst (λ (l : Log D). HasWritten disks (bodies_of f.together.bodies.items) f.written log l) (sym same) fl.written;
+    written = subst (λ (l : LogView D). HasWritten disks (bodies_of f.together.bodies.items) f.written log l) (sym same) fl.written;
     at = fl.at;
     bodies = fl.bodies;
   }
@@ -53,9 +53,9 @@ module _ {D : Type 0} (disks : Ghosts D) where
   module _ (m mid mid' m' : Manager D) (f : PendingGroup) (a : Appending) (is : IsGroupOf m f) (up : mid.up ≡ m.up) (log_is : mid.log ≡ m.log)
       (made : MakeRooms m.tables f.together.prepares.items mid.tables) (j : HasSettled disks f.written a mid mid') (log' : m'.log ≡ mid'.log) (up' : m'.up ≡ mid'.up) (doubt' : m'.doubt ≡ mid'.doubt)
       (took : a ≢ Lost → TakeAnswers mid'.tables f.together.members.items a m'.tables) (gave : a ≡ Lost → GiveRoomsBack mid'.tables f.together.prepares.items m'.tables) where
-    pub finished : (log : Log D) (s : State) → IsPendingFrom disks log m f s → (c : Member) (cs : List Member) → pending_members f ≡ c ∷ cs → FinishesFrom disks log s c cs a m'
+    pub finished : (log : LogView D) (s : State) → IsPendingFrom disks log m f s → (c : Member) (cs : List Member) → pending_members f ≡ c ∷ cs → FinishesFrom disks log s c cs a m'
     finished log s fl c cs are =
-        let written : HasWritten disks (bodies_of f.together.bodies.items) f.written log mid.log = subst (λ (l : Log D). HasWritten disks (bodies_of f.together.bodies.items) f.written log l) (sym log_is) fl.written in
+        let written : HasWritten disks (bodies_of f.together.bodies.items) f.written log mid.log = subst (λ (l : LogView D). HasWritten disks (bodies_of f.together.bodies.items) f.written log l) (sym log_is) fl.written in
         let there : HasAppended disks (bodies_of f.together.bodies.items) a log mid'.log = j.appended log (bodies_of f.together.bodies.items) written in
         let stood = tables_up disks (with_log log m) s fl.up fl.stands in
         let distinct = distinct_prepares m f is in
@@ -69,16 +69,16 @@ module _ {D : Type 0} (disks : Ghosts D) where
         (up' ∙ j.up (up ∙ fl.up)) (doubt' ∙ j.doubt ∙ ap (λ (e : ℕ). doubt_after a e) written.ends.0)
 
   -- the manager stays so afterwards
-  pub finishes_still : (log : Log D) (s : State) (c : Member) (cs : List Member) (a : Appending) (m' m'' : Manager D) → StaysFor disks m' m'' → m''.log ≡ m'.log
+  pub finishes_still : (log : LogView D) (s : State) (c : Member) (cs : List Member) (a : Appending) (m' m'' : Manager D) → StaysFor disks m' m'' → m''.log ≡ m'.log
       → FinishesFrom disks log s c cs a m' → FinishesFrom disks log s c cs a m''
   finishes_still log s c cs a m' m'' stays same x = record {
     leads = (x.leads.0, x.leads.1, stays x.leads.0 x.leads.2);
-    called = subst (λ (l : Log D). HasCalled disks (Appended a) log l) (sym same) x.called;
-    crash = λ trusts. let y = x.crash trusts in (y.0, y.1, subst (λ (l : Log D). LeavesAppend disks log l s y.0) (sym same) y.2);
+    called = subst (λ (l : LogView D). HasCalled disks (Appended a) log l) (sym same) x.called;
+    crash = λ trusts. let y = x.crash trusts in (y.0, y.1, subst (λ (l : LogView D). LeavesAppend disks log l s y.0) (sym same) y.2);
   }
 
   pub has_finished : (m m'' : Manager D) (f : PendingGroup) (a : Appending) (replies : List (ℕ × Reply)) → IsGroupOf m f → replies ≡ map (told a) f.together.members.items → SettlesBy f.written.write (as_appended a) (disks.failures m.log.disk) (disks.failures m''.log.disk)
-      → ((log : Log D) (s : State) → IsPendingFrom disks log m f s → (c : Member) (cs : List Member) → pending_members f ≡ c ∷ cs → FinishesFrom disks log s c cs a m'') → HasFinished disks m f replies m''
+      → ((log : LogView D) (s : State) → IsPendingFrom disks log m f s → (c : Member) (cs : List Member) → pending_members f ≡ c ∷ cs → FinishesFrom disks log s c cs a m'') → HasFinished disks m f replies m''
   has_finished m m'' f a replies is are fails finish_all = subst (λ (l : List (ℕ × Reply)). HasFinished disks m f l m'') (sym are) (by f.together.members.items refl)
     where
       by : (js : List Joining) → f.together.members.items ≡ js → HasFinished disks m f (map (told a) js) m''

@@ -7,7 +7,7 @@ use Rattle.xa_disk.specs.Time.{LeavesOnly}
 use Rattle.xa_disk.specs.declared.disk.Disk.{Ghosts}
 use Rattle.xa_log.specs.Checkpoint.{LeavesAny}
 use Rattle.xa_log.specs.Chain.{newest, text}
-use Rattle.xa_log.specs.declared.log.Log.{Log}
+use Rattle.xa_log.specs.LogView.{LogView}
 use Rattle.xa_log.specs.Stands.{Stands, EndsBehind, Leaves}
 use Rattle.xa_log.specs.TwoFiles.{Pair, AppendsTo, Checkpoints, Swaps, written}
 use Rattle.xa_log.specs.declared.appending.Appended.{Appended}
@@ -15,7 +15,7 @@ use Rattle.xa_log.specs.declared.appending.Appended.TheVariants.{Kept, Refused, 
 use Rattle.xa_manager.specs.Refused.{LogsFirst, KeepsCurrent}
 use Rattle.xa_manager.proofs.LogLengths.{one_size, none_size}
 
-pub first_full : {D : Type 0} (log : Log D) (bodies : List (List ℕ)) (body : List ℕ)
+pub first_full : {D : Type 0} (log : LogView D) (bodies : List (List ℕ)) (body : List ℕ)
     → bodies ≡ body ∷ [] → EndsBehind [] log → (log.lost ≡ false → log.log_bytes < log.end + 40 + length body)
     → log.log_bytes < length (text newest bodies) + 4
 first_full log bodies body e ends full =
@@ -30,7 +30,7 @@ one_body (y ∷ []) x body one first same = ap (λ (l : List ℕ). l ∷ []) (sy
 one_body (y ∷ (z ∷ zs)) x body one first same = absurd (omega (arith, one))
 
 -- what logging the first record of a log that was made does
-pub appends_first : {D : Type 0} (disks : Ghosts D) (is_new : Bool) (o : Appended) (fresh : List (List ℕ)) (body : List ℕ) (old new : Log D) → is_new ≡ true → fresh ≡ body ∷ []
+pub appends_first : {D : Type 0} (disks : Ghosts D) (is_new : Bool) (o : Appended) (fresh : List (List ℕ)) (body : List ℕ) (old new : LogView D) → is_new ≡ true → fresh ≡ body ∷ []
     → (new.other ≡ old.other) × (new.on_first ≡ old.on_first)
     → (disks.honest → (bodies stood : List (List ℕ)) → Pair disks bodies stood old → AppendsTo disks o bodies (body ∷ []) stood new)
     → (disks.honest → (bodies : List (List ℕ)) → Stands disks bodies old → LeavesOnly disks old.disk new.disk (Leaves old.log_bytes old.format bodies (body ∷ [])))
@@ -47,13 +47,13 @@ appends_first disks is_new o fresh body old new made only same pair moment = inl
 )
 
 -- and a checkpoint of the first records
-swapped : {D : Type 0} (o : Appended) (fresh : List (List ℕ)) (old new : Log D) → Swaps o fresh old new → KeepsCurrent o old new
+swapped : {D : Type 0} (o : Appended) (fresh : List (List ℕ)) (old new : LogView D) → Swaps o fresh old new → KeepsCurrent o old new
 swapped Kept fresh old new swaps = (swaps.0, swaps.1)
 swapped Refused fresh old new swaps = (swaps.0, swaps.1)
 swapped Lost fresh old new swaps = (swaps.0, swaps.1)
-swapped {D} Full fresh old new swaps = (ap (λ (l : Log D). l.disk) swaps, ap (λ (l : Log D). l.on_first) swaps)
+swapped {D} Full fresh old new swaps = (ap (λ (l : LogView D). l.disk) swaps, ap (λ (l : LogView D). l.on_first) swaps)
 
-pub snapshots_first : {D : Type 0} (disks : Ghosts D) (is_new : Bool) (o : Appended) (fresh : List (List ℕ)) (old new : Log D)
+pub snapshots_first : {D : Type 0} (disks : Ghosts D) (is_new : Bool) (o : Appended) (fresh : List (List ℕ)) (old new : LogView D)
     → (old.lost ≡ false → Swaps o fresh old new) → (old.lost ≡ true → (o ≡ Lost) × (new ≡ old)) → new.log_bytes ≡ old.log_bytes
     → (disks.honest → (bodies stood : List (List ℕ)) → Pair disks bodies stood old → Checkpoints disks o bodies stood fresh new)
     → (disks.honest → (bodies stood : List (List ℕ)) → Pair disks bodies stood old → LeavesOnly disks old.other (written o new) (LeavesAny old.log_bytes newest stood fresh))
@@ -61,7 +61,7 @@ pub snapshots_first : {D : Type 0} (disks : Ghosts D) (is_new : Bool) (o : Appen
 snapshots_first {D} disks is_new o fresh old new swaps lost same pair moment = inr (record {
   current =
       ⊎_elim
-      (λ was. subst (λ (x : Appended). KeepsCurrent x old new) (sym (lost was).0) (ap (λ (l : Log D). l.disk) (lost was).1, ap (λ (l : Log D). l.on_first) (lost was).1))
+      (λ was. subst (λ (x : Appended). KeepsCurrent x old new) (sym (lost was).0) (ap (λ (l : LogView D). l.disk) (lost was).1, ap (λ (l : LogView D). l.on_first) (lost was).1))
       (λ alive. swapped o fresh old new (swaps alive)) (cases_Bool old.lost);
   log_bytes = same;
   left = λ h bodies stood p. (pair h bodies stood p, moment h bodies stood p);

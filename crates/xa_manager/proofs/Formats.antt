@@ -10,7 +10,7 @@ use Rattle.xa_log.specs.Pair.{number_in, generation, is_nil, beats, IsCalm, Calm
 use Rattle.xa_log.specs.TwoFiles.{Pair, first_of, second_of}
 use Rattle.xa_log.specs.declared.format.Format.{Format}
 use Rattle.xa_log.specs.declared.format.Format.TheVariants.{One, Two}
-use Rattle.xa_log.specs.declared.log.Log.{Log}
+use Rattle.xa_log.specs.LogView.{LogView}
 use Rattle.xa_log.proofs.Records.{rests_logged}
 use Rattle.xa_log.specs.LogStates.{LogState, Whole, LostAppend, LostCheckpoint, IsIn, MayFind}
 use Rattle.xa_model.specs.Invariants.Backing.{Backs}
@@ -77,13 +77,13 @@ never_second mine other same some wins =
     let less : nat_lt (generation other) (generation mine) ≡ false = grind (arith, nat_tests, same) in
     neither (nat_lt (generation other) (generation mine)) (generation other == generation mine) (is_nil other) (not (is_nil mine)) less some wins
 
-module _ {D : Type 0} (disks : Ghosts D) (log log' : Log D) (bodies stood : List (List ℕ)) (p : Pair disks bodies stood log) (q : Pair disks bodies (logged (disks.seen log'.other)) log')
+module _ {D : Type 0} (disks : Ghosts D) (log log' : LogView D) (bodies stood : List (List ℕ)) (p : Pair disks bodies stood log) (q : Pair disks bodies (logged (disks.seen log'.other)) log')
     (tears : CalmTears disks.tears) (some : is_nil bodies ≡ false)
     (first : disks.seen (first_of log') ≡ disks.seen (first_of log)) (second : disks.seen (second_of log') ≡ disks.seen (second_of log)) where
-  first_disk : (l : Log D) (t : Bool) → l.on_first ≡ t → first_of l ≡ cond t l.disk l.other
+  first_disk : (l : LogView D) (t : Bool) → l.on_first ≡ t → first_of l ≡ cond t l.disk l.other
   first_disk l t e = ap (λ (b : Bool). cond b l.disk l.other) e
 
-  second_disk : (l : Log D) (t : Bool) → l.on_first ≡ t → second_of l ≡ cond t l.other l.disk
+  second_disk : (l : LogView D) (t : Bool) → l.on_first ≡ t → second_of l ≡ cond t l.other l.disk
   second_disk l t e = ap (λ (b : Bool). cond b l.other l.disk) e
 
   seen_first : (t u : Bool) → log.on_first ≡ t → log'.on_first ≡ u → disks.seen (cond u log'.disk log'.other) ≡ disks.seen (cond t log.disk log.other)
@@ -128,11 +128,11 @@ some_record [] s b h =
     absurd (omega (arith, none, h.loggable.first, h.loggable.boots))
 some_record (r ∷ rs) s b h = refl
 
-pub found_some : {D : Type 0} (disks : Ghosts D) (bodies : List (List ℕ)) (log : Log D) (s : State) → IsRecoverable s → Found disks bodies log s → is_nil bodies ≡ false
+pub found_some : {D : Type 0} (disks : Ghosts D) (bodies : List (List ℕ)) (log : LogView D) (s : State) → IsRecoverable s → Found disks bodies log s → is_nil bodies ≡ false
 found_some disks bodies log s h f = ap is_nil f.spelled_as ∙ some_record f.records f.state f.backs (fate_recoverable f.many s f.state h f.fate)
 
 -- a log that was alive before a look, and stood
-pub stood_format : {D : Type 0} (disks : Ghosts D) (log log' : Log D) (state : LogState) (found : List (List ℕ)) → IsIn disks state log → log.lost ≡ false → MayFind state found
+pub stood_format : {D : Type 0} (disks : Ghosts D) (log log' : LogView D) (state : LogState) (found : List (List ℕ)) → IsIn disks state log → log.lost ≡ false → MayFind state found
     → Pair disks found (logged (disks.seen log'.other)) log' → CalmTears disks.tears → is_nil found ≡ false
     → disks.seen (first_of log') ≡ disks.seen (first_of log) → disks.seen (second_of log') ≡ disks.seen (second_of log) → log'.format ≡ log.format
 stood_format disks log log' (Whole bodies stood) found p alive is q tears some first second =

@@ -8,23 +8,23 @@ use Rattle.xa_log.specs.TwoFiles.{Pair, IsOpenPair, AppendsTo, Swaps, second_of}
 use Rattle.xa_log.specs.declared.appending.Appended.{Appended}
 use Rattle.xa_log.specs.declared.appending.Appended.TheVariants.{Kept}
 use Rattle.xa_log.specs.declared.format.Format.{Format}
-use Rattle.xa_log.specs.declared.log.Log.{Log}
+use Rattle.xa_log.specs.LogView.{LogView}
 use Rattle.xa_log.proofs.Opens.{made_pair}
 use Rattle.xa_manager.specs.Opening.{HasBodies, IsFound}
 use Rattle.xa_manager.proofs.LogLengths.{one_size, none_size}
 
 -- it stands, whatever stands in the other file
-pub record FoundStands {D : Type 0} (disks : Ghosts D) (bodies : List (List ℕ)) (log : Log D) : Type 0 where
+pub record FoundStands {D : Type 0} (disks : Ghosts D) (bodies : List (List ℕ)) (log : LogView D) : Type 0 where
   pub stood : List (List ℕ)
   pub current : Stands disks bodies log
   pub other : IsOther disks log.log_bytes stood log.other
 
-pub found_stands : {D : Type 0} (disks : Ghosts D) (is_new : Bool) (bodies : List (List ℕ)) (log : Log D) → IsFound disks is_new bodies log → FoundStands disks bodies log
+pub found_stands : {D : Type 0} (disks : Ghosts D) (is_new : Bool) (bodies : List (List ℕ)) (log : LogView D) → IsFound disks is_new bodies log → FoundStands disks bodies log
 found_stands disks true bodies log (stood, p) = record { stood = stood; current = p.current; other = p.other }
 found_stands disks false bodies log p = record { stood = logged (disks.seen log.other); current = p.current; other = p.other }
 
 -- what was made or read on two disks is one
-pub found_log : {D : Type 0} (disks : Ghosts D) (is_new : Bool) (bodies : List (List ℕ)) (log : Log D) (second : D) → IsOpenPair disks bodies (logged (disks.seen log.other)) log
+pub found_log : {D : Type 0} (disks : Ghosts D) (is_new : Bool) (bodies : List (List ℕ)) (log : LogView D) (second : D) → IsOpenPair disks bodies (logged (disks.seen log.other)) log
     → (is_new ≡ true → (bodies ≡ []) × (log.on_first ≡ true) × (disks.seen second ≡ [])) → second_of log ≡ second → IsFound disks is_new bodies log
 found_log disks false bodies log second it new is = it
 found_log {D} disks true bodies log second it new is =
@@ -34,19 +34,19 @@ found_log {D} disks true bodies log second it new is =
     ([], subst (λ (b : List (List ℕ)). Pair disks b [] log) (sym n.0) (made_pair disks bodies (logged (disks.seen log.other)) log n.0 none it).0)
 
 -- one that was made
-pub found_new : {D : Type 0} (disks : Ghosts D) (is_new : Bool) (bodies : List (List ℕ)) (log : Log D) → is_new ≡ true → bodies ≡ [] → IsFound disks is_new bodies log
+pub found_new : {D : Type 0} (disks : Ghosts D) (is_new : Bool) (bodies : List (List ℕ)) (log : LogView D) → is_new ≡ true → bodies ≡ [] → IsFound disks is_new bodies log
     → HasBodies disks [] log
 found_new disks is_new bodies log is none found =
     subst (λ (b : List (List ℕ)). HasBodies disks b log) none (subst (λ (t : Bool). IsFound disks t bodies log) is found)
 
 -- its first record
-pub first_kept : {D : Type 0} (disks : Ghosts D) (o : Appended) (stood : List (List ℕ)) (body : List ℕ) (bodies : List (List ℕ)) (log : Log D) → o ≡ Kept → bodies ≡ body ∷ []
+pub first_kept : {D : Type 0} (disks : Ghosts D) (o : Appended) (stood : List (List ℕ)) (body : List ℕ) (bodies : List (List ℕ)) (log : LogView D) → o ≡ Kept → bodies ≡ body ∷ []
     → AppendsTo disks o [] (body ∷ []) stood log → HasBodies disks bodies log
 first_kept disks o stood body bodies log kept one went =
     (stood, subst (λ (b : List (List ℕ)). Pair disks b stood log) (sym one) (subst (λ (x : Appended). AppendsTo disks x [] (body ∷ []) stood log) kept went))
 
 -- where its next record begins then
-pub first_ends : {D : Type 0} (o : Appended) (old new : Log D) (was bodies : List (List ℕ)) (body : List ℕ) → o ≡ Kept → was ≡ [] → bodies ≡ body ∷ []
+pub first_ends : {D : Type 0} (o : Appended) (old new : LogView D) (was bodies : List (List ℕ)) (body : List ℕ) → o ≡ Kept → was ≡ [] → bodies ≡ body ∷ []
     → Moves o (length body) old new → EndsBehind was old → EndsBehind bodies new
 first_ends o old new was bodies body kept none one moves ends =
     let now : Moves Kept (length body) old new = subst (λ (x : Appended). Moves x (length body) old new) kept moves in
@@ -58,7 +58,7 @@ first_ends o old new was bodies body kept none one moves ends =
     }
 
 -- and of a checkpoint
-pub replaced_ends : {D : Type 0} (o : Appended) (old new : Log D) (was bodies : List (List ℕ)) → o ≡ Kept → Swaps o bodies old new → EndsBehind was old → EndsBehind bodies new
+pub replaced_ends : {D : Type 0} (o : Appended) (old new : LogView D) (was bodies : List (List ℕ)) → o ≡ Kept → Swaps o bodies old new → EndsBehind was old → EndsBehind bodies new
 replaced_ends o old new was bodies kept swaps ends =
     let now : Swaps Kept bodies old new = subst (λ (x : Appended). Swaps x bodies old new) kept swaps in
     record {

@@ -5,7 +5,7 @@ use Rattle.std.proofs.lemmas.List.{length-map}
 use Rattle.xa_disk.specs.declared.disk.Disk.{Ghosts}
 use Rattle.xa_frame.specs.declared.reply.Reply.{Reply}
 use Rattle.xa_log.specs.Reading.{bodies_of}
-use Rattle.xa_log.specs.declared.log.Log.{Log}
+use Rattle.xa_log.specs.LogView.{LogView}
 use Rattle.xa_xid.specs.Triple.{Triple}
 use Rattle.xa_model.specs.declared.outcome.Appending.{Appending}
 use Rattle.xa_model.specs.declared.outcome.Outcome.TheVariants.{Appended}
@@ -65,8 +65,8 @@ module _ {D : Type 0} (disks : Ghosts D) where
   taken_still m m' m'' (c ∷ cs) a stays log takes = record {
     together = takes.together;
     leads = λ s st. let x = takes.leads s st in (x.0, x.1, stays x.0 x.2);
-    called = λ s st. subst (λ (l : Log D). HasCalled disks (Appended a) m.log l) (sym log) (takes.called s st);
-    crash = λ s st trusts. let x = takes.crash s st trusts in (x.0, x.1, subst (λ (l : Log D). LeavesAppend disks m.log l s x.0) (sym log) x.2);
+    called = λ s st. subst (λ (l : LogView D). HasCalled disks (Appended a) m.log l) (sym log) (takes.called s st);
+    crash = λ s st trusts. let x = takes.crash s st trusts in (x.0, x.1, subst (λ (l : LogView D). LeavesAppend disks m.log l s x.0) (sym log) x.2);
   }
 
   answers_by : (m m' : Manager D) (calls : List Asked) (a : Appending) (js : List Joining) → 1 ≤ length js → AllByRecursion (λ (j : Joining). j.at < length calls) js

@@ -9,7 +9,7 @@ use Rattle.xa_record.specs.Spelling.{spelled}
 use Rattle.xa_record.specs.declared.record.Record.{Record}
 use Rattle.xa_log.specs.Group.{as_one, group_bytes}
 use Rattle.xa_log.specs.Stands.{Leaves, Stands}
-use Rattle.xa_log.specs.declared.log.Log.{Log}
+use Rattle.xa_log.specs.LogView.{LogView}
 use Rattle.xa_model.specs.declared.outcome.Outcome.{Outcome}
 use Rattle.xa_model.specs.declared.outcome.Outcome.TheVariants.{Appended, Joined}
 use Rattle.xa_model.specs.declared.outcome.Appending.{Appending}
@@ -180,7 +180,7 @@ module _ {D : Type 0} (disks : Ghosts D) where
       }
 
   -- What a crash at any moment of it leaves stands for the state to which the calls lead where their records are lost.
-  pub crash_together : (m : Manager D) (log : Log D) (s : State) (p : Part) (ps : List Part) → ManagerStandsFor disks m s → s.standing ≡ Up → Trusts disks → MayStandTogether s (p ∷ ps)
+  pub crash_together : (m : Manager D) (log : LogView D) (s : State) (p : Part) (ps : List Part) → ManagerStandsFor disks m s → s.standing ≡ Up → Trusts disks → MayStandTogether s (p ∷ ps)
       → (disks.honest → (bodies : List (List ℕ)) → Stands disks bodies m.log → LeavesOnly disks m.log.disk log.disk (Leaves m.log.log_bytes m.log.format bodies (map spelled (records_of (p ∷ ps)))))
       → LeavesAppend disks m.log log s (group_after Lost s (p ∷ ps))
   crash_together m log s p ps st up trusts may leaves =

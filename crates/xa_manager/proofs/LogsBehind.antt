@@ -8,7 +8,7 @@ use Rattle.xa_record.specs.declared.record.Record.{Record}
 use Rattle.xa_record.specs.declared.record.Record.TheVariants as logged
 use Rattle.xa_log.specs.LogStates.{LogState, Whole, LostAppend, LostCheckpoint, IsIn, LostTears, IsCalmBeside}
 use Rattle.xa_log.specs.TwoFiles.{MayStandPair, MaySeal}
-use Rattle.xa_log.specs.declared.log.Log.{Log}
+use Rattle.xa_log.specs.LogView.{LogView}
 use Rattle.xa_log.specs.Group.{HasFirstPart}
 use Rattle.xa_log.proofs.States.{whole_of, beside_by}
 use Rattle.xa_model.specs.State.{State}
@@ -77,17 +77,17 @@ lost_trusted disks t (Whole bodies stood) = tt
 lost_trusted disks t (LostAppend bodies group stood) = t.appends group
 lost_trusted disks t (LostCheckpoint bodies fresh) = tt
 
-pub calm_trusted : {D : Type 0} (disks : Ghosts D) → Trusts disks → (state : LogState) (log : Log D) → IsCalmBeside disks state log
+pub calm_trusted : {D : Type 0} (disks : Ghosts D) → Trusts disks → (state : LogState) (log : LogView D) → IsCalmBeside disks state log
 calm_trusted disks t state log = inl (beside_by disks.tears t.headers t.seals state)
 
 -- ---- what the log stands for
 
 module _ {D : Type 0} (disks : Ghosts D) where
   -- where no record was lost the log has the records
-  pub only_records : (log : Log D) (s : State) → s.open_records ≡ [] → (l : LogStandsFor disks log s) → HasRecords disks l.records log
+  pub only_records : (log : LogView D) (s : State) → s.open_records ≡ [] → (l : LogStandsFor disks log s) → HasRecords disks l.records log
   only_records log s none l = whole_of disks log l.state l.is_in (map spelled l.records) (λ found may. settles_none l.records s found none (l.finds found may))
 
-  pub stands_whole : (log : Log D) (s : State) (rs : List Record) → Backs rs s → HasRecords disks rs log → LogStandsFor disks log s
+  pub stands_whole : (log : LogView D) (s : State) (rs : List Record) → Backs rs s → HasRecords disks rs log → LogStandsFor disks log s
   stands_whole log s rs backs (stood, p) = record {
     records = rs;
     backs = backs;
@@ -98,7 +98,7 @@ module _ {D : Type 0} (disks : Ghosts D) where
   }
 
   -- the records that were lost are no boot's
-  pub stands_append : (log : Log D) (s : State) (rs lost : List Record) (stood : List (List ℕ)) → Backs rs s → s.open_records ≡ lost
+  pub stands_append : (log : LogView D) (s : State) (rs lost : List Record) (stood : List (List ℕ)) → Backs rs s → s.open_records ≡ lost
       → AllByRecursion (λ (r : Record). is_boot r ≡ false) lost
       → MayStandPair disks (map spelled rs) (map spelled lost) stood log → LogStandsFor disks log s
   stands_append log s rs lost stood backs open_is others p = record {
@@ -111,7 +111,7 @@ module _ {D : Type 0} (disks : Ghosts D) where
   }
 
   -- it is a boot's, whose snapshot was to be the log
-  pub stands_seal : (log : Log D) (s : State) (rs : List Record) (boot : ℕ) → Backs rs s → s.open_records ≡ logged.Opened boot ∷ []
+  pub stands_seal : (log : LogView D) (s : State) (rs : List Record) (boot : ℕ) → Backs rs s → s.open_records ≡ logged.Opened boot ∷ []
       → MaySeal disks (map spelled rs) (snapshot_bodies s boot) log → LogStandsFor disks log s
   stands_seal log s rs boot backs open_is p = record {
     records = rs;
@@ -128,7 +128,7 @@ module _ {D : Type 0} (disks : Ghosts D) where
   }
 
   -- a state from which the same lasts
-  pub stands_alike : (log : Log D) (s t : State) → AreOneGroup s.open_records → durable t ≡ durable s → t.open_records ≡ s.open_records → ((rs : List Record) → Backs rs s → Backs rs t)
+  pub stands_alike : (log : LogView D) (s t : State) → AreOneGroup s.open_records → durable t ≡ durable s → t.open_records ≡ s.open_records → ((rs : List Record) → Backs rs s → Backs rs t)
       → LogStandsFor disks log s → LogStandsFor disks log t
   stands_alike log s t group lasts open_is backs l = record {
     records = l.records;
@@ -140,7 +140,7 @@ module _ {D : Type 0} (disks : Ghosts D) where
   }
 
   -- a log that is in whichever state it was in
-  pub stands_kept : (log log' : Log D) (s : State) → ((state : LogState) → IsIn disks state log → IsIn disks state log')
+  pub stands_kept : (log log' : LogView D) (s : State) → ((state : LogState) → IsIn disks state log → IsIn disks state log')
       → LogStandsFor disks log s → LogStandsFor disks log' s
   stands_kept log log' s kept l = record {
     records = l.records;

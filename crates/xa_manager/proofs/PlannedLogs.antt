@@ -3,7 +3,7 @@ use Rattle.std.proofs.Common.{Bool, true, false, ◌∙◌}
 use Rattle.xa_disk.specs.declared.disk.Disk.{Ghosts}
 use Rattle.xa_log.specs.LogStates.{KeepsAll}
 use Rattle.xa_log.specs.Stands.{Untouched}
-use Rattle.xa_log.specs.declared.log.Log.{Log}
+use Rattle.xa_log.specs.LogView.{LogView}
 use Rattle.xa_model.specs.State.{State}
 use Rattle.xa_model.specs.Invariants.Loggable.{IsRecoverable}
 use Rattle.xa_manager.specs.declared.manager.Manager.{Manager}
@@ -25,7 +25,7 @@ read_stands disks m s t stands =
     let h = tables_recoverable m.up (view m) s stands.tables in (read_leaves disks m.log s t h (stands.log t), h)
 
 -- a log whose disks' plans alone changed
-pub planned_stays : {D : Type 0} (disks : Ghosts D) (m : Manager D) (log : Log D) → Untouched m.log log → KeepsAll disks m.log log
+pub planned_stays : {D : Type 0} (disks : Ghosts D) (m : Manager D) (log : LogView D) → Untouched m.log log → KeepsAll disks m.log log
     → StaysFor disks m (record m { log = log })
 planned_stays disks m log u k s stands = record {
   tables = stands.tables;

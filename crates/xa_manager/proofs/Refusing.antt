@@ -6,7 +6,7 @@ use Rattle.xa_log.specs.Pair.{pair_fault, logged_pair}
 use Rattle.xa_log.specs.TwoFiles.{first_of, second_of}
 use Rattle.xa_log.specs.declared.appending.Appended.{Appended}
 use Rattle.xa_log.specs.declared.appending.Appended.TheVariants.{Kept}
-use Rattle.xa_log.specs.declared.log.Log.{Log}
+use Rattle.xa_log.specs.LogView.{LogView}
 use Rattle.xa_manager.specs.declared.fault.ManagerFault.{ManagerFault}
 use Rattle.xa_manager.specs.declared.fault.ManagerFault.TheVariants as fault
 use Rattle.xa_manager.specs.declared.manager.Manager.{Manager}
@@ -41,11 +41,11 @@ never_setting (Err x) bodies log_bytes h is = subst (λ e. BootRefused e bodies 
 
 -- ---- what it leaves
 
-module _ {D : Type 0} (disks : Ghosts D) (first second : D) (is_new : Bool) (bodies : List (List ℕ)) (log_bytes : ℕ) (log : Log D)
+module _ {D : Type 0} (disks : Ghosts D) (first second : D) (is_new : Bool) (bodies : List (List ℕ)) (log_bytes : ℕ) (log : LogView D)
     (finding : disks.honest → LeavesFinding disks first (first_of log) second (second_of log))
     (read : disks.honest → logged_pair (disks.seen first) (disks.seen second) ≡ bodies) (found : disks.honest → IsFound disks is_new bodies log) (sized : log.log_bytes ≡ log_bytes)
     (made : disks.honest → is_new ≡ true → (disks.seen first ≡ []) × (disks.seen second ≡ [])) where
-  logging : (a : Appended) (after : Log D) → LogsBoot disks is_new bodies log_bytes a log after → LeavesLogging disks log_bytes first second a after
+  logging : (a : Appended) (after : LogView D) → LogsBoot disks is_new bodies log_bytes a log after → LeavesLogging disks log_bytes first second a after
   logging a after logs = record {
     is_new = is_new;
     bodies = bodies;
@@ -63,14 +63,14 @@ module _ {D : Type 0} (disks : Ghosts D) (first second : D) (is_new : Bool) (bod
   begun_logs (Ok m) logs = logging Kept m.log logs
   begun_logs (Err e) logs = tt
 
-  as_found : (after : Log D) (first' second' : D) → after ≡ log → first' ≡ first_of after → second' ≡ second_of after
+  as_found : (after : LogView D) (first' second' : D) → after ≡ log → first' ≡ first_of after → second' ≡ second_of after
       → disks.honest → LeavesFinding disks first first' second second'
   as_found after first' second' same one two h =
       subst (λ (d : D). LeavesFinding disks first d second second') (sym one)
       (subst (λ (d : D). LeavesFinding disks first (first_of after) second d) (sym two)
-      (subst (λ (l : Log D). LeavesFinding disks first (first_of l) second (second_of l)) (sym same) (finding h)))
+      (subst (λ (l : LogView D). LeavesFinding disks first (first_of l) second (second_of l)) (sym same) (finding h)))
 
-  left_for : (e : ManagerFault) (after : Log D) (first' second' : D) → BootRefused e bodies log_bytes
+  left_for : (e : ManagerFault) (after : LogView D) (first' second' : D) → BootRefused e bodies log_bytes
       → LeavesBegin disks e is_new bodies log_bytes log after → first' ≡ first_of after → second' ≡ second_of after → LeavesRefused disks e log_bytes first first' second second'
   left_for (fault.Log e) after first' second' h left one two = absurd h
   left_for (fault.Malformed i) after first' second' h left one two = as_found after first' second' left one two
@@ -82,7 +82,7 @@ module _ {D : Type 0} (disks : Ghosts D) (first second : D) (is_new : Bool) (bod
   left_for fault.Device after first' second' h (a, kept, logs) one two = (a, after, kept, logging a after logs, one, two)
 
   pub refused_left : {M : Type 0} (r : Result M (RefusedOpening D)) → IfErr r (λ x. BootRefused x.fault bodies log_bytes)
-      → IfErr r (λ x. (after : Log D) × LeavesBegin disks x.fault is_new bodies log_bytes log after × (x.first ≡ first_of after) × (x.second ≡ second_of after))
+      → IfErr r (λ x. (after : LogView D) × LeavesBegin disks x.fault is_new bodies log_bytes log after × (x.first ≡ first_of after) × (x.second ≡ second_of after))
       → IfErr r (λ x. LeavesRefused disks x.fault log_bytes first x.first second x.second)
   refused_left (Ok m) h left = tt
   refused_left (Err x) h (after, left, one, two) = left_for x.fault after x.first x.second h left one two

@@ -5,7 +5,7 @@ use Rattle.xa_disk.specs.declared.disk.Disk.{Ghosts}
 use Rattle.xa_record.specs.Spelling.{spelled}
 use Rattle.xa_record.specs.declared.record.Record.{Record}
 use Rattle.xa_log.specs.declared.format.Format.{Format}
-use Rattle.xa_log.specs.declared.log.Log.{Log}
+use Rattle.xa_log.specs.LogView.{LogView}
 use Rattle.xa_log.specs.Chain.{start, text, records, digest, record_of}
 use Rattle.xa_log.specs.LogStates.{LogState, Whole, IsIn, MayFind}
 use Rattle.xa_log.specs.TwoFiles.{Pair}
@@ -33,12 +33,12 @@ pub text_size : (format : Format) (rs : List Record) → length (text format (ma
 text_size format rs = length-text format (map spelled rs) ∙ ap (λ (n : ℕ). 8 + n) (records_size (start format) rs)
 
 -- A look that succeeds finds what the log may have, and that stands.
-pub record Finds {D : Type 0} (disks : Ghosts D) (found : List (List ℕ)) (log log' : Log D) : Type 0 where
+pub record Finds {D : Type 0} (disks : Ghosts D) (found : List (List ℕ)) (log log' : LogView D) : Type 0 where
   pub stood : List (List ℕ)
   pub state : (state : LogState) → IsIn disks state log → MayFind state found × Pair disks found stood log'
 
 -- the log still stands behind the state
-pub stands_found : {D : Type 0} (disks : Ghosts D) (found : List (List ℕ)) (log log' : Log D) (s : State)
+pub stands_found : {D : Type 0} (disks : Ghosts D) (found : List (List ℕ)) (log log' : LogView D) (s : State)
     → Finds disks found log log' → LogStandsFor disks log s → LogStandsFor disks log' s
 stands_found disks found log log' s k st =
     let now = k.state st.state st.is_in in
@@ -52,11 +52,11 @@ stands_found disks found log log' s k st =
     }
 
 -- a log of these records ends where they do
-pub records_end : {D : Type 0} (disks : Ghosts D) (rs : List Record) (t : State) (log : Log D)
+pub records_end : {D : Type 0} (disks : Ghosts D) (rs : List Record) (t : State) (log : LogView D)
     → Backs rs t → HasRecords disks rs log → log.end ≡ t.end
 records_end disks rs t log k (stood, pair) = pair.current.end ∙ (text_size log.format rs ∙ sym k.end)
 
-pub found_state : {D : Type 0} (disks : Ghosts D) (found : List (List ℕ)) (log log' : Log D) (s : State)
+pub found_state : {D : Type 0} (disks : Ghosts D) (found : List (List ℕ)) (log log' : LogView D) (s : State)
     → Finds disks found log log' → IsRecoverable s → LogStandsFor disks log s → Found disks found log' s
 found_state disks found log log' s k h st =
     let now = k.state st.state st.is_in in

@@ -16,7 +16,7 @@ use Rattle.xa_log.specs.TwoFiles.{Pair, IsOpenPair, first_of, second_of}
 use Rattle.xa_log.specs.declared.appending.Appended.{Appended}
 use Rattle.xa_log.specs.declared.appending.Appended.TheVariants as appended
 use Rattle.xa_log.specs.declared.format.Format.{Format}
-use Rattle.xa_log.specs.declared.log.Log.{Log}
+use Rattle.xa_log.specs.LogView.{LogView}
 use Rattle.xa_model.specs.declared.outcome.Appending.{Appending}
 use Rattle.xa_model.specs.declared.outcome.Appending.TheVariants.{Kept, Refused, Lost}
 use Rattle.xa_model.specs.State.{State}
@@ -31,7 +31,7 @@ use Rattle.xa_manager.specs.Managed.{ManagerStandsFor}
 use Rattle.xa_manager.specs.Turns.{HasAppended}
 use Rattle.xa_manager.proofs.PlannedLogs.{planned_stays}
 
-module _ {D : Type 0} (disks : Ghosts D) (old new : Log D) (r : HasReserved disks old new) where
+module _ {D : Type 0} (disks : Ghosts D) (old new : LogView D) (r : HasReserved disks old new) where
   pub first_same : first_of new ≡ first_of old
   first_same = rw (r.fields.on_first, r.files.0, r.files.1) refl
 
@@ -64,7 +64,7 @@ module _ {D : Type 0} (disks : Ghosts D) (old new : Log D) (r : HasReserved disk
 
   -- ---- an append to it
 
-  moves_same : (a : Appending) (n : ℕ) (after : Log D) → Moves (as_appended a) n new after → Moves (as_appended a) n old after
+  moves_same : (a : Appending) (n : ℕ) (after : LogView D) → Moves (as_appended a) n new after → Moves (as_appended a) n old after
   moves_same Kept n after m = (
     m.0 ∙ ap (λ (e : ℕ). e + (36 + n)) r.fields.end,
     m.1 ∙ r.fields.format,
@@ -77,7 +77,7 @@ module _ {D : Type 0} (disks : Ghosts D) (old new : Log D) (r : HasReserved disk
   moves_same Lost n after m =
       (m.0 ∙ r.fields.end, m.1 ∙ r.fields.format, m.2 ∙ r.fields.digest, m.3, m.4 ∙ r.fields.known, m.5 ∙ r.fields.other_known)
 
-  pub appended_same : (group : List (List ℕ)) (a : Appending) (after : Log D) → HasAppended disks group a new after → HasAppended disks group a old after
+  pub appended_same : (group : List (List ℕ)) (a : Appending) (after : LogView D) → HasAppended disks group a new after → HasAppended disks group a old after
   appended_same group a after h = record {
     log_bytes = h.log_bytes ∙ r.fields.log_bytes;
     other = (h.other.0 ∙ r.files.1, h.other.1 ∙ r.fields.on_first);
@@ -89,13 +89,13 @@ module _ {D : Type 0} (disks : Ghosts D) (old new : Log D) (r : HasReserved disk
 
   -- ---- the first records of a boot
 
-  keeps_current : (a : Appended) (after : Log D) → KeepsCurrent a new after → KeepsCurrent a old after
+  keeps_current : (a : Appended) (after : LogView D) → KeepsCurrent a new after → KeepsCurrent a old after
   keeps_current appended.Kept after k = (k.0 ∙ r.files.0, k.1 ∙ ap not r.fields.on_first)
   keeps_current appended.Refused after k = (k.0 ∙ r.files.0, k.1 ∙ r.fields.on_first)
   keeps_current appended.Lost after k = (k.0 ∙ r.files.0, k.1 ∙ r.fields.on_first)
   keeps_current appended.Full after k = (k.0 ∙ r.files.0, k.1 ∙ r.fields.on_first)
 
-  pub logs_same : (is_new : Bool) (a : Appended) (fresh : List (List ℕ)) (after : Log D) → LogsFirst disks is_new a fresh new after → LogsFirst disks is_new a fresh old after
+  pub logs_same : (is_new : Bool) (a : Appended) (fresh : List (List ℕ)) (after : LogView D) → LogsFirst disks is_new a fresh new after → LogsFirst disks is_new a fresh old after
   logs_same is_new a fresh after (inl (made, x)) = inl (
     made,
     record {
@@ -116,7 +116,7 @@ module _ {D : Type 0} (disks : Ghosts D) (old new : Log D) (r : HasReserved disk
         (l.0, rw (← r.fields.log_bytes, ← r.files.1) l.1);
   })
 
-  pub boot_same : (is_new : Bool) (bodies : List (List ℕ)) (log_bytes : ℕ) (a : Appended) (after : Log D) → LogsBoot disks is_new bodies log_bytes a new after → LogsBoot disks is_new bodies log_bytes a old after
+  pub boot_same : (is_new : Bool) (bodies : List (List ℕ)) (log_bytes : ℕ) (a : Appended) (after : LogView D) → LogsBoot disks is_new bodies log_bytes a new after → LogsBoot disks is_new bodies log_bytes a old after
   boot_same is_new bodies log_bytes a after b =
       record { durable = b.durable; comes = b.comes; boots = b.boots; room = b.room; logs = logs_same is_new a _ after b.logs }
 
@@ -142,7 +142,7 @@ module _ {D : Type 0} (disks : Ghosts D) (old new : Log D) (r : HasReserved disk
   unfolding state_same
   many_same bodies s f = refl
 
-  pub look_same : (before : Log D) (s : State) → LeavesLook disks before old s → LeavesLook disks before new s
+  pub look_same : (before : LogView D) (s : State) → LeavesLook disks before old s → LeavesLook disks before new s
   look_same before s (looks, leaves) = (
     record {
       log_bytes = r.fields.log_bytes ∙ looks.log_bytes;
@@ -160,7 +160,7 @@ module _ {D : Type 0} (disks : Ghosts D) (old new : Log D) (r : HasReserved disk
         chance,
   )
 
-  pub none_rises : (before : Log D) → NoneRises disks.failures before old → NoneRises disks.failures before new
+  pub none_rises : (before : LogView D) → NoneRises disks.failures before old → NoneRises disks.failures before new
   none_rises before (first, second) = (ap disks.failures first_same ∙ first, ap disks.failures second_same ∙ second)
 
 -- the manager of a log whose buffer alone may have grown
@@ -169,7 +169,7 @@ pub reserved_stands : {D : Type 0} (disks : Ghosts D) (m m' : Manager D) (s : St
 reserved_stands {D} disks m m' s r is st = subst (λ (x : Manager D). ManagerStandsFor disks x s) (sym is) (planned_stays disks m m'.log r.fields r.keeps s st)
 
 -- nothing was reserved
-pub none_reserved : {D : Type 0} (disks : Ghosts D) (log : Log D) → HasReserved disks log log
+pub none_reserved : {D : Type 0} (disks : Ghosts D) (log : LogView D) → HasReserved disks log log
 none_reserved disks log = record {
   files = (refl, refl);
   fields = record { on_first = refl; log_bytes = refl; format = refl; end = refl; digest = refl; number = refl; lost = refl; known = refl; other_known = refl };
@@ -194,15 +194,15 @@ within n [] h all = h
 within n (v ∷ vs) h all = within (max n (length v)) vs (omega (arith, h, all.0.small)) all.1
 
 -- a buffer that holds it holds each of them
-held_below : {D : Type 0} (log : Log D) (n m : ℕ) → n ≤ m → Holds log m → Holds log n
+held_below : {D : Type 0} (log : LogView D) (n m : ℕ) → n ≤ m → Holds log m → Holds log n
 held_below log n m less (inl h) = inl (omega (arith, less, h))
 held_below log n m less (inr h) = inr (omega (arith, less, h))
 
-held_all : {D : Type 0} (log : Log D) (most : ℕ) (bodies : List (List ℕ)) → Holds log most → AllByRecursion (λ b. length b ≤ most) bodies → HoldsEach log bodies
+held_all : {D : Type 0} (log : LogView D) (most : ℕ) (bodies : List (List ℕ)) → Holds log most → AllByRecursion (λ b. length b ≤ most) bodies → HoldsEach log bodies
 held_all log most [] h all = tt
 held_all log most (b ∷ bodies) h all = (held_below log (length b) most all.0 h, held_all log most bodies h all.1)
 
-pub holds_longest : {D : Type 0} (log : Log D) (vs : List (List ℕ)) (most : ℕ) → most ≡ longest_from 0 vs → Holds log most → HoldsEach log vs
+pub holds_longest : {D : Type 0} (log : LogView D) (vs : List (List ℕ)) (most : ℕ) → most ≡ longest_from 0 vs → Holds log most → HoldsEach log vs
 holds_longest log vs most is h = held_all log most vs h (subst (λ (n : ℕ). AllByRecursion (λ b. length b ≤ n) vs) (sym is) (none_longer 0 vs))
 
 pub longest_within : (vs : List (List ℕ)) (most : ℕ) → most ≡ longest_from 0 vs → AllByRecursion (IsBody newest) vs → most ≤ most_body newest

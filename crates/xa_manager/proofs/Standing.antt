@@ -6,7 +6,7 @@ use Rattle.xa_record.specs.Spelling.{spelled}
 use Rattle.xa_record.specs.declared.record.Record.{Record}
 use Rattle.xa_record.specs.declared.record.Record.TheVariants as logged
 use Rattle.xa_log.specs.Chain.{newest}
-use Rattle.xa_log.specs.declared.log.Log.{Log}
+use Rattle.xa_log.specs.LogView.{LogView}
 use Rattle.xa_log.specs.Checkpoint.{IsQuiet}
 use Rattle.xa_log.specs.TwoFiles.{Pair, MaySeal}
 use Rattle.xa_model.specs.State.{State, Up, Down, Ended}
@@ -136,7 +136,7 @@ lost_recoverable disks m s t b st fate less =
     (lost_in_doubt t (fate_recoverable b s t (outside m.up (view m) s st.tables).recoverable fate) less).recoverable
 
 -- a manager that is up ends its log where it did
-pub found_end : {D : Type 0} (disks : Ghosts D) (found : List (List ℕ)) (log' : Log D) (s : State)
+pub found_end : {D : Type 0} (disks : Ghosts D) (found : List (List ℕ)) (log' : LogView D) (s : State)
     → IsRecoverable s → s.standing ≡ Up → Found disks found log' s → log'.end ≡ s.end
 found_end disks found log' s h up f = f.end ∙ ap (λ (x : State). x.end) (sym (none_found s.open_records s f.state f.many (h.settled up) f.fate))
 
@@ -188,7 +188,7 @@ never_full disks m s t b rs st fate backs full =
     let bytes : m.log.log_bytes ≡ t.log_bytes = st.log_bytes ∙ sym (fate_same b s t fate).log_bytes in
     omega (arith, short, room, bytes, full)
 
-pub refused_pair : {D : Type 0} (disks : Ghosts D) (bodies stood : List (List ℕ)) (log : Log D)
+pub refused_pair : {D : Type 0} (disks : Ghosts D) (bodies stood : List (List ℕ)) (log : LogView D)
     → Pair disks bodies stood log ⊎ (Pair disks bodies [] log × IsQuiet disks [] log.other) → (other : List (List ℕ)) × Pair disks bodies other log
 refused_pair disks bodies stood log (inl pair) = (stood, pair)
 refused_pair disks bodies stood log (inr both) = ([], both.0)

@@ -9,7 +9,7 @@ use Rattle.xa_record.specs.declared.record.Record.{Record}
 use Rattle.xa_record.specs.declared.record.Record.TheVariants as logged
 use Rattle.xa_log.specs.Group.{as_one, IsPlain}
 use Rattle.xa_log.specs.TwoFiles.{Pair}
-use Rattle.xa_log.specs.declared.log.Log.{Log}
+use Rattle.xa_log.specs.LogView.{LogView}
 use Rattle.xa_model.specs.declared.event.Event.{Event}
 use Rattle.xa_model.specs.declared.outcome.Outcome.{Outcome}
 use Rattle.xa_model.specs.declared.outcome.Outcome.TheVariants.{Quiet, Appended}
@@ -89,11 +89,11 @@ doubts_same (Some (doubt.Record end)) s t e f h = (
 )
 
 module _ {D : Type 0} (disks : Ghosts D) where
-  pub log_same : (log : Log D) (s t : State) → AreOneGroup s.open_records → KeepsLog s t → ((rs : List Record) → Backs rs s → Backs rs t) → LogStandsFor disks log s → LogStandsFor disks log t
+  pub log_same : (log : LogView D) (s t : State) → AreOneGroup s.open_records → KeepsLog s t → ((rs : List Record) → Backs rs s → Backs rs t) → LogStandsFor disks log s → LogStandsFor disks log t
   log_same log s t group k backs l = stands_alike disks log s t group k.lasts k.open_records backs l
 
   -- the log behind the state, after an append of these records
-  pub log_after : (log log' : Log D) (s t : State) (group : List Record) (a : Appending) → s.open_records ≡ [] → AllByRecursion (λ (r : Record). is_boot r ≡ false) group
+  pub log_after : (log log' : LogView D) (s t : State) (group : List Record) (a : Appending) → s.open_records ≡ [] → AllByRecursion (λ (r : Record). is_boot r ≡ false) group
       → HasAppended disks (map spelled group) a log log' → disks.honest
       → (a ≡ Lost → t.open_records ≡ group)
       → (a ≡ Kept → (rs : List Record) → Backs rs s → Backs (rs ++ group) t) → (a ≡ Refused → (rs : List Record) → Backs rs s → Backs rs t) → (a ≡ Lost → (rs : List Record) → Backs rs s → Backs rs t)
@@ -178,10 +178,10 @@ module _ {D : Type 0} (disks : Ghosts D) where
         stands = record {
           tables = x.tables recoverable;
           roomy = keeps_room s e outcome a event before st.roomy (restarts_none e other) steps;
-          end = λ up. ap (λ (l : Log D). l.end) x.log ∙ st.end (sym x.up ∙ up) ∙ sym k.end;
-          alive = λ up. ap (λ (l : Log D). l.lost) x.log ∙ st.alive (sym x.up ∙ up);
-          modern = λ up. ap (λ (l : Log D). l.format) x.log ∙ st.modern (sym x.up ∙ up);
-          log_bytes = ap (λ (l : Log D). l.log_bytes) x.log ∙ st.log_bytes ∙ sym bytes;
+          end = λ up. ap (λ (l : LogView D). l.end) x.log ∙ st.end (sym x.up ∙ up) ∙ sym k.end;
+          alive = λ up. ap (λ (l : LogView D). l.lost) x.log ∙ st.alive (sym x.up ∙ up);
+          modern = λ up. ap (λ (l : LogView D). l.format) x.log ∙ st.modern (sym x.up ∙ up);
+          log_bytes = ap (λ (l : LogView D). l.log_bytes) x.log ∙ st.log_bytes ∙ sym bytes;
           doubt = rw x.doubt (doubts_same m.doubt s a.after k.open_records k.end st.doubt);
           log = λ trusts.
               rw x.log (log_same m.log s a.after before.group k (λ rs b. now_backed rs s (further_record s e) a (subst (BacksTurn rs s) t (keeps_backed rs s (Asked e) event before b))) (st.log trusts));
@@ -190,18 +190,18 @@ module _ {D : Type 0} (disks : Ghosts D) where
 
   -- the manager after an append
 
-  pub end_after : (log log' : Log D) (s t : State) (group : List Record) (a : Appending) → log.end ≡ s.end → HasAppended disks (map spelled group) a log log'
+  pub end_after : (log log' : LogView D) (s t : State) (group : List Record) (a : Appending) → log.end ≡ s.end → HasAppended disks (map spelled group) a log log'
       → (a ≡ Kept → t.end ≡ s.end + (36 + as_one (map spelled group))) → (a ≡ Refused → t.end ≡ s.end) → up_after a ≡ true → log'.end ≡ t.end
   end_after log log' s t group Kept same h ok_ refused_ up = h.moves.0 ∙ ap (λ (n : ℕ). n + (36 + as_one (map spelled group))) same ∙ sym (ok_ refl)
   end_after log log' s t group Refused same h ok_ refused_ up = h.moves.0 ∙ same ∙ sym (refused_ refl)
   end_after log log' s t group Lost same h ok_ refused_ up = absurd (cc up)
 
-  pub alive_after : (log log' : Log D) (group : List (List ℕ)) (a : Appending) → log.lost ≡ false → HasAppended disks group a log log' → up_after a ≡ true → log'.lost ≡ false
+  pub alive_after : (log log' : LogView D) (group : List (List ℕ)) (a : Appending) → log.lost ≡ false → HasAppended disks group a log log' → up_after a ≡ true → log'.lost ≡ false
   alive_after log log' group Kept same h up = h.moves.2 ∙ same
   alive_after log log' group Refused same h up = h.moves.3 ∙ same
   alive_after log log' group Lost same h up = absurd (cc up)
 
-  pub format_after : (log log' : Log D) (group : List (List ℕ)) (a : Appending) → HasAppended disks group a log log' → log'.format ≡ log.format
+  pub format_after : (log log' : LogView D) (group : List (List ℕ)) (a : Appending) → HasAppended disks group a log log' → log'.format ≡ log.format
   format_after log log' group Kept h = h.moves.1
   format_after log log' group Refused h = h.moves.1
   format_after log log' group Lost h = h.moves.1

@@ -8,7 +8,7 @@ use Rattle.xa_record.specs.Spelling.{spelled}
 use Rattle.xa_record.specs.declared.record.Record.{Record}
 use Rattle.xa_record.specs.declared.record.Record.TheVariants as logged
 use Rattle.xa_log.specs.Group.{group_bytes}
-use Rattle.xa_log.specs.declared.log.Log.{Log}
+use Rattle.xa_log.specs.LogView.{LogView}
 use Rattle.xa_model.specs.State.{State}
 use Rattle.xa_model.specs.Fold.{sizes}
 use Rattle.xa_model.specs.Logging.{applied}
@@ -81,7 +81,7 @@ pub record IsSplit (bodies : List (List ℕ)) (from to many : ℕ) : Type 0 wher
   pub bytes : to - from ≡ group_bytes later
   pub many_is : length later ≡ many
 
-pub found_split : {D : Type 0} (disks : Ghosts D) (bodies : List (List ℕ)) (log : Log D) (s : State) (f : Found disks bodies log s)
+pub found_split : {D : Type 0} (disks : Ghosts D) (bodies : List (List ℕ)) (log : LogView D) (s : State) (f : Found disks bodies log s)
     → AllByRecursion (λ (r : Record). is_boot r ≡ false) s.open_records → IsSplit bodies s.end log.end f.many
 found_split disks bodies log s f others =
     let kept = take f.many s.open_records in

@@ -4,7 +4,7 @@ use Rattle.std.specs.Prelude.{Result, Ok, Err, OnErr}
 use Rattle.xa_disk.specs.declared.disk.Disk.{Ghosts}
 use Rattle.xa_frame.specs.declared.reply.Reply.{Reply}
 use Rattle.xa_record.specs.declared.record.Record.{Record}
-use Rattle.xa_log.specs.declared.log.Log.{Log}
+use Rattle.xa_log.specs.LogView.{LogView}
 use Rattle.xa_model.specs.declared.outcome.Outcome.{Outcome}
 use Rattle.xa_model.specs.declared.outcome.Outcome.TheVariants.{Quiet, Appended}
 use Rattle.xa_model.specs.declared.outcome.Appending.{Appending}
@@ -96,10 +96,10 @@ module _ {D : Type 0} (disks : Ghosts D) where
   stays_up m m' is_up up log doubt stays s st = record {
     tables = subst (λ (b : Bool). TablesStandFor b (view m') s) (sym (up ∙ is_up)) (stays s (tables_up m s is_up st));
     roomy = st.roomy;
-    end = λ e. ap (λ (l : Log D). l.end) log ∙ st.end is_up;
-    alive = λ e. ap (λ (l : Log D). l.lost) log ∙ st.alive is_up;
-    modern = λ e. ap (λ (l : Log D). l.format) log ∙ st.modern is_up;
-    log_bytes = ap (λ (l : Log D). l.log_bytes) log ∙ st.log_bytes;
+    end = λ e. ap (λ (l : LogView D). l.end) log ∙ st.end is_up;
+    alive = λ e. ap (λ (l : LogView D). l.lost) log ∙ st.alive is_up;
+    modern = λ e. ap (λ (l : LogView D). l.format) log ∙ st.modern is_up;
+    log_bytes = ap (λ (l : LogView D). l.log_bytes) log ∙ st.log_bytes;
     doubt = rw doubt st.doubt;
     log = λ trusts. rw log (st.log trusts);
   }

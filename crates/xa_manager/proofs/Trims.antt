@@ -18,7 +18,7 @@ use Rattle.xa_log.specs.declared.appending.Appended.{Appended as Told}
 use Rattle.xa_log.specs.declared.appending.Appended.TheVariants as told
 use Rattle.xa_log.specs.Checkpoint.{LeavesAny}
 use Rattle.xa_log.specs.TwoFiles.{MaySeal}
-use Rattle.xa_log.specs.declared.log.Log.{Log}
+use Rattle.xa_log.specs.LogView.{LogView}
 use Rattle.xa_model.specs.declared.outcome.Outcome.TheVariants.{Quiet, Appended}
 use Rattle.xa_model.specs.declared.outcome.Appending.{Appending}
 use Rattle.xa_model.specs.declared.outcome.Appending.TheVariants.{Kept, Refused, Lost}
@@ -157,12 +157,12 @@ module _ {D : Type 0} (disks : Ghosts D) (m : Manager D) (s : State) (st : Manag
 -- ---- what a crash leaves
 
 -- of a log whose buffer may have grown before the snapshot was written
-current_same : {D : Type 0} (disks : Ghosts D) (old mid new : Log D) (a : Appending) → HasReserved disks old mid → LeavesCurrent a mid new → LeavesCurrent a old new
+current_same : {D : Type 0} (disks : Ghosts D) (old mid new : LogView D) (a : Appending) → HasReserved disks old mid → LeavesCurrent a mid new → LeavesCurrent a old new
 current_same disks old mid new Kept r x = (x.0 ∙ r.files.0, x.1 ∙ ap not r.fields.on_first)
 current_same disks old mid new Refused r x = (x.0 ∙ r.files.0, x.1 ∙ r.fields.on_first)
 current_same disks old mid new Lost r x = (x.0 ∙ r.files.0, x.1 ∙ r.fields.on_first)
 
-pub trim_leaves : {D : Type 0} (disks : Ghosts D) (old mid new : Log D) (s : State) (rs : List Record) (a : Appending) → HasReserved disks old mid
+pub trim_leaves : {D : Type 0} (disks : Ghosts D) (old mid new : LogView D) (s : State) (rs : List Record) (a : Appending) → HasReserved disks old mid
     → IsRecoverable s → trim_refusal s ≡ None → Backs rs s → (has : HasRecords disks rs old)
     → new.log_bytes ≡ mid.log_bytes → LeavesCurrent a mid new
     → LeavesOnly disks mid.other (wrote a new) (LeavesAny mid.log_bytes newest has.0 (snapshot_bodies s (s.logged_boot + 1)))
@@ -204,7 +204,7 @@ rises_by failures false false x y v w e same h = inl (h, ap failures same)
 rises_by failures true false x y v w e same h = absurd (cc e)
 rises_by failures false true x y v w e same h = absurd (cc e)
 
-pub other_rises : {D : Type 0} (failures : D → ℕ) (old new : Log D) → new.on_first ≡ old.on_first → new.disk ≡ old.disk
+pub other_rises : {D : Type 0} (failures : D → ℕ) (old new : LogView D) → new.on_first ≡ old.on_first → new.disk ≡ old.disk
     → HasRisen (failures old.other) (failures new.other) → OneRises failures old new
 other_rises failures old new first same h = rises_by failures old.on_first new.on_first old.disk old.other new.disk new.other first same h
 
@@ -216,7 +216,7 @@ swapped_by failures false true x y v w e same h = (h, ap failures same)
 swapped_by failures true true x y v w e same h = absurd (cc e)
 swapped_by failures false false x y v w e same h = absurd (cc e)
 
-pub none_rises_swapped : {D : Type 0} (failures : D → ℕ) (old new : Log D) → new.on_first ≡ not old.on_first → new.other ≡ old.disk
+pub none_rises_swapped : {D : Type 0} (failures : D → ℕ) (old new : LogView D) → new.on_first ≡ not old.on_first → new.other ≡ old.disk
     → failures new.disk ≡ failures old.other → NoneRises failures old new
 none_rises_swapped failures old new first same h = swapped_by failures old.on_first new.on_first old.disk old.other new.disk new.other first same h
 
@@ -224,7 +224,7 @@ one_same : (a b x y v w : ℕ) → a ≡ x → b ≡ y → (HasRisen a v × (w �
 one_same a b x y v w e f (inl (risen, same)) = inl (subst (λ (n : ℕ). HasRisen n v) e risen, same ∙ f)
 one_same a b x y v w e f (inr (same, risen)) = inr (same ∙ e, subst (λ (n : ℕ). HasRisen n w) f risen)
 
-pub called_same : {D : Type 0} (disks : Ghosts D) (old mid new : Log D) (a : Appending) → HasReserved disks old mid
+pub called_same : {D : Type 0} (disks : Ghosts D) (old mid new : LogView D) (a : Appending) → HasReserved disks old mid
     → HasCalledToTrim disks (Appended a) mid new → HasCalledToTrim disks (Appended a) old new
 called_same disks old mid new Kept r h = (h.0 ∙ ap disks.failures (first_same disks old mid r), h.1 ∙ ap disks.failures (second_same disks old mid r))
 called_same disks old mid new Refused r h = one_same _ _ _ _ _ _ (ap disks.failures (first_same disks old mid r)) (ap disks.failures (second_same disks old mid r)) h
@@ -232,12 +232,12 @@ called_same disks old mid new Lost r h = one_same _ _ _ _ _ _ (ap disks.failures
 
 -- ---- the snapshot is one that the other file takes
 
-pub record IsTaken {D : Type 0} (log : Log D) (fresh : List (List ℕ)) : Type 0 where
+pub record IsTaken {D : Type 0} (log : LogView D) (fresh : List (List ℕ)) : Type 0 where
   pub some : 1 ≤ length fresh
   pub sizes : AllByRecursion (IsBody newest) fresh
   pub above : log.generation < generation fresh
 
-pub snapshot_taken : {D : Type 0} (disks : Ghosts D) (log : Log D) (s : State) (rs : List Record) → Backs rs s → HasRecords disks rs log → s.logged_boot < 4294967295
+pub snapshot_taken : {D : Type 0} (disks : Ghosts D) (log : LogView D) (s : State) (rs : List Record) → Backs rs s → HasRecords disks rs log → s.logged_boot < 4294967295
     → IsTaken log (snapshot_bodies s (s.logged_boot + 1))
 snapshot_taken disks log s rs backs has less = record {
   some = omega arith;

@@ -15,7 +15,7 @@ use Rattle.xa_log.specs.Stands.{Moves}
 use Rattle.xa_log.specs.TwoFiles.{first_of, second_of}
 use Rattle.xa_log.specs.declared.appending.Appended.{Appended}
 use Rattle.xa_log.specs.declared.appending.Appended.TheVariants as appended
-use Rattle.xa_log.specs.declared.log.Log.{Log}
+use Rattle.xa_log.specs.LogView.{LogView}
 use Rattle.xa_model.specs.declared.event.Event.{Event}
 use Rattle.xa_model.specs.declared.event.Event.TheVariants.{Connect, Hangup, Call}
 use Rattle.xa_model.specs.declared.outcome.Outcome.{Outcome}
@@ -61,19 +61,19 @@ as_appended Refused = appended.Refused
 as_appended Lost = appended.Lost
 
 -- a device call of one of the two files failed, and none of the other; or none of both
-abbrev pub OneRises : {D : Type 0} → (D → ℕ) → Log D → Log D → Type 0
+abbrev pub OneRises : {D : Type 0} → (D → ℕ) → LogView D → LogView D → Type 0
 OneRises failures old new =
     (HasRisen (failures (first_of old)) (failures (first_of new))
     × (failures (second_of new) ≡ failures (second_of old)))
     ⊎ ((failures (first_of new) ≡ failures (first_of old))
     × HasRisen (failures (second_of old)) (failures (second_of new)))
 
-abbrev pub NoneRises : {D : Type 0} → (D → ℕ) → Log D → Log D → Type 0
+abbrev pub NoneRises : {D : Type 0} → (D → ℕ) → LogView D → LogView D → Type 0
 NoneRises failures old new =
     (failures (first_of new) ≡ failures (first_of old))
     × (failures (second_of new) ≡ failures (second_of old))
 
-abbrev pub RisesBy : {D : Type 0} → (D → ℕ) → Option Appending → Log D → Log D → Type 0
+abbrev pub RisesBy : {D : Type 0} → (D → ℕ) → Option Appending → LogView D → LogView D → Type 0
 RisesBy failures None old new = NoneRises failures old new
 RisesBy failures (Some Kept) old new = NoneRises failures old new
 RisesBy failures (Some Refused) old new = OneRises failures old new
@@ -81,7 +81,7 @@ RisesBy failures (Some Lost) old new = OneRises failures old new
 
 -- An outcome that tells of a failure has one behind it. Behind a record that is kept there may be one, where zeros were
 -- due: of the write with them. No call by itself joins the append of another.
-abbrev pub HasCalled : {D : Type 0} → Ghosts D → Outcome → Log D → Log D → Type 0
+abbrev pub HasCalled : {D : Type 0} → Ghosts D → Outcome → LogView D → LogView D → Type 0
 HasCalled disks outcome.Quiet old new = new ≡ old
 HasCalled disks (outcome.Appended appending) old new =
     (new.other ≡ old.other) × (new.on_first ≡ old.on_first)
@@ -91,14 +91,14 @@ HasCalled disks outcome.Failed old new = OneRises disks.failures old new
 HasCalled disks (outcome.Reread survived appended) old new = RisesBy disks.failures appended old new
 
 -- A trim appends no record, but writes a new log to the other file.
-abbrev pub HasCalledToTrim : {D : Type 0} → Ghosts D → Outcome → Log D → Log D → Type 0
+abbrev pub HasCalledToTrim : {D : Type 0} → Ghosts D → Outcome → LogView D → LogView D → Type 0
 HasCalledToTrim disks outcome.Quiet old new = new ≡ old
 HasCalledToTrim disks (outcome.Appended appending) old new = RisesBy disks.failures (Some appending) old new
 HasCalledToTrim disks (outcome.Joined appending) old new = ⊥
 HasCalledToTrim disks outcome.Failed old new = ⊥
 HasCalledToTrim disks (outcome.Reread survived appended) old new = ⊥
 
-abbrev pub HasCalledFor : {D : Type 0} → Ghosts D → Bool → Outcome → Log D → Log D → Type 0
+abbrev pub HasCalledFor : {D : Type 0} → Ghosts D → Bool → Outcome → LogView D → LogView D → Type 0
 HasCalledFor disks true outcome old new = HasCalledToTrim disks outcome old new
 HasCalledFor disks false outcome old new = HasCalled disks outcome old new
 

@@ -3,7 +3,7 @@ use Rattle.std.specs.Prelude.{ℕ, ◌≡◌, ◌⊎◌, ◌+◌, ◌-◌, ◌^�
 use Rattle.xa_disk.specs.declared.disk.Disk.{Ghosts}
 use Rattle.xa_frame.specs.declared.reply.Reply.{Reply}
 use Rattle.xa_log.specs.TwoFiles.{first_of, second_of}
-use Rattle.xa_log.specs.declared.log.Log.{Log}
+use Rattle.xa_log.specs.LogView.{LogView}
 use Rattle.xa_model.specs.declared.event.Event.{Event}
 use Rattle.xa_model.specs.declared.outcome.Outcome.{Outcome}
 use Rattle.xa_model.specs.declared.outcome.Outcome.TheVariants as outcome
@@ -45,7 +45,7 @@ RiseBy n old new =
     → (old.0 < 2 ^ 64 - 1) × (old.1 < 2 ^ 64 - 1) × (old.0 + old.1 + n ≤ new.0 + new.1)
 
 -- the counts of the two files' disks
-abbrev pub counted_by : {D : Type 0} → (D → ℕ) → Log D → ℕ × ℕ
+abbrev pub counted_by : {D : Type 0} → (D → ℕ) → LogView D → ℕ × ℕ
 counted_by failures log = (failures (first_of log), failures (second_of log))
 
 -- As AnswersAll; and of the same outcomes, that each that joined became what the one before it became, and that they

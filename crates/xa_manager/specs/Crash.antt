@@ -9,7 +9,7 @@ use Rattle.xa_log.specs.Group.{IsPlain}
 use Rattle.xa_log.specs.LogStates.{LooksTo, LeftByLook}
 use Rattle.xa_log.specs.Pair.{IsCalm}
 use Rattle.xa_log.specs.TwoFiles.{Pair, first_of, second_of}
-use Rattle.xa_log.specs.declared.log.Log.{Log}
+use Rattle.xa_log.specs.LogView.{LogView}
 use Rattle.xa_model.specs.declared.event.Event.{Event}
 use Rattle.xa_model.specs.declared.outcome.Appending.{Appending}
 use Rattle.xa_model.specs.declared.outcome.Appending.TheVariants.{Kept, Refused, Lost}
@@ -27,20 +27,20 @@ use Rattle.xa_manager.specs.LogStands.{Trusts, snapshot_bodies}
 use Rattle.xa_manager.specs.Managed.{ManagerStandsFor}
 
 -- the files of a log, by images of the current one and of the other one, stand for a state
-abbrev pub StandFor : {D : Type 0} → Log D → List ℕ → List ℕ → State → Type 0
+abbrev pub StandFor : {D : Type 0} → LogView D → List ℕ → List ℕ → State → Type 0
 StandFor log current other s =
     FilesStandFor log.log_bytes (if log.on_first then current else other) (if log.on_first then other else current) s
 
 -- ---- no device call, or a look at the log
 
 -- what a crash now leaves stands for the state for which the log stands
-abbrev pub LeavesNow : {D : Type 0} → Ghosts D → Log D → State → Type 0
+abbrev pub LeavesNow : {D : Type 0} → Ghosts D → LogView D → State → Type 0
 LeavesNow disks log s =
     (first second : List ℕ) → disks.may_leave (first_of log) first → disks.may_leave (second_of log) second
     → StandsWithoutChance disks log s first second → FilesStandFor log.log_bytes first second s
 
 -- images of the two files at moments of a look stand for the state for which the log stood
-abbrev pub LeavesLook : {D : Type 0} → Ghosts D → Log D → Log D → State → Type 0
+abbrev pub LeavesLook : {D : Type 0} → Ghosts D → LogView D → LogView D → State → Type 0
 LeavesLook disks old new s =
     LooksTo disks old new
     × ((first second : List ℕ) → LeftByLook disks old new first second → StandsWithoutChance disks old s first second
@@ -50,14 +50,14 @@ LeavesLook disks old new s =
 
 -- Images of the current file and of the other one at a moment of an append: of the current one since the append began;
 -- the other one isn't touched.
-pub record LeftByAppend {D : Type 0} (disks : Ghosts D) (old new : Log D) (current other : List ℕ) : Type 0 where
+pub record LeftByAppend {D : Type 0} (disks : Ghosts D) (old new : LogView D) (current other : List ℕ) : Type 0 where
   pub current_left : disks.left_since new.disk (disks.moment old.disk) current
   pub other_left : disks.may_leave old.other other
 
 -- Nothing of them is left to chance, where the append of these records began on a log that stood behind a state: after
 -- the log's records chain these, from the first on, or none; in front of the other file stands a record of the log that
 -- stood there, or none that chains.
-pub record AppendsWithoutChance {D : Type 0} (disks : Ghosts D) (log : Log D) (s : State) (group : List Record)
+pub record AppendsWithoutChance {D : Type 0} (disks : Ghosts D) (log : LogView D) (s : State) (group : List Record)
     (current other : List ℕ) : Type 0 where
   pub records : List Record
   pub backs : Backs records s
@@ -67,7 +67,7 @@ pub record AppendsWithoutChance {D : Type 0} (disks : Ghosts D) (log : Log D) (s
   pub calm : IsCalm stood other
 
 -- They stand for a state whose open records are those that were to be appended: the first so many stand in them.
-abbrev pub LeavesAppend : {D : Type 0} → Ghosts D → Log D → Log D → State → State → Type 0
+abbrev pub LeavesAppend : {D : Type 0} → Ghosts D → LogView D → LogView D → State → State → Type 0
 LeavesAppend disks old new s lost =
     (1 ≤ length lost.open_records)
     × ((current other : List ℕ) → LeftByAppend disks old new current other
@@ -76,13 +76,13 @@ LeavesAppend disks old new s lost =
 -- ---- a checkpoint
 
 -- the file that it wrote, which is the current one once the checkpoint is kept
-abbrev pub wrote : {D : Type 0} → Appending → Log D → D
+abbrev pub wrote : {D : Type 0} → Appending → LogView D → D
 wrote Kept log = log.disk
 wrote Refused log = log.other
 wrote Lost log = log.other
 
 -- The current file isn't touched: behind a checkpoint that is kept it is the other one, and else the current one still.
-abbrev pub LeavesCurrent : {D : Type 0} → Appending → Log D → Log D → Type 0
+abbrev pub LeavesCurrent : {D : Type 0} → Appending → LogView D → LogView D → Type 0
 LeavesCurrent Kept old new = (new.other ≡ old.disk) × (new.on_first ≡ not old.on_first)
 LeavesCurrent Refused old new = (new.disk ≡ old.disk) × (new.on_first ≡ old.on_first)
 LeavesCurrent Lost old new = (new.disk ≡ old.disk) × (new.on_first ≡ old.on_first)
@@ -90,7 +90,7 @@ LeavesCurrent Lost old new = (new.disk ≡ old.disk) × (new.on_first ≡ old.on
 -- Beside each image of the current file one of the other stands for the state: until the header of the file that is
 -- written is stable unless by chance a record stands in front of it that isn't the first of the log that stood there;
 -- from the seal on unless by chance one stands there that isn't the snapshot's first; and between them always.
-abbrev pub StandsBeside : {D : Type 0} → Ghosts D → Log D → List (List ℕ) → List (List ℕ) → State → List ℕ → Type 0
+abbrev pub StandsBeside : {D : Type 0} → Ghosts D → LogView D → List (List ℕ) → List (List ℕ) → State → List ℕ → Type 0
 StandsBeside disks log stood fresh s other =
     (current : List ℕ) → disks.may_leave log.disk current
     → (IsCalm stood other → StandFor log current other s)
@@ -100,7 +100,7 @@ StandsBeside disks log stood fresh s other =
 -- At each moment of it the two files stand for a state whose open record is the new boot's, which stands first in its
 -- snapshot: the snapshot is the log, or the old file still is. Of the file that is written that is said of each image
 -- since the checkpoint began; one since an earlier moment was left before it, or is such a one.
-pub record LeavesCheckpoint {D : Type 0} (disks : Ghosts D) (old : Log D) (a : Appending) (new : Log D)
+pub record LeavesCheckpoint {D : Type 0} (disks : Ghosts D) (old : LogView D) (a : Appending) (new : LogView D)
     (lost : State) : Type 0 where
   pub boot : ℕ
   pub opens : lost.open_records ≡ logged.Opened boot ∷ []
@@ -115,7 +115,7 @@ pub record LeavesCheckpoint {D : Type 0} (disks : Ghosts D) (old : Log D) (a : A
 
 -- What a restart leaves once it has looked at the log, by what became of the new boot's record; without one nothing
 -- more is done.
-abbrev pub LeavesBoot : {D : Type 0} → Ghosts D → Log D → Turn → Outcome → Log D → Type 0
+abbrev pub LeavesBoot : {D : Type 0} → Ghosts D → LogView D → Turn → Outcome → LogView D → Type 0
 LeavesBoot disks mid asked (Reread survived (Some a)) new =
     IsSomeAnd (taken asked (Reread survived (Some Lost))) (λ lost. LeavesCheckpoint disks mid a new lost.after)
 LeavesBoot disks mid asked (Reread survived None) new = new ≡ mid
@@ -130,7 +130,7 @@ checkpoints (Checkpoints appended after) = true
 checkpoints (Rereads failed found) = false
 checkpoints (Joins refused appended lost) = false
 
-abbrev pub LeavesWritten : {D : Type 0} → Ghosts D → Bool → Log D → Appending → Log D → State → State → Type 0
+abbrev pub LeavesWritten : {D : Type 0} → Ghosts D → Bool → LogView D → Appending → LogView D → State → State → Type 0
 LeavesWritten disks true old a new s lost = LeavesCheckpoint disks old a new lost
 LeavesWritten disks false old a new s lost = LeavesAppend disks old new s lost
 
@@ -140,7 +140,7 @@ LeavesWritten disks false old a new s lost = LeavesAppend disks old new s lost
 -- one of two phases: the look leads from the log before it to that log, and the checkpoint from there to the log behind
 -- it. So an image of the one file in the first never stands beside one of the other in the second. No call by itself
 -- joins the append of another.
-abbrev pub LeavesBy : {D : Type 0} → Ghosts D → Log D → Turn → Outcome → Log D → State → Type 0
+abbrev pub LeavesBy : {D : Type 0} → Ghosts D → LogView D → Turn → Outcome → LogView D → State → Type 0
 LeavesBy disks old asked Quiet new s = (new ≡ old) × LeavesNow disks old s
 LeavesBy disks old asked (Appended a) new s =
     IsSomeAnd (taken asked (Appended Lost))
@@ -148,7 +148,7 @@ LeavesBy disks old asked (Appended a) new s =
 LeavesBy disks old asked (Joined a) new s = ⊥
 LeavesBy disks old asked Failed new s = LeavesLook disks old new s
 LeavesBy {D} disks old asked (Reread survived appended) new s =
-    (mid : Log D) × LeavesLook disks old mid s × LeavesBoot disks mid asked (Reread survived appended) new
+    (mid : LogView D) × LeavesLook disks old mid s × LeavesBoot disks mid asked (Reread survived appended) new
 
 -- so it is of each state that the manager stood for
 abbrev pub CrashesAs : {D : Type 0} → Ghosts D → Manager D → Event → Outcome → Manager D → Type 0
@@ -158,7 +158,7 @@ CrashesAs disks m event outcome m' =
 
 -- What a crash leaves at any moment of an event that wanted memory: of a restart, which looked at the log at most, what
 -- the look leaves; of any other, what a crash before it leaves.
-abbrev pub LeavesWanting : {D : Type 0} → Ghosts D → Log D → Bool → Log D → State → Type 0
+abbrev pub LeavesWanting : {D : Type 0} → Ghosts D → LogView D → Bool → LogView D → State → Type 0
 LeavesWanting disks old true new s = LeavesLook disks old new s
 LeavesWanting disks old false new s = LeavesNow disks old s
 

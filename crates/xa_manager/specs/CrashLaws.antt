@@ -6,7 +6,7 @@ use Rattle.xa_record.specs.declared.record.Record.{Record}
 use Rattle.xa_log.specs.LogStates.{IsWithoutChance}
 use Rattle.xa_log.specs.Pair.{logged_pair}
 use Rattle.xa_log.specs.TwoFiles.{first_of, second_of}
-use Rattle.xa_log.specs.declared.log.Log.{Log}
+use Rattle.xa_log.specs.LogView.{LogView}
 use Rattle.xa_model.specs.State.{State}
 use Rattle.xa_model.specs.Durable.{Durable, durable}
 use Rattle.xa_model.specs.Fold.{fold}
@@ -21,7 +21,7 @@ use Rattle.xa_manager.specs.Files.{FilesStandFor}
 -- the state that the log itself is in: after the current file's records chain those that were lost, or none; in front
 -- of the other file stands the first record of the log that stood there, or of the one whose checkpoint was lost, or
 -- none that chains.
-pub record StandsWithoutChance {D : Type 0} (disks : Ghosts D) (log : Log D) (s : State)
+pub record StandsWithoutChance {D : Type 0} (disks : Ghosts D) (log : LogView D) (s : State)
     (first second : List ℕ) : Type 0 where
   pub stands : LogStandsFor disks log s
   pub plain : IsWithoutChance stands.state log.format
@@ -32,13 +32,13 @@ pub record StandsWithoutChance {D : Type 0} (disks : Ghosts D) (log : Log D) (s 
 -- what a read gives of the two files is a log of the state's records
 abbrev pub ReadLeaves : {D : Type 0} → Ghosts D → Type 0
 ReadLeaves {D} disks =
-    (log : Log D) (s : State) → Trusts disks → IsRecoverable s → LogStandsFor disks log s
+    (log : LogView D) (s : State) → Trusts disks → IsRecoverable s → LogStandsFor disks log s
     → FilesStandFor log.log_bytes (disks.seen (first_of log)) (disks.seen (second_of log)) s
 
 -- and so is what a crash leaves of them, where nothing is left to chance
 abbrev pub CrashLeaves : {D : Type 0} → Ghosts D → Type 0
 CrashLeaves {D} disks =
-    (log : Log D) (s : State) (first second : List ℕ) → IsRecoverable s
+    (log : LogView D) (s : State) (first second : List ℕ) → IsRecoverable s
     → disks.may_leave (first_of log) first → disks.may_leave (second_of log) second
     → StandsWithoutChance disks log s first second → FilesStandFor log.log_bytes first second s
 

@@ -2,7 +2,7 @@
 use Rattle.std.specs.Prelude.{◌≡◌, ◌≢◌, ℕ, List, Some, Result, Ok, Err}
 use Rattle.xa_disk.specs.declared.disk.Disk.{Ghosts}
 use Rattle.xa_log.specs.TwoFiles.{NoStray, first_of, second_of}
-use Rattle.xa_log.specs.declared.log.Log.{Log}
+use Rattle.xa_log.specs.LogView.{LogView}
 use Rattle.xa_model.specs.declared.outcome.Appending.{Appending}
 use Rattle.xa_model.specs.declared.outcome.Appending.TheVariants.{Kept}
 use Rattle.xa_model.specs.declared.outcome.Outcome.TheVariants.{Reread}
@@ -37,8 +37,8 @@ pub record LooksOver {D : Type 0} (disks : Ghosts D) (log_bytes : ℕ) (first fi
 -- log behind it. Whatever became of it, a crash in the second one leaves files that stand for the state in which the
 -- new boot's record is lost.
 pub record LeavesReopening {D : Type 0} (disks : Ghosts D) (first second : D) (s : State) (name : List ℕ)
-    (log_bytes : ℕ) (a : Appending) (after : Log D) : Type 0 where
-  pub log : Log D
+    (log_bytes : ℕ) (a : Appending) (after : LogView D) : Type 0 where
+  pub log : LogView D
   pub survived : ℕ
   pub look : LooksOver disks log_bytes first (first_of log) second (second_of log) s
   pub boot : LeavesBoot disks log (reopen_turn s name log_bytes) (Reread survived (Some a)) after
@@ -48,7 +48,7 @@ pub record LeavesReopening {D : Type 0} (disks : Ghosts D) (first second : D) (s
 abbrev pub LeavesUnopened : {D : Type 0} → Ghosts D → D → D → State → List ℕ → ℕ → ManagerFault → D → D → Type 0
 LeavesUnopened disks first second s name log_bytes fault.Setting first' second' = (first' ≡ first) × (second' ≡ second)
 LeavesUnopened {D} disks first second s name log_bytes fault.Device first' second' =
-    (a : Appending) × (after : Log D) × (a ≢ Kept) × LeavesReopening disks first second s name log_bytes a after
+    (a : Appending) × (after : LogView D) × (a ≢ Kept) × LeavesReopening disks first second s name log_bytes a after
     × (first' ≡ first_of after) × (second' ≡ second_of after)
 LeavesUnopened disks first second s name log_bytes _ first' second' =
     LooksOver disks log_bytes first first' second second' s

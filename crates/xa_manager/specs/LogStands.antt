@@ -9,7 +9,7 @@ use Rattle.xa_log.specs.Pair.{CalmTears}
 use Rattle.xa_log.specs.Checkpoint.{SealTears}
 use Rattle.xa_log.specs.LogStates.{LogState, Whole, LostAppend, LostCheckpoint, IsIn, MayFind}
 use Rattle.xa_log.specs.TwoFiles.{Pair}
-use Rattle.xa_log.specs.declared.log.Log.{Log}
+use Rattle.xa_log.specs.LogView.{LogView}
 use Rattle.xa_model.specs.State.{State}
 use Rattle.xa_model.specs.Durable.{durable}
 use Rattle.xa_model.specs.Fold.{snapshot}
@@ -25,7 +25,7 @@ pub record Trusts {D : Type 0} (disks : Ghosts D) : Type 0 where
   pub seals : SealTears disks.tears
 
 -- the current file has these records, and the other one comes behind it
-abbrev pub HasRecords : {D : Type 0} → Ghosts D → List Record → Log D → Type 0
+abbrev pub HasRecords : {D : Type 0} → Ghosts D → List Record → LogView D → Type 0
 HasRecords disks rs log = (stood : List (List ℕ)) × Pair disks (map spelled rs) stood log
 
 -- the bodies of a snapshot of what lasts of the state, that begins the boot of this number
@@ -46,7 +46,7 @@ AreLostAs (LostCheckpoint bodies fresh) lost = AllByRecursion (λ r. is_boot r �
 
 -- The log is in a state in which a look may find no others, whatever was lost. A restart that ran out of memory may have
 -- read the files, and so have settled the fates of the records that were lost.
-pub record LogStandsFor {D : Type 0} (disks : Ghosts D) (log : Log D) (s : State) : Type 0 where
+pub record LogStandsFor {D : Type 0} (disks : Ghosts D) (log : LogView D) (s : State) : Type 0 where
   pub records : List Record
   pub backs : Backs records s
   pub state : LogState

@@ -8,7 +8,7 @@ use Rattle.xa_log.specs.TwoFiles.{Pair, IsOpenPair}
 use Rattle.xa_log.specs.declared.fault.OpenFault.{OpenFault}
 use Rattle.xa_log.specs.declared.fault.OpenFault.TheVariants as log
 use Rattle.xa_log.specs.declared.format.TheConstants.{PREAMBLE_BYTES}
-use Rattle.xa_log.specs.declared.log.Log.{Log}
+use Rattle.xa_log.specs.LogView.{LogView}
 use Rattle.xa_limits.specs.declared.TheConstants.{FIRST_OFFSET, LEAST_LOG, MOST_BOOTS, MOST_INFO, MOST_LOG}
 use Rattle.xa_model.specs.declared.outcome.Outcome.TheVariants.{Quiet}
 use Rattle.xa_model.specs.State.{State}
@@ -29,13 +29,13 @@ abbrev pub IsBadSetting : List ℕ → ℕ → Type 0
 IsBadSetting name log_bytes = (MOST_INFO < length name) ⊎ (log_bytes < LEAST_LOG) ⊎ (MOST_LOG < log_bytes)
 
 -- the current file has these bodies, and the other one comes behind it
-abbrev pub HasBodies : {D : Type 0} → Ghosts D → List (List ℕ) → Log D → Type 0
+abbrev pub HasBodies : {D : Type 0} → Ghosts D → List (List ℕ) → LogView D → Type 0
 HasBodies disks bodies log = (stood : List (List ℕ)) × Pair disks bodies stood log
 
 -- The log that two files gave, with its bodies. One that was made has none, and the other file is empty. One that was
 -- opened has those that were read; what stands in the other file goes with the first checkpoint, so nothing is asked of
 -- it.
-abbrev pub IsFound : {D : Type 0} → Ghosts D → Bool → List (List ℕ) → Log D → Type 0
+abbrev pub IsFound : {D : Type 0} → Ghosts D → Bool → List (List ℕ) → LogView D → Type 0
 IsFound disks true bodies log = HasBodies disks bodies log
 IsFound disks false bodies log = IsOpenPair disks bodies (logged (disks.seen log.other)) log
 
@@ -72,7 +72,7 @@ pub record HasBegun {D : Type 0} (disks : Ghosts D) (bodies : List (List ℕ)) (
       → ManagerStandsFor disks m s
 
 -- the manager of these tables and this log, as a boot begins
-abbrev pub begun_manager : {D : Type 0} → Tables → Log D → Manager D
+abbrev pub begun_manager : {D : Type 0} → Tables → LogView D → Manager D
 begun_manager tables log = record { tables = tables; log = log; up = true; doubt = None; outcome = Quiet }
 
 -- A boot began with the bodies of two files: where the disks are honest, with those that a read gives.

@@ -10,7 +10,7 @@ use Rattle.xa_frame.specs.declared.request.Request.TheVariants as request
 use Rattle.xa_log.specs.Calls.{SettlesBy}
 use Rattle.xa_log.specs.Reading.{bodies_of}
 use Rattle.xa_log.specs.Written.{HasWritten, IsRange}
-use Rattle.xa_log.specs.declared.log.Log.{Log}
+use Rattle.xa_log.specs.LogView.{LogView}
 use Rattle.xa_record.specs.Spelling.{spelled}
 use Rattle.xa_model.specs.declared.event.Event.{Event}
 use Rattle.xa_model.specs.declared.outcome.Appending.{Appending}
@@ -48,7 +48,7 @@ work_by s n (request.Delete key) = put_by s key None (own_branch s n)
 work_by s n _ = ok s
 
 -- the manager as it would be had it written nothing
-abbrev pub with_log : {D : Type 0} → Log D → Manager D → Manager D
+abbrev pub with_log : {D : Type 0} → LogView D → Manager D → Manager D
 with_log log m = record m { log = log }
 
 -- The group has some calls, each with its row, of distinct XIDs, and its records stand where the manager's log ends.
@@ -73,7 +73,7 @@ WorksApartFrom _ f = Unit {0}
 
 -- A manager stands for a state with a pending group, whose records were written after those of this log: it stands for it
 -- with that log, and there the calls might be asked together, and append these records.
-pub record IsPendingFrom {D : Type 0} (disks : Ghosts D) (log : Log D) (m : Manager D) (f : PendingGroup) (s : State)
+pub record IsPendingFrom {D : Type 0} (disks : Ghosts D) (log : LogView D) (m : Manager D) (f : PendingGroup) (s : State)
     : Type 0 where
   pub stands : ManagerStandsFor disks (with_log log m) s
   pub up : m.up ≡ true
@@ -82,11 +82,11 @@ pub record IsPendingFrom {D : Type 0} (disks : Ghosts D) (log : Log D) (m : Mana
   pub bodies : map spelled (records_of (parts_of s (pending_members f))) ≡ bodies_of f.together.bodies.items
 
 abbrev pub IsPending : {D : Type 0} → Ghosts D → Manager D → PendingGroup → State → Type 0
-IsPending {D} disks m f s = (log : Log D) × IsPendingFrom disks log m f s
+IsPending {D} disks m f s = (log : LogView D) × IsPendingFrom disks log m f s
 
 -- The group's records were written after those of a log that is the manager's, but for its memory.
 pub record WritesGroup {D : Type 0} (disks : Ghosts D) (m : Manager D) (f : PendingGroup) (m' : Manager D) : Type 0 where
-  pub log : Log D
+  pub log : LogView D
   pub reserved : HasReserved disks m.log log
   pub written : HasWritten disks (bodies_of f.together.bodies.items) f.written log m'.log
 
@@ -97,23 +97,23 @@ lost_group s (c ∷ cs) = group_entries Lost (part_of s c) (parts_of s cs)
 
 -- What a crash at any moment since the write leaves stands for the state to which the group's calls lead where their
 -- records are lost.
-abbrev pub LeavesPending : {D : Type 0} → Ghosts D → Log D → Manager D → PendingGroup → State → Type 0
+abbrev pub LeavesPending : {D : Type 0} → Ghosts D → LogView D → Manager D → PendingGroup → State → Type 0
 LeavesPending disks log m f s =
     Trusts disks → (lost : State) × Leads s (lost_group s (pending_members f)) lost × LeavesAppend disks log m.log s lost
 
 -- A call of a session's work was answered meanwhile: as the step, or memory was wanted. The group stays pending.
 pub record WorksBeside {D : Type 0} (disks : Ghosts D) (m : Manager D) (f : PendingGroup) (event : Event) (reply : Reply)
     (m' : Manager D) : Type 0 where
-  pub answered : (log : Log D) (s : State) → IsPendingFrom disks log m f s
+  pub answered : (log : LogView D) (s : State) → IsPendingFrom disks log m f s
       → MatchBool (is_memory reply.detail) (IsPendingFrom disks log m' f s)
       (IsSomeAnd (step s (AskedOf event) Quiet) (λ a. (a.reply ≡ reply) × IsPendingFrom disks log m' f a.after))
   pub pinned : IsPinned event reply
   pub log : m'.log ≡ m.log
-  pub crash : (log : Log D) (s : State) → IsPendingFrom disks log m f s → LeavesPending disks log m' f s
+  pub crash : (log : LogView D) (s : State) → IsPendingFrom disks log m f s → LeavesPending disks log m' f s
 
 -- Calls were answered together, of a state, with this of their records, which were appended to this log: as
 -- TakesTogether.
-pub record FinishesFrom {D : Type 0} (disks : Ghosts D) (log : Log D) (s : State) (first : Member) (rest : List Member)
+pub record FinishesFrom {D : Type 0} (disks : Ghosts D) (log : LogView D) (s : State) (first : Member) (rest : List Member)
     (a : Appending) (m' : Manager D) : Type 0 where
   pub leads : (s' : State) × Leads s (group_entries a (part_of s first) (parts_of s rest)) s' × ManagerStandsFor disks m' s'
   pub called : HasCalled disks (Appended a) log m'.log
@@ -127,12 +127,12 @@ HasFinished disks m f [] m' = ⊥
 HasFinished {D} disks m f (r ∷ rs) m' =
     (first : Member) × (rest : List Member) × (a : Appending) × AreReplies f.calls.items a (first ∷ rest) (r ∷ rs)
     × SettlesBy f.written.write (as_appended a) (disks.failures m.log.disk) (disks.failures m'.log.disk)
-    × ((log : Log D) (s : State) → IsPendingFrom disks log m f s → FinishesFrom disks log s first rest a m')
+    × ((log : LogView D) (s : State) → IsPendingFrom disks log m f s → FinishesFrom disks log s first rest a m')
 
 -- ---- law
 
 -- so it is of each state for which a manager stands with a pending group
 abbrev pub PendingLeaves : {D : Type 0} → Ghosts D → Type 0
 PendingLeaves {D} disks =
-    (log : Log D) (m : Manager D) (f : PendingGroup) (s : State) → IsGroupOf m f → IsPendingFrom disks log m f s
+    (log : LogView D) (m : Manager D) (f : PendingGroup) (s : State) → IsGroupOf m f → IsPendingFrom disks log m f s
     → LeavesPending disks log m f s

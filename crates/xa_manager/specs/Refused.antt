@@ -13,7 +13,7 @@ use Rattle.xa_log.specs.TwoFiles.{Pair, AppendsTo, Checkpoints, written, first_o
 use Rattle.xa_log.specs.declared.appending.Appended.{Appended}
 use Rattle.xa_log.specs.declared.appending.Appended.TheVariants.{Kept, Refused, Lost, Full}
 use Rattle.xa_log.specs.declared.format.TheConstants.{PREAMBLE_BYTES}
-use Rattle.xa_log.specs.declared.log.Log.{Log}
+use Rattle.xa_log.specs.LogView.{LogView}
 use Rattle.xa_model.specs.Durable.{Durable}
 use Rattle.xa_model.specs.Fold.{snapshot}
 use Rattle.xa_manager.specs.declared.fault.ManagerFault.{ManagerFault}
@@ -45,7 +45,7 @@ LeavesFinding disks first first' second second' =
 -- The append of the only one, to a log that was made: the other file isn't touched, and at each moment the current one
 -- has without chance this record or none.
 pub record AppendsFirst {D : Type 0} (disks : Ghosts D) (a : Appended) (fresh : List (List ℕ))
-    (old new : Log D) : Type 0 where
+    (old new : LogView D) : Type 0 where
   pub on_first : new.on_first ≡ old.on_first
   pub other : new.other ≡ old.other
   pub body : List ℕ
@@ -55,7 +55,7 @@ pub record AppendsFirst {D : Type 0} (disks : Ghosts D) (a : Appended) (fresh : 
       × LeavesOnly disks old.disk new.disk (Leaves old.log_bytes old.format [] (body ∷ []))
 
 -- the file that was the current one isn't touched by a checkpoint
-abbrev pub KeepsCurrent : {D : Type 0} → Appended → Log D → Log D → Type 0
+abbrev pub KeepsCurrent : {D : Type 0} → Appended → LogView D → LogView D → Type 0
 KeepsCurrent Kept old new = (new.other ≡ old.disk) × (new.on_first ≡ not old.on_first)
 KeepsCurrent Refused old new = (new.disk ≡ old.disk) × (new.on_first ≡ old.on_first)
 KeepsCurrent Lost old new = (new.disk ≡ old.disk) × (new.on_first ≡ old.on_first)
@@ -63,20 +63,20 @@ KeepsCurrent Full old new = (new.disk ≡ old.disk) × (new.on_first ≡ old.on_
 
 -- A checkpoint of them: at each moment the file that it writes is what a checkpoint leaves.
 pub record SnapshotsFirst {D : Type 0} (disks : Ghosts D) (a : Appended) (fresh : List (List ℕ))
-    (old new : Log D) : Type 0 where
+    (old new : LogView D) : Type 0 where
   pub current : KeepsCurrent a old new
   pub log_bytes : new.log_bytes ≡ old.log_bytes
   pub left : disks.honest → (bodies stood : List (List ℕ)) → Pair disks bodies stood old
       → Checkpoints disks a bodies stood fresh new
       × LeavesOnly disks old.other (written a new) (LeavesAny old.log_bytes newest stood fresh)
 
-abbrev pub LogsFirst : {D : Type 0} → Ghosts D → Bool → Appended → List (List ℕ) → Log D → Log D → Type 0
+abbrev pub LogsFirst : {D : Type 0} → Ghosts D → Bool → Appended → List (List ℕ) → LogView D → LogView D → Type 0
 LogsFirst disks is_new a fresh old new =
     ((is_new ≡ true) × AppendsFirst disks a fresh old new) ⊎ SnapshotsFirst disks a fresh old new
 
 -- They are the snapshot of what the log's bodies come to, which leaves the room that is kept free.
 pub record LogsBoot {D : Type 0} (disks : Ghosts D) (is_new : Bool) (bodies : List (List ℕ)) (log_bytes : ℕ)
-    (a : Appended) (old new : Log D) : Type 0 where
+    (a : Appended) (old new : LogView D) : Type 0 where
   pub durable : Durable
   pub comes : ComeTo bodies durable
   pub boots : durable.boot < MOST_BOOTS
@@ -84,7 +84,7 @@ pub record LogsBoot {D : Type 0} (disks : Ghosts D) (is_new : Bool) (bodies : Li
   pub logs : LogsFirst disks is_new a (map spelled (snapshot durable (durable.boot + 1))) old new
 
 -- what a boot that didn't begin leaves of its log: there are no device calls but those that log its first records
-abbrev pub LeavesBegin : {D : Type 0} → Ghosts D → ManagerFault → Bool → List (List ℕ) → ℕ → Log D → Log D → Type 0
+abbrev pub LeavesBegin : {D : Type 0} → Ghosts D → ManagerFault → Bool → List (List ℕ) → ℕ → LogView D → LogView D → Type 0
 LeavesBegin disks fault.Device is_new bodies log_bytes old new =
     (a : Appended) × (a ≢ Kept) × LogsBoot disks is_new bodies log_bytes a old new
 LeavesBegin disks _ is_new bodies log_bytes old new = new ≡ old
@@ -94,10 +94,10 @@ LeavesBegin disks _ is_new bodies log_bytes old new = new ≡ old
 -- An opening that came to log its first records. The log in the middle is the one that was found: until it was, the
 -- disks are left as by looking for one, and from there on as by logging the first records.
 pub record LeavesLogging {D : Type 0} (disks : Ghosts D) (log_bytes : ℕ) (first second : D) (a : Appended)
-    (after : Log D) : Type 0 where
+    (after : LogView D) : Type 0 where
   pub is_new : Bool
   pub bodies : List (List ℕ)
-  pub log : Log D
+  pub log : LogView D
   pub finding : disks.honest → LeavesFinding disks first (first_of log) second (second_of log)
   pub read : disks.honest → logged_pair (disks.seen first) (disks.seen second) ≡ bodies
   pub found : disks.honest → IsFound disks is_new bodies log
@@ -110,7 +110,7 @@ pub record LeavesLogging {D : Type 0} (disks : Ghosts D) (log_bytes : ℕ) (firs
 abbrev pub LeavesRefused : {D : Type 0} → Ghosts D → ManagerFault → ℕ → D → D → D → D → Type 0
 LeavesRefused disks fault.Setting log_bytes first first' second second' = (first' ≡ first) × (second' ≡ second)
 LeavesRefused {D} disks fault.Device log_bytes first first' second second' =
-    (a : Appended) × (after : Log D) × (a ≢ Kept) × LeavesLogging disks log_bytes first second a after
+    (a : Appended) × (after : LogView D) × (a ≢ Kept) × LeavesLogging disks log_bytes first second a after
     × (first' ≡ first_of after) × (second' ≡ second_of after)
 LeavesRefused disks _ log_bytes first first' second second' =
     disks.honest → LeavesFinding disks first first' second second'

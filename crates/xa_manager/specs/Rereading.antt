@@ -7,7 +7,7 @@ use Rattle.xa_record.specs.Spelling.{spelled}
 use Rattle.xa_record.specs.declared.record.Record.{Record}
 use Rattle.xa_log.specs.Buffer.{HoldsEach}
 use Rattle.xa_log.specs.Chain.{newest}
-use Rattle.xa_log.specs.declared.log.Log.{Log}
+use Rattle.xa_log.specs.LogView.{LogView}
 use Rattle.xa_model.specs.State.{State}
 use Rattle.xa_model.specs.Durable.{Durable}
 use Rattle.xa_model.specs.Fold.{snapshot}
@@ -33,7 +33,7 @@ IsFate k s t = survived s k ≡ Some t
 
 -- The log was read again: it has these bodies, and its records stand behind the state whose last records' fates are
 -- known. They are those that stood behind the state before, and the first so many of those that were lost.
-pub record Found {D : Type 0} (disks : Ghosts D) (bodies : List (List ℕ)) (log : Log D) (s : State) : Type 0 where
+pub record Found {D : Type 0} (disks : Ghosts D) (bodies : List (List ℕ)) (log : LogView D) (s : State) : Type 0 where
   pub state : State
   pub many : ℕ
   pub fate : IsFate many s state
@@ -54,7 +54,7 @@ IsCounted (Some (Boot boot)) counted many = Unit {0}
 IsCounted (Some (LastRecord end)) counted many = counted ≡ many
 
 -- The log that was read again goes on where it ended before, in a file of the newest format.
-pub record GoesOn {D : Type 0} (old new : Log D) : Type 0 where
+pub record GoesOn {D : Type 0} (old new : LogView D) : Type 0 where
   pub end : new.end ≡ old.end
   pub modern : new.format ≡ newest
 
@@ -84,6 +84,6 @@ Plans moment bodies (Ok p) =
 Plans moment bodies (Err e) = LogRebuilt bodies (Err e)
 
 -- the log's buffer has room for the records that the next boot begins with
-abbrev pub HoldsNext : {D : Type 0} → Log D → Option NextBoot → Type 0
+abbrev pub HoldsNext : {D : Type 0} → LogView D → Option NextBoot → Type 0
 HoldsNext log None = Unit {0}
 HoldsNext log (Some next) = HoldsEach log next.bodies.items

@@ -14,7 +14,7 @@ use Rattle.xa_log.specs.Group.{as_one}
 use Rattle.xa_log.specs.Stands.{Stands, Leaves, Moves}
 use Rattle.xa_log.specs.TwoFiles.{Pair, AppendsTo}
 use Rattle.xa_log.specs.Written.{HasWritten}
-use Rattle.xa_log.specs.declared.log.Log.{Log}
+use Rattle.xa_log.specs.LogView.{LogView}
 use Rattle.xa_log.specs.declared.written.Written.{Written}
 use Rattle.xa_limits.specs.declared.TheConstants.{AROUND_CLOSED}
 use Rattle.xa_model.specs.declared.outcome.Outcome.{Outcome}
@@ -42,7 +42,7 @@ use Rattle.xa_manager.specs.Stands.{TablesStandFor}
 
 -- what an append of a group's bodies leaves of the log, by the device's answer
 pub record HasAppended {D : Type 0} (disks : Ghosts D) (group : List (List ℕ)) (a : Appending)
-    (log log' : Log D) : Type 0 where
+    (log log' : LogView D) : Type 0 where
   pub log_bytes : log'.log_bytes ≡ log.log_bytes
   pub other : (log'.other ≡ log.other) × (log'.on_first ≡ log.on_first)
   pub moves : Moves (as_appended a) (as_one group) log log'
@@ -76,7 +76,7 @@ pub record HasJournaled {D : Type 0} (disks : Ghosts D) (group : List (List ℕ)
 
 -- A group that was written was settled: so much was appended to the log that it was written to.
 pub record HasSettled {D : Type 0} (disks : Ghosts D) (w : Written) (a : Appending) (m m' : Manager D) : Type 0 where
-  pub appended : (log : Log D) (group : List (List ℕ)) → HasWritten disks group w log m.log
+  pub appended : (log : LogView D) (group : List (List ℕ)) → HasWritten disks group w log m.log
       → HasAppended disks group a log m'.log
   pub fails : SettlesBy w.write (as_appended a) (disks.failures m.log.disk) (disks.failures m'.log.disk)
   pub up : m.up ≡ true → m'.up ≡ up_after a

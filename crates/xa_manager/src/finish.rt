@@ -1,6 +1,6 @@
 //! How a pending group is finished: its calls are answered by the sync's answer.
 ghost use Rattle.std.specs.Prelude.{◌≡◌, IfErr, IfOk, OnErr};
-ghost use Rattle.xa_log.specs.declared.log.Log.{Log};
+ghost use Rattle.xa_log.specs.LogView.{LogView};
 ghost use Rattle.xa_model.specs.State.{State};
 ghost use Rattle.xa_manager.specs.Connected.{connected_to};
 ghost use Rattle.xa_manager.specs.Pending.{IsPendingFrom, HasFinished, IsGroupOf};
@@ -26,7 +26,7 @@ impl<D: Disk> Manager<D> {
         requires { IsGroupOf self.old group }
         ensures ok { IfOk result (λ r. HasFinished D.Disk self.old group r.0.items self.new × (r.1 ≡ group.calls)) }
         ensures once { IfOk result (λ r. AreOnce r.0.items) }
-        ensures err { IfErr result (λ r. (r.0 ≡ group) × ((log : Log D) (s : State)
+        ensures err { IfErr result (λ r. (r.0 ≡ group) × ((log : LogView D) (s : State)
             → IsPendingFrom D.Disk log self.old group s → IsPendingFrom D.Disk log self.new group s)) }
         ensures group { IfErr result (λ r. IsGroupOf self.new group) }
         ensures log { OnErr result (self.new.log ≡ self.old.log) }

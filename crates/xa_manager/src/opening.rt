@@ -1,6 +1,7 @@
 ghost use Rattle.std.specs.Prelude.{ℕ, ◌≡◌, ◌≤◌, ◌<◌, ◌⊎◌, ◌↔◌, Bool, true, [], IfOk, IfErr, OnOk, IsErrOf, IsErrAnd, IsSomeAnd, Some, None, length};
 ghost use Rattle.xa_limits.specs.declared.TheConstants.{MOST_LOG};
 ghost use Rattle.xa_log.specs.Chain.{newest};
+ghost use Rattle.xa_log.specs.LogView.{LogView};
 ghost use Rattle.xa_log.specs.Opened.{IsOpened};
 ghost use Rattle.xa_log.specs.Pair.{generation, pair_fault, logged_pair};
 ghost use Rattle.xa_log.specs.Reading.{Ends, bodies_of};
@@ -137,7 +138,7 @@ fn begin<D: Disk + Drop>(
     ensures refused { IfErr result (λ r. BootRefused r.fault (bodies_of bodies.items) log_bytes) }
     ensures logs { IfOk result (λ m. LogsBoot D.Disk is_new (bodies_of bodies.items) log_bytes Appended.Kept log m.log) }
     ensures leaves { IfErr result
-        (λ r. (after : Log D) × LeavesBegin D.Disk r.fault is_new (bodies_of bodies.items) log_bytes log after
+        (λ r. (after : LogView D) × LeavesBegin D.Disk r.fault is_new (bodies_of bodies.items) log_bytes log after
         × (r.first ≡ first_of after) × (r.second ≡ second_of after)) }
 {
     match begin_on(alloc, &mut log, bodies, is_new, name, log_bytes) {

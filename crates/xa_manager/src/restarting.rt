@@ -10,7 +10,7 @@ ghost use Rattle.xa_log.specs.Chain.{IsBody, newest};
 ghost use Rattle.xa_log.specs.Group.{group_bytes};
 ghost use Rattle.xa_log.specs.Pair.{generation};
 ghost use Rattle.xa_log.specs.Reading.{bodies_of};
-ghost use Rattle.xa_log.specs.declared.log.Log.{Log};
+ghost use Rattle.xa_log.specs.LogView.{LogView};
 ghost use Rattle.xa_log.specs.TwoFiles.{first_of, second_of};
 ghost use Rattle.mv_rules.specs.Within.{IsWithin, HasKeys};
 ghost use Rattle.xa_limits.specs.declared.TheConstants.{MOST_BOOTS, MOST_VALUE};
@@ -163,7 +163,7 @@ impl<D: Disk> Manager<D> {
             → IsReady (durable t) (t.logged_boot + 1) self.old.tables.branches.moment next
             → LeavesBoot D.Disk self.old.log (restart_turn s) result.outcome self.new.log }
         ensures outcome { self.new.outcome ≡ self.old.outcome }
-        ensures called { self.old.log.lost ≡ false → (log : Log D) → NoneRises D.failures log self.old.log
+        ensures called { self.old.log.lost ≡ false → (log : LogView D) → NoneRises D.failures log self.old.log
             → HasCalled D.Disk result.outcome log self.new.log }
         ensures served { is_memory result.reply.detail ≡ false }
         ensures company { connected_to self.new ≡ connected_to self.old }
@@ -216,7 +216,7 @@ impl<D: Disk> Manager<D> {
             → LogRebuilt bodies (Ok planned.durable.value)
             → LeavesBoot D.Disk self.old.log (restart_turn s) result.outcome self.new.log }
         ensures outcome { self.new.outcome ≡ self.old.outcome }
-        ensures called { self.old.log.lost ≡ false → (log : Log D) → NoneRises D.failures log self.old.log
+        ensures called { self.old.log.lost ≡ false → (log : LogView D) → NoneRises D.failures log self.old.log
             → HasCalled D.Disk result.outcome log self.new.log }
         ensures served { is_memory result.reply.detail ≡ false }
         ensures company { connected_to self.new ≡ connected_to self.old }

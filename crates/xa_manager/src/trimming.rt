@@ -4,7 +4,7 @@ ghost use Rattle.xa_record.specs.declared.record.Record.{Record};
 ghost use Rattle.xa_log.specs.Buffer.{HoldsEach};
 ghost use Rattle.xa_log.specs.Chain.{IsBody, newest};
 ghost use Rattle.xa_log.specs.Pair.{generation};
-ghost use Rattle.xa_log.specs.declared.log.Log.{Log};
+ghost use Rattle.xa_log.specs.LogView.{LogView};
 ghost use Rattle.xa_model.specs.Invariants.Backing.{Backs};
 ghost use Rattle.xa_model.specs.Restarting.{can_open};
 ghost use Rattle.xa_model.specs.State.{State};
@@ -100,11 +100,11 @@ impl<D: Disk> Manager<D> {
             → bodies.now ≡ snapshot_bodies s (s.logged_boot + 1)
             → AnswersAs D.Disk (taken (trim_turn s) result.outcome) result.reply self.new }
         // Both of a log whose buffer alone was another.
-        ensures leaves { (log : Log D) (s : State) (rs : List Record) → HasReserved D.Disk log self.old.log
+        ensures leaves { (log : LogView D) (s : State) (rs : List Record) → HasReserved D.Disk log self.old.log
             → ManagerStandsFor D.Disk self.old s → Trusts D.Disk → Backs rs s → HasRecords D.Disk rs log
             → trim_refusal s ≡ None → bodies.now ≡ snapshot_bodies s (s.logged_boot + 1)
             → LeavesBy D.Disk log (trim_turn s) result.outcome self.new.log s }
-        ensures called { (log : Log D) (s : State) (rs : List Record) → HasReserved D.Disk log self.old.log
+        ensures called { (log : LogView D) (s : State) (rs : List Record) → HasReserved D.Disk log self.old.log
             → ManagerStandsFor D.Disk self.old s → Trusts D.Disk → Backs rs s
             → bodies.now ≡ snapshot_bodies s (s.logged_boot + 1)
             → HasCalledToTrim D.Disk result.outcome log self.new.log }

@@ -8,7 +8,7 @@ use Rattle.xa_disk.specs.declared.plan.Effect.{Effect}
 use Rattle.xa_disk.specs.declared.plan.Effect.TheVariants as planned
 use Rattle.xa_log.specs.Planned.{CrashesBoth, Plans, PlansStop}
 use Rattle.xa_log.specs.TwoFiles.{first_of, second_of}
-use Rattle.xa_log.specs.declared.log.Log.{Log}
+use Rattle.xa_log.specs.LogView.{LogView}
 use Rattle.xa_model.specs.declared.event.Event.{Event}
 use Rattle.xa_model.specs.declared.outcome.Outcome.TheVariants.{Reread}
 use Rattle.xa_model.specs.declared.outcome.Appending.TheVariants.{Kept}
@@ -90,12 +90,12 @@ OpenedOn name log_bytes first second m =
 
 -- The two disks after a crash. Of the file that the line names, so many bytes stay of those that were written since its
 -- last sync; of the other one none.
-abbrev pub CrashesTo : LogFile → ℕ → Log MemDisk → MemDisk × MemDisk → Type 0
+abbrev pub CrashesTo : LogFile → ℕ → LogView MemDisk → MemDisk × MemDisk → Type 0
 CrashesTo Current keeps log disks = CrashesBoth keeps 0 log disks
 CrashesTo Other keeps log disks = CrashesBoth 0 keeps log disks
 
 -- these are the disks that such a crash leaves of a log that stands behind the state
 pub record CrashLeaves (s : State) (file : LogFile) (keeps : ℕ) (disks : MemDisk × MemDisk) : Type 0 where
-  pub log : Log MemDisk
+  pub log : LogView MemDisk
   pub stands : LogStandsFor mem_disks log s
   pub left : CrashesTo file keeps log disks

@@ -9,7 +9,7 @@ use Rattle.xa_frame.specs.Limits.{IsReply}
 use Rattle.xa_frame.specs.declared.reply.Reply.{Reply}
 use Rattle.xa_frame.specs.declared.request.Request.{Request}
 use Rattle.xa_frame.specs.declared.request.Request.TheVariants.{Open, Close, Start, End, Prepare, Commit, Rollback, Forget, Recover, Get, Put, Delete, Decide, Doom, Restart, Timeout, Tick, Trim, Branches}
-use Rattle.xa_log.specs.declared.log.Log.{Log}
+use Rattle.xa_log.specs.LogView.{LogView}
 use Rattle.xa_xid.specs.Triple.{Triple}
 use Rattle.xa_model.specs.Answer.{detailed}
 use Rattle.xa_model.specs.Events.{asks_trim, is_trim}

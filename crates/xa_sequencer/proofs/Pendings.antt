@@ -9,7 +9,7 @@ use Rattle.xa_disk.specs.declared.disk.Disk as disk
 use Rattle.xa_disk.specs.declared.disk.DiskFault.{DiskFault}
 use Rattle.xa_frame.specs.declared.reply.Reply.{Reply}
 use Rattle.xa_log.specs.Calls.{SettlesBy, WritesAhead}
-use Rattle.xa_log.specs.declared.log.Log.{Log}
+use Rattle.xa_log.specs.LogView.{LogView}
 use Rattle.xa_manager.specs.Answered.{FullyAnswered, HasCalled, StaysFor, as_appended}
 use Rattle.xa_manager.specs.Counted.{RiseBy, counted_by, failures_in, failures_of_append}
 use Rattle.xa_manager.specs.LogStands.{Trusts}
@@ -96,7 +96,7 @@ module _ {D : Type 0} (disks : disk.Ghosts D) where
   abbrev F : D → ℕ
   F = disks.failures
 
-  sides : (log : Log D) → counted_by F log ≡ (if log.on_first then F log.disk else F log.other, if log.on_first then F log.other else F log.disk)
+  sides : (log : LogView D) → counted_by F log ≡ (if log.on_first then F log.disk else F log.other, if log.on_first then F log.other else F log.disk)
   sides log = λ i. (either F log.on_first log.disk log.other i, either F log.on_first log.other log.disk i)
 
   wrote_rises : (m m' : Manager D) (f : PendingGroup) → WritesGroup disks m f m' → RiseBy 0 (counted_by F m.log) (counted_before F f m'.log)
@@ -111,7 +111,7 @@ module _ {D : Type 0} (disks : disk.Ghosts D) where
       = λ i. if h.other.1 i then (before_write f.written.write (F m'.log.disk), F (h.other.0 i)) else (F (h.other.0 i), before_write f.written.write (F m'.log.disk)) in
       rise_both 0 0 (counted_by F m.log) (counted_by F log) (counted_before F f m'.log) first (subst (λ (x : ℕ × ℕ). RiseBy 0 (counted_by F log) x) (sym same) then_)
 
-  finished_rises : (m m' : Manager D) (f : PendingGroup) (a : Appending) (log : Log D) (s : State) → IsPendingFrom disks log m f s → HasCalled disks (Appended a) log m'.log
+  finished_rises : (m m' : Manager D) (f : PendingGroup) (a : Appending) (log : LogView D) (s : State) → IsPendingFrom disks log m f s → HasCalled disks (Appended a) log m'.log
       → SettlesBy f.written.write (as_appended a) (F m.log.disk) (F m'.log.disk) → RiseBy (failures_of_append a) (counted_before F f m.log) (counted_by F m'.log)
   finished_rises m m' f a log s fl called fails =
       let h = fl.written in
@@ -149,10 +149,10 @@ module _ {D : Type 0} (disks : disk.Ghosts D) where
 
   module _ (m m' : Manager D) (f : PendingGroup) (event : Event) (reply : Reply) (w : WorksBeside disks m f event reply m') where
     same_counts : RiseBy 0 (counted_before F f m.log) (counted_before F f m'.log)
-    same_counts = subst (λ (l : Log D). RiseBy 0 (counted_before F f m.log) (counted_before F f l)) (sym w.log) (rise_none (counted_before F f m.log))
+    same_counts = subst (λ (l : LogView D). RiseBy 0 (counted_before F f m.log) (counted_before F f l)) (sym w.log) (rise_none (counted_before F f m.log))
 
     stays_by : (b : Bool)
-        → ((log : Log D) (s : State) → IsPendingFrom disks log m f s → MatchBool b (IsPendingFrom disks log m' f s)
+        → ((log : LogView D) (s : State) → IsPendingFrom disks log m f s → MatchBool b (IsPendingFrom disks log m' f s)
         (IsSomeAnd (step s (turn.Asked event) Quiet) (λ a. (a.reply ≡ reply) × IsPendingFrom disks log m' f a.after)))
         → MatchBool b ((s : State) → IsPending disks m f s → IsPending disks m' f s)
         ((s : State) → IsPending disks m f s → Trusts disks ⊎ (begins_boot event ≡ false)
@@ -200,11 +200,11 @@ module _ {D : Type 0} (disks : disk.Ghosts D) where
         },
       )
 
-  pub not_finished : (m m' : Manager D) (f : PendingGroup) → ((log : Log D) (s : State) → IsPendingFrom disks log m f s → IsPendingFrom disks log m' f s) → m'.log ≡ m.log
+  pub not_finished : (m m' : Manager D) (f : PendingGroup) → ((log : LogView D) (s : State) → IsPendingFrom disks log m f s → IsPendingFrom disks log m' f s) → m'.log ≡ m.log
       → RestsAs (manages_of disks) (gr m (Some f)) (gr m' (Some f))
   not_finished m m' f stays same = record {
     stays = λ s st. (st.0, stays st.0 s st.1);
-    counted = subst (λ (l : Log D). RiseBy 0 (counted_before F f m.log) (counted_before F f l)) (sym same) (rise_none (counted_before F f m.log));
+    counted = subst (λ (l : LogView D). RiseBy 0 (counted_before F f m.log) (counted_before F f l)) (sym same) (rise_none (counted_before F f m.log));
   }
 
   -- ---- the same, of a manager that has it pending
@@ -220,7 +220,7 @@ module _ {D : Type 0} (disks : disk.Ghosts D) where
       at g.pending (Some f) p' None (λ x y. AnswersAs (manages_of disks) (gr g.manager x) calls replies (gr m' y)) is none
       (subst (λ (l : List Asked). AnswersAs (manages_of disks) (gr g.manager (Some f)) l replies (gr m' None)) (sym same) (answered_group g.manager m' f replies h))
 
-  pub unfinished : (g : GroupManager D) (m' : Manager D) (f f' : PendingGroup) → g.pending ≡ Some f → f' ≡ f → ((log : Log D) (s : State) → IsPendingFrom disks log g.manager f s → IsPendingFrom disks log m' f s) → m'.log ≡ g.manager.log
+  pub unfinished : (g : GroupManager D) (m' : Manager D) (f f' : PendingGroup) → g.pending ≡ Some f → f' ≡ f → ((log : LogView D) (s : State) → IsPendingFrom disks log g.manager f s → IsPendingFrom disks log m' f s) → m'.log ≡ g.manager.log
       → RestsAs (manages_of disks) g (gr m' (Some f'))
   unfinished g m' f f' is same stays log =
       at g.pending (Some f) (Some f') (Some f) (λ x y. RestsAs (manages_of disks) (gr g.manager x) (gr m' y)) is (ap Some same) (not_finished g.manager m' f stays log)

@@ -3,7 +3,7 @@ use Rattle.std.specs.Prelude.{ℕ, ◌≡◌, ◌-◌, ◌==◌, if◌then◌els
 use Rattle.xa_disk.specs.Counts.{top}
 use Rattle.xa_disk.specs.declared.disk.Disk as disk
 use Rattle.xa_disk.specs.declared.disk.DiskFault.{DiskFault}
-use Rattle.xa_log.specs.declared.log.Log.{Log}
+use Rattle.xa_log.specs.LogView.{LogView}
 use Rattle.xa_manager.specs.Answered.{HasCalled, HasCalledFor}
 use Rattle.xa_manager.specs.Connected.{connected_to}
 use Rattle.xa_manager.specs.Counted.{counted_by}
@@ -60,21 +60,21 @@ abbrev pub HasCalledWith : {D : Type 0} → disk.Ghosts D → Event → Outcome 
 HasCalledWith disks event outcome m None m' p = HasCalledFor disks (is_trim event) outcome m.log m'.log
 HasCalledWith disks event outcome m (Some f) m' (Some f') = m'.log ≡ m.log
 HasCalledWith {D} disks event outcome m (Some f) m' None =
-    (log : Log D) (s : State) → IsPendingFrom disks log m f s → HasCalled disks outcome log m'.log
+    (log : LogView D) (s : State) → IsPendingFrom disks log m f s → HasCalled disks outcome log m'.log
 
 -- what a crash at any moment of an event leaves
 abbrev pub CrashesWith : {D : Type 0} → disk.Ghosts D → Event → Outcome → Manager D → Option PendingGroup → Manager D
     → Type 0
 CrashesWith disks event outcome m None m' = CrashesAs disks m event outcome m'
 CrashesWith {D} disks event outcome m (Some f) m' =
-    (log : Log D) (s : State) → IsPendingFrom disks log m f s → LeavesPending disks log m' f s
+    (log : LogView D) (s : State) → IsPendingFrom disks log m f s → LeavesPending disks log m' f s
 
 -- what one leaves at any moment of calls that are answered together: for a pending group, since its records were written
 abbrev pub CrashesTogetherWith : {D : Type 0} → disk.Ghosts D → List Event → Manager D → Option PendingGroup → Manager D
     → Type 0
 CrashesTogetherWith disks events m None m' = CrashesTogether disks events m m'
 CrashesTogetherWith {D} disks events m (Some f) m' =
-    (log : Log D) (s : State) → IsPendingFrom disks log m f s → Trusts disks
+    (log : LogView D) (s : State) → IsPendingFrom disks log m f s → Trusts disks
     → (lost : State) × Leads s (lost_entries events) lost × LeavesAppend disks log m'.log s lost
 
 -- How many calls of a disk had failed before a write, by its answer and by how many have after it. At its top a count
@@ -84,7 +84,7 @@ before_write (Ok _) n = n
 before_write (Err _) n = if n == top then top else n - 1
 
 -- how many calls of a log's two disks had failed before a group was written to it
-abbrev pub counted_before : {D : Type 0} → (D → ℕ) → PendingGroup → Log D → ℕ × ℕ
+abbrev pub counted_before : {D : Type 0} → (D → ℕ) → PendingGroup → LogView D → ℕ × ℕ
 counted_before failures f log =
     if log.on_first
     then (before_write f.written.write (failures log.disk), failures log.other)

@@ -1,6 +1,6 @@
 use Rattle.std.proofs.Common.{◌≡◌, List, map, refl, sym, subst}
 use Rattle.xa_log.specs.Calls.{SettlesBy}
-use Rattle.xa_log.specs.declared.log.Log.{Log}
+use Rattle.xa_log.specs.LogView.{LogView}
 use Rattle.xa_xid.specs.Triple.{Triple}
 use Rattle.xa_manager.specs.Answered.{as_appended}
 use Rattle.xa_manager.specs.declared.together.Joining.{Joining}
@@ -32,7 +32,7 @@ returns-clause-ok g c =
     subst (λ (xids : List Triple). MakeRooms m.tables xids c.make_rooms.new.self) c.deref.ensures.value c.in-Ok-make_rooms.ensures.ok in (
       has_finished g.D.Disk m c.give_low_water.new.self f a c.tell.new.replies.items c.requires
           (subst (λ (l : List Joining). c.tell.new.replies.items ≡ map (told a) l) c.deref-2.ensures.value c.tell.ensures)
-          (subst (λ (l : Log _). SettlesBy f.written.write (as_appended a) (g.D.Disk.failures m.log.disk) (g.D.Disk.failures l.disk)) (sym c.give_low_water.ensures.log) c.settle-became.ensures.fails)
+          (subst (λ (l : LogView _). SettlesBy f.written.write (as_appended a) (g.D.Disk.failures m.log.disk) (g.D.Disk.failures l.disk)) (sym c.give_low_water.ensures.log) c.settle-became.ensures.fails)
           (λ log s fl first rest are. finishes_still g.D.Disk log s first rest a m' c.give_low_water.new.self c.give_low_water.ensures.stays c.give_low_water.ensures.log
           (finished g.D.Disk m mid mid' m' f a c.requires refl refl made c.settle-became.ensures refl refl refl c.take_together.ensures.took c.take_together.ensures.gave log s fl first rest are)),
       refl,
