@@ -28,7 +28,8 @@ use Rattle.xa_manager.specs.declared.manager.Manager.{Manager}
 use Rattle.xa_manager.specs.declared.together.Asked as asked
 use Rattle.xa_manager.specs.declared.together.Joining.{Joining}
 use Rattle.xa_manager.specs.Answered.{may_want, memory_code}
-use Rattle.xa_manager.specs.Pending.{IsPendingFrom, IsGroupOf, WorksApartFrom, WorksBeside, pending_members, with_log, work_by}
+use Rattle.xa_manager.specs.Parts.{with_log}
+use Rattle.xa_manager.specs.Pending.{IsPendingFrom, IsGroupOf, WorksApartFrom, WorksBeside, pending_members, work_by}
 use Rattle.xa_manager.specs.GroupAnswers.{AreTogether}
 use Rattle.xa_manager.specs.Managed.{ManagerStandsFor, view}
 use Rattle.xa_manager.specs.Stands.{Follows, Stays}

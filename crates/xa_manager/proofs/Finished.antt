@@ -17,7 +17,8 @@ use Rattle.xa_manager.specs.declared.together.Joining.{Joining}
 use Rattle.xa_manager.specs.Acts.{AreDistinct, GiveRoomsBack, MakeRooms, StaysIfDistinct}
 use Rattle.xa_manager.specs.Answered.{HasCalled, StaysFor, as_appended}
 use Rattle.xa_manager.specs.Crash.{LeavesAppend}
-use Rattle.xa_manager.specs.Pending.{IsPendingFrom, HasFinished, IsGroupOf, FinishesFrom, pending_members, with_log}
+use Rattle.xa_manager.specs.Parts.{with_log}
+use Rattle.xa_manager.specs.Pending.{IsPendingFrom, HasFinished, IsGroupOf, FinishesFrom, pending_members}
 use Rattle.xa_manager.specs.GroupAnswers.{AreReplies, TakeAnswers, told}
 use Rattle.xa_manager.specs.Managed.{view}
 use Rattle.xa_manager.specs.Stands.{Stays, StandsWithRooms}

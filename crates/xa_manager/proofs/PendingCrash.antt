@@ -14,7 +14,8 @@ use Rattle.xa_manager.specs.declared.pending.PendingGroup.{PendingGroup}
 use Rattle.xa_manager.specs.declared.together.Joining.{Joining}
 use Rattle.xa_manager.specs.Crash.{LeavesAppend}
 use Rattle.xa_manager.specs.GroupAnswers.{group_after}
-use Rattle.xa_manager.specs.Pending.{IsGroupOf, IsPendingFrom, LeavesPending, lost_group, pending_members, with_log}
+use Rattle.xa_manager.specs.Parts.{with_log}
+use Rattle.xa_manager.specs.Pending.{IsGroupOf, IsPendingFrom, LeavesPending, lost_group, pending_members}
 use Rattle.xa_manager.specs.Together.{Member, member_of, members_of, part_of, parts_of}
 use Rattle.xa_manager.proofs.GroupStepping.{crash_together, leads_to}
 use Rattle.xa_manager.proofs.Taking.{tables_up}

@@ -35,6 +35,7 @@ use Rattle.xa_manager.specs.declared.manager.Manager.{Manager}
 use Rattle.xa_manager.specs.Crash.{CrashesAs, CrashesWanting}
 use Rattle.xa_manager.specs.LogStands.{Trusts}
 use Rattle.xa_manager.specs.Managed.{ManagerStandsFor, AnswersAs}
+use Rattle.xa_manager.specs.Parts.{log_of, outcome_of}
 
 -- the manager stands for whichever state it stood for
 abbrev pub StaysFor : {D : Type 0} → Ghosts D → Manager D → Manager D → Type 0
@@ -45,12 +46,12 @@ StaysFor disks m m' = (s : State) → ManagerStandsFor disks m s → ManagerStan
 abbrev pub StepsAs : {D : Type 0} → Ghosts D → Manager D → Event → Reply → Manager D → Type 0
 StepsAs disks m event reply m' =
     (s : State) → ManagerStandsFor disks m s → Trusts disks ⊎ (begins_boot event ≡ false)
-    → AnswersAs disks (step s (Asked event) m'.outcome) reply m'
+    → AnswersAs disks (step s (Asked event) (outcome_of m')) reply m'
 
 -- where memory was wanted, it stands for whichever state it stood for, and tells the outcome of the event before
 abbrev pub Answered : {D : Type 0} → Ghosts D → Manager D → Event → Reply → Manager D → Type 0
 Answered disks m event reply m' =
-    MatchBool (is_memory reply.detail) (StaysFor disks m m' × (m'.outcome ≡ m.outcome))
+    MatchBool (is_memory reply.detail) (StaysFor disks m m' × (outcome_of m' ≡ outcome_of m))
     (StepsAs disks m event reply m')
 
 -- What the device did of each outcome. Where it is Quiet no device call was made.
@@ -107,7 +108,7 @@ HasCalledFor disks false outcome old new = HasCalled disks outcome old new
 abbrev pub CallsAs : {D : Type 0} → Ghosts D → Manager D → Event → Outcome → Manager D → Type 0
 CallsAs disks m event outcome m' =
     (s : State) → ManagerStandsFor disks m s → Trusts disks ⊎ (begins_boot event ≡ false)
-    → HasCalledFor disks (is_trim event) outcome m.log m'.log
+    → HasCalledFor disks (is_trim event) outcome (log_of m) (log_of m')
 
 -- Which events may want memory: a request to end what stands never does, but that a commit in one phase has to write
 -- what it commits.
@@ -148,12 +149,12 @@ pub record FullyAnswered {D : Type 0} (disks : Ghosts D) (m : Manager D) (event 
     (m' : Manager D) : Type 0 where
   pub answered : Answered disks m event reply m'
   pub pinned : IsPinned event reply
-  pub called : is_memory reply.detail ≡ false → CallsAs disks m event m'.outcome m'
+  pub called : is_memory reply.detail ≡ false → CallsAs disks m event (outcome_of m') m'
   -- what a crash at any moment of it leaves
-  pub crash : is_memory reply.detail ≡ false → CrashesAs disks m event m'.outcome m'
+  pub crash : is_memory reply.detail ≡ false → CrashesAs disks m event (outcome_of m') m'
   -- where memory was wanted, no device call failed, and none was made but by a restart
-  pub quiet : is_memory reply.detail ≡ true → NoneRises disks.failures m.log m'.log
-  pub untouched : is_memory reply.detail ≡ true → is_restart event ≡ false → m'.log ≡ m.log
+  pub quiet : is_memory reply.detail ≡ true → NoneRises disks.failures (log_of m) (log_of m')
+  pub untouched : is_memory reply.detail ≡ true → is_restart event ≡ false → log_of m' ≡ log_of m
   -- what a crash at any moment of it leaves then
   pub wanting : is_memory reply.detail ≡ true → CrashesWanting disks m event m'
 

@@ -15,6 +15,7 @@ use Rattle.xa_manager.specs.declared.manager.Manager.{Manager}
 use Rattle.xa_manager.specs.Answered.{recorded, no_boot}
 use Rattle.xa_manager.specs.LogStands.{Trusts}
 use Rattle.xa_manager.specs.Managed.{ManagerStandsFor}
+use Rattle.xa_manager.specs.Parts.{log_of}
 
 -- How many an outcome tells of. Of the records of a group one device call tells, and so the first entry alone: what is
 -- refused or lost with it joined it (`HasGroups`).
@@ -56,5 +57,5 @@ CountsAll disks m events replies m' =
     → (outcomes : List Outcome) × (s' : State) × (length outcomes ≡ length events)
     × Leads s (recorded events outcomes replies) s' × ManagerStandsFor disks m' s'
     × HasGroups (recorded events outcomes replies)
-    × RiseBy (failures_of (recorded events outcomes replies)) (counted_by disks.failures m.log)
-    (counted_by disks.failures m'.log)
+    × RiseBy (failures_of (recorded events outcomes replies)) (counted_by disks.failures (log_of m))
+    (counted_by disks.failures (log_of m'))

@@ -25,6 +25,7 @@ use Rattle.xa_manager.specs.CrashLaws.{StandsWithoutChance}
 use Rattle.xa_manager.specs.Files.{FilesStandFor}
 use Rattle.xa_manager.specs.LogStands.{Trusts, snapshot_bodies}
 use Rattle.xa_manager.specs.Managed.{ManagerStandsFor}
+use Rattle.xa_manager.specs.Parts.{log_of}
 
 -- the files of a log, by images of the current one and of the other one, stand for a state
 abbrev pub StandFor : {D : Type 0} → LogView D → List ℕ → List ℕ → State → Type 0
@@ -154,7 +155,7 @@ LeavesBy {D} disks old asked (Reread survived appended) new s =
 abbrev pub CrashesAs : {D : Type 0} → Ghosts D → Manager D → Event → Outcome → Manager D → Type 0
 CrashesAs disks m event outcome m' =
     (s : State) → ManagerStandsFor disks m s → Trusts disks
-    → LeavesBy disks m.log (turn s (Asked event)) outcome m'.log s
+    → LeavesBy disks (log_of m) (turn s (Asked event)) outcome (log_of m') s
 
 -- What a crash leaves at any moment of an event that wanted memory: of a restart, which looked at the log at most, what
 -- the look leaves; of any other, what a crash before it leaves.
@@ -164,4 +165,5 @@ LeavesWanting disks old false new s = LeavesNow disks old s
 
 abbrev pub CrashesWanting : {D : Type 0} → Ghosts D → Manager D → Event → Manager D → Type 0
 CrashesWanting disks m event m' =
-    (s : State) → ManagerStandsFor disks m s → Trusts disks → LeavesWanting disks m.log (is_restart event) m'.log s
+    (s : State) → ManagerStandsFor disks m s → Trusts disks
+    → LeavesWanting disks (log_of m) (is_restart event) (log_of m') s

@@ -16,6 +16,7 @@ use Rattle.xa_manager.specs.declared.manager.Manager.{Manager}
 use Rattle.xa_manager.specs.LogStands.{Trusts, LogStandsFor}
 use Rattle.xa_manager.specs.Managed.{ManagerStandsFor}
 use Rattle.xa_manager.specs.Files.{FilesStandFor}
+use Rattle.xa_manager.specs.Parts.{log_of}
 
 -- A log that stands for a state, and images of its first and of its second file. Nothing of them is left to chance by
 -- the state that the log itself is in: after the current file's records chain those that were lost, or none; in front
@@ -60,4 +61,5 @@ FilesLastAsFated =
 abbrev pub ReadStands : {D : Type 0} → Ghosts D → Type 0
 ReadStands {D} disks =
     (m : Manager D) (s : State) → Trusts disks → ManagerStandsFor disks m s
-    → FilesStandFor m.log.log_bytes (disks.seen (first_of m.log)) (disks.seen (second_of m.log)) s × IsRecoverable s
+    → FilesStandFor (log_of m).log_bytes (disks.seen (first_of (log_of m))) (disks.seen (second_of (log_of m))) s
+    × IsRecoverable s

@@ -16,6 +16,7 @@ use Rattle.xa_manager.specs.declared.refused.RefusedOpening.{RefusedOpening}
 use Rattle.xa_manager.specs.Crash.{LeavesBoot}
 use Rattle.xa_manager.specs.Files.{FilesStandFor}
 use Rattle.xa_manager.specs.LogStands.{Trusts}
+use Rattle.xa_manager.specs.Parts.{log_of}
 use Rattle.xa_manager.specs.Refused.{IsUnwritten}
 
 -- A look leads from two disks to others: time passes, nothing is written, and a crash at a moment of it leaves of each
@@ -56,7 +57,7 @@ LeavesUnopened disks first second s name log_bytes _ first' second' =
 abbrev pub LeavesOpening : {D : Type 0} → Ghosts D → D → D → State → List ℕ → ℕ
     → Result (Manager D) (RefusedOpening D) → Type 0
 LeavesOpening disks first second s name log_bytes (Ok m) =
-    LeavesReopening disks first second s name log_bytes Kept m.log
+    LeavesReopening disks first second s name log_bytes Kept (log_of m)
 LeavesOpening disks first second s name log_bytes (Err r) =
     LeavesUnopened disks first second s name log_bytes r.fault r.first r.second
 

@@ -18,6 +18,7 @@ use Rattle.xa_manager.specs.declared.together.Asked.{Asked}
 use Rattle.xa_manager.specs.declared.together.Joining.{Joining}
 use Rattle.xa_manager.specs.Acts.{GivesFirstRoomBack, TakesFirstPrepared}
 use Rattle.xa_manager.specs.Answered.{StaysFor}
+use Rattle.xa_manager.specs.Parts.{log_of}
 use Rattle.xa_manager.specs.Rows.{asked_row, refused_code}
 use Rattle.xa_manager.specs.Stands.{StandsFor, StandsWithRooms}
 use Rattle.xa_manager.specs.Together.{Member, PreparesFirst, TakesTogether, asked_at, members_of, parts_of, prepares_of}
@@ -73,7 +74,7 @@ AreReplies calls a _ _ = ⊥
 
 -- No call was answered, and nothing changed; or those of a group were, in its order.
 abbrev pub AnswersTogether : {D : Type 0} → Ghosts D → Manager D → List Asked → List (ℕ × Reply) → Manager D → Type 0
-AnswersTogether disks m calls [] m' = StaysFor disks m m' × (m'.log ≡ m.log)
+AnswersTogether disks m calls [] m' = StaysFor disks m m' × (log_of m' ≡ log_of m)
 AnswersTogether disks m calls (r ∷ rs) m' =
     (first : Member) × (rest : List Member) × (a : Appending) × AreReplies calls a (first ∷ rest) (r ∷ rs)
     × TakesTogether disks m first rest a m'

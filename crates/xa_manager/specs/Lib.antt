@@ -1,6 +1,7 @@
 pub mod View
 pub mod Stands
 pub mod Tables
+pub mod Parts
 pub mod Acts
 pub mod LogStands
 pub mod Managed

@@ -12,12 +12,13 @@ use Rattle.xa_model.specs.Invariants.Room.{IsRoomy}
 use Rattle.xa_manager.specs.declared.doubt.Doubt.{Doubt}
 use Rattle.xa_manager.specs.declared.doubt.Doubt.TheVariants.{Boot, Record as LastRecord}
 use Rattle.xa_manager.specs.declared.manager.Manager.{Manager}
+use Rattle.xa_manager.specs.Parts.{doubt_of, is_up, log_of, tables_of}
 use Rattle.xa_manager.specs.View.{View, view_of}
 use Rattle.xa_manager.specs.Stands.{TablesStandFor}
 use Rattle.xa_manager.specs.LogStands.{Trusts, LogStandsFor}
 
 abbrev pub view : {D : Type 0} → Manager D → View
-view m = view_of m.tables
+view m = view_of (tables_of m)
 
 -- the records whose fates are unknown: a boot's, or some after the log's end, of which none is a boot's
 abbrev pub Doubts : Option Doubt → State → Type 0
@@ -28,15 +29,15 @@ Doubts (Some (LastRecord end)) s =
 
 -- The log is said to stand behind the state under the premises on the type of disks; all else is without them.
 pub record ManagerStandsFor {D : Type 0} (disks : Ghosts D) (m : Manager D) (s : State) : Type 0 where
-  pub tables : TablesStandFor m.up (view m) s
+  pub tables : TablesStandFor (is_up m) (view m) s
   pub roomy : IsRoomy s
-  pub end : m.up ≡ true → m.log.end ≡ s.end
-  pub alive : m.up ≡ true → m.log.lost ≡ false
+  pub end : is_up m ≡ true → (log_of m).end ≡ s.end
+  pub alive : is_up m ≡ true → (log_of m).lost ≡ false
   -- what it appends goes to a file of the newest format
-  pub modern : m.up ≡ true → m.log.format ≡ newest
-  pub log_bytes : m.log.log_bytes ≡ s.log_bytes
-  pub doubt : Doubts m.doubt s
-  pub log : Trusts disks → LogStandsFor disks m.log s
+  pub modern : is_up m ≡ true → (log_of m).format ≡ newest
+  pub log_bytes : (log_of m).log_bytes ≡ s.log_bytes
+  pub doubt : Doubts (doubt_of m) s
+  pub log : Trusts disks → LogStandsFor disks (log_of m) s
 
 -- The answer of a turn is this reply, and the manager stands for the state that it leaves.
 abbrev pub AnswersAs : {D : Type 0} → Ghosts D → Option Answer → Reply → Manager D → Type 0

@@ -1,9 +1,10 @@
 -- A group that is pending: its records are written, their sync is to follow, and sessions work on other branches
 -- meanwhile.
-use Rattle.std.specs.Prelude.{ℕ, ◌≡◌, ◌<◌, ◌≤◌, true, false, Some, None, List, [], ◌∷◌, length, map, MatchBool, IsSomeAnd}
+use Rattle.std.specs.Prelude.{ℕ, ◌≡◌, ◌<◌, ◌≤◌, true, false, Some, None, List, [], ◌∷◌, length, map, MatchBool, IsSomeAnd, Result, Vec}
 use Rattle.std.specs.List.{AllByRecursion}
 use Rattle.xa_assoc.specs.Refusals.{is_memory}
 use Rattle.xa_disk.specs.declared.disk.Disk.{Ghosts}
+use Rattle.xa_disk.specs.declared.disk.DiskFault.{DiskFault}
 use Rattle.xa_frame.specs.declared.reply.Reply.{Reply}
 use Rattle.xa_frame.specs.declared.request.Request.{Request}
 use Rattle.xa_frame.specs.declared.request.Request.TheVariants as request
@@ -28,12 +29,14 @@ use Rattle.xa_model.specs.Turn.{Asked as AskedOf}
 use Rattle.xa_xid.specs.Triple.{xid_eq}
 use Rattle.xa_manager.specs.declared.pending.PendingGroup.{PendingGroup}
 use Rattle.xa_manager.specs.declared.manager.Manager.{Manager}
+use Rattle.xa_manager.specs.declared.together.Asked.{Asked}
 use Rattle.xa_manager.specs.Acts.{AreDistinct}
 use Rattle.xa_manager.specs.Answered.{HasCalled, IsPinned, as_appended}
 use Rattle.xa_manager.specs.Crash.{LeavesAppend}
 use Rattle.xa_manager.specs.GroupAnswers.{AreReplies, AreTogether}
 use Rattle.xa_manager.specs.LogStands.{Trusts}
 use Rattle.xa_manager.specs.Managed.{ManagerStandsFor}
+use Rattle.xa_manager.specs.Parts.{is_up, log_of, with_log}
 use Rattle.xa_manager.specs.Reserving.{HasReserved}
 use Rattle.xa_manager.specs.Rows.{asked_row}
 use Rattle.xa_manager.specs.Together.{Member, members_of, part_of, parts_of, prepares_of}
@@ -47,23 +50,27 @@ work_by s n (request.Put key value) = put_by s key (Some value) (own_branch s n)
 work_by s n (request.Delete key) = put_by s key None (own_branch s n)
 work_by s n _ = ok s
 
--- the manager as it would be had it written nothing
-abbrev pub with_log : {D : Type 0} → LogView D → Manager D → Manager D
-with_log log m = record m { log = log }
+-- the calls that were asked, with those that were left out of it
+abbrev pub calls_of : PendingGroup → Vec Asked
+calls_of f = f.calls
+
+-- what the write of its records was answered
+abbrev pub write_of : PendingGroup → Result (Unit {0}) DiskFault
+write_of f = f.written.write
 
 -- The group has some calls, each with its row, of distinct XIDs, and its records stand where the manager's log ends.
 pub record IsGroupOf {D : Type 0} (m : Manager D) (f : PendingGroup) : Type 0 where
-  pub range : IsRange f.written m.log
+  pub range : IsRange f.written (log_of m)
   pub some : 1 ≤ length f.together.members.items
-  pub places : AllByRecursion (λ j. j.at < length f.calls.items) f.together.members.items
+  pub places : AllByRecursion (λ j. j.at < length (calls_of f).items) f.together.members.items
   pub rows : AllByRecursion (λ c. asked_row c.request ≡ Some (c.row, c.xid))
-      (members_of f.calls.items f.together.members.items)
+      (members_of (calls_of f).items f.together.members.items)
   pub distinct : AreDistinct (map (λ j. j.xid) f.together.members.items)
-  pub prepares : f.together.prepares.items ≡ prepares_of (members_of f.calls.items f.together.members.items)
+  pub prepares : f.together.prepares.items ≡ prepares_of (members_of (calls_of f).items f.together.members.items)
 
 -- its calls
 abbrev pub pending_members : PendingGroup → List Member
-pending_members f = members_of f.calls.items f.together.members.items
+pending_members f = members_of (calls_of f).items f.together.members.items
 
 -- A call of a session's work that names a branch names none of the group's.
 abbrev pub WorksApartFrom : Request → PendingGroup → Type 0
@@ -76,8 +83,8 @@ WorksApartFrom _ f = Unit {0}
 pub record IsPendingFrom {D : Type 0} (disks : Ghosts D) (log : LogView D) (m : Manager D) (f : PendingGroup) (s : State)
     : Type 0 where
   pub stands : ManagerStandsFor disks (with_log log m) s
-  pub up : m.up ≡ true
-  pub written : HasWritten disks (bodies_of f.together.bodies.items) f.written log m.log
+  pub up : is_up m ≡ true
+  pub written : HasWritten disks (bodies_of f.together.bodies.items) f.written log (log_of m)
   pub at : AreTogether s (pending_members f)
   pub bodies : map spelled (records_of (parts_of s (pending_members f))) ≡ bodies_of f.together.bodies.items
 
@@ -87,8 +94,8 @@ IsPending {D} disks m f s = (log : LogView D) × IsPendingFrom disks log m f s
 -- The group's records were written after those of a log that is the manager's, but for its memory.
 pub record WritesGroup {D : Type 0} (disks : Ghosts D) (m : Manager D) (f : PendingGroup) (m' : Manager D) : Type 0 where
   pub log : LogView D
-  pub reserved : HasReserved disks m.log log
-  pub written : HasWritten disks (bodies_of f.together.bodies.items) f.written log m'.log
+  pub reserved : HasReserved disks (log_of m) log
+  pub written : HasWritten disks (bodies_of f.together.bodies.items) f.written log (log_of m')
 
 -- the entries of calls whose records are lost
 abbrev pub lost_group : State → List Member → List Entry
@@ -99,7 +106,7 @@ lost_group s (c ∷ cs) = group_entries Lost (part_of s c) (parts_of s cs)
 -- records are lost.
 abbrev pub LeavesPending : {D : Type 0} → Ghosts D → LogView D → Manager D → PendingGroup → State → Type 0
 LeavesPending disks log m f s =
-    Trusts disks → (lost : State) × Leads s (lost_group s (pending_members f)) lost × LeavesAppend disks log m.log s lost
+    Trusts disks → (lost : State) × Leads s (lost_group s (pending_members f)) lost × LeavesAppend disks log (log_of m) s lost
 
 -- A call of a session's work was answered meanwhile: as the step, or memory was wanted. The group stays pending.
 pub record WorksBeside {D : Type 0} (disks : Ghosts D) (m : Manager D) (f : PendingGroup) (event : Event) (reply : Reply)
@@ -108,7 +115,7 @@ pub record WorksBeside {D : Type 0} (disks : Ghosts D) (m : Manager D) (f : Pend
       → MatchBool (is_memory reply.detail) (IsPendingFrom disks log m' f s)
       (IsSomeAnd (step s (AskedOf event) Quiet) (λ a. (a.reply ≡ reply) × IsPendingFrom disks log m' f a.after))
   pub pinned : IsPinned event reply
-  pub log : m'.log ≡ m.log
+  pub log : log_of m' ≡ log_of m
   pub crash : (log : LogView D) (s : State) → IsPendingFrom disks log m f s → LeavesPending disks log m' f s
 
 -- Calls were answered together, of a state, with this of their records, which were appended to this log: as
@@ -116,17 +123,17 @@ pub record WorksBeside {D : Type 0} (disks : Ghosts D) (m : Manager D) (f : Pend
 pub record FinishesFrom {D : Type 0} (disks : Ghosts D) (log : LogView D) (s : State) (first : Member) (rest : List Member)
     (a : Appending) (m' : Manager D) : Type 0 where
   pub leads : (s' : State) × Leads s (group_entries a (part_of s first) (parts_of s rest)) s' × ManagerStandsFor disks m' s'
-  pub called : HasCalled disks (Appended a) log m'.log
+  pub called : HasCalled disks (Appended a) log (log_of m')
   pub crash : Trusts disks
       → (lost : State) × Leads s (group_entries Lost (part_of s first) (parts_of s rest)) lost
-      × LeavesAppend disks log m'.log s lost
+      × LeavesAppend disks log (log_of m') s lost
 
 -- So were those of a pending group, of each state that the manager stood for.
 abbrev pub HasFinished : {D : Type 0} → Ghosts D → Manager D → PendingGroup → List (ℕ × Reply) → Manager D → Type 0
 HasFinished disks m f [] m' = ⊥
 HasFinished {D} disks m f (r ∷ rs) m' =
-    (first : Member) × (rest : List Member) × (a : Appending) × AreReplies f.calls.items a (first ∷ rest) (r ∷ rs)
-    × SettlesBy f.written.write (as_appended a) (disks.failures m.log.disk) (disks.failures m'.log.disk)
+    (first : Member) × (rest : List Member) × (a : Appending) × AreReplies (calls_of f).items a (first ∷ rest) (r ∷ rs)
+    × SettlesBy (write_of f) (as_appended a) (disks.failures (log_of m).disk) (disks.failures (log_of m').disk)
     × ((log : LogView D) (s : State) → IsPendingFrom disks log m f s → FinishesFrom disks log s first rest a m')
 
 -- ---- law

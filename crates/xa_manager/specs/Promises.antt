@@ -25,6 +25,7 @@ use Rattle.xa_manager.specs.LogStands.{Trusts}
 use Rattle.xa_manager.specs.Managed.{ManagerStandsFor}
 use Rattle.xa_manager.specs.Answered.{FullyAnswered, recorded, no_boot}
 use Rattle.xa_manager.specs.Opening.{HasBegun}
+use Rattle.xa_manager.specs.Parts.{outcome_of}
 
 -- an opening state: what the records of a log come to, of which a new log has none, and a new boot
 pub record IsOpening (first : State) : Type 0 where
@@ -88,7 +89,7 @@ pub record RestartKeeps {D : Type 0} (disks : Ghosts D) (first : State) (before 
 abbrev pub RestartPromises : {D : Type 0} → Ghosts D → Manager D → Reply → Manager D → Type 0
 RestartPromises disks m reply m' =
     (first s : State) (before : List Entry) → IsReached first before s → ManagerStandsFor disks m s
-    → Trusts disks → RestartKeeps disks first before s m'.outcome reply m'
+    → Trusts disks → RestartKeeps disks first before s (outcome_of m') reply m'
 
 -- ---- laws
 

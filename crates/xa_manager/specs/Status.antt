@@ -4,6 +4,7 @@ use Rattle.mv_rules.specs.Records.{versions_in}
 use Rattle.xa_assoc.specs.Seats.{connected_in}
 use Rattle.xa_frame.specs.declared.status.Status.{Status}
 use Rattle.xa_manager.specs.declared.manager.Manager.{Manager}
+use Rattle.xa_manager.specs.Parts.{records_of}
 use Rattle.xa_manager.specs.View.{View}
 use Rattle.xa_model.specs.Logging.{prepared_count}
 use Rattle.xa_model.specs.State.{State, Standing, Up, Down, Ended, known_in}
@@ -35,7 +36,7 @@ status_behind s versions calls = record (status_of s versions) { calls = calls }
 
 -- how many versions of all keys it keeps
 abbrev pub versions_of : {D : Type 0} → Manager D → ℕ
-versions_of m = versions_in m.tables.records
+versions_of m = versions_in (records_of m)
 
 -- what the tables tell of a manager that is down
 abbrev pub status_down : View → Status

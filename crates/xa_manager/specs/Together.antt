@@ -30,6 +30,7 @@ use Rattle.xa_manager.specs.Answered.{HasCalled}
 use Rattle.xa_manager.specs.Crash.{LeavesAppend}
 use Rattle.xa_manager.specs.LogStands.{Trusts}
 use Rattle.xa_manager.specs.Managed.{ManagerStandsFor}
+use Rattle.xa_manager.specs.Parts.{is_up, log_of, tables_of}
 use Rattle.xa_manager.specs.Plans.{Appends}
 use Rattle.xa_manager.specs.Reserving.{HasReserved}
 use Rattle.xa_manager.specs.Rows.{asked_row, more_of, record_of}
@@ -80,9 +81,9 @@ PreparesFirst (c ∷ cs) = (is_prepare c.row ≡ false → prepares_of cs ≡ []
 
 -- Whichever state the manager stands for, it is up, and the call appends the record of this body by itself.
 pub record AppendsAlone {D : Type 0} (disks : Ghosts D) (m : Manager D) (c : Member) (body : List ℕ) : Type 0 where
-  pub up : m.up ≡ true
+  pub up : is_up m ≡ true
   pub asked : asked_row c.request ≡ Some (c.row, c.xid)
-  pub size : IsBody m.log.format body
+  pub size : IsBody (log_of m).format body
   pub appends : (s : State) → ManagerStandsFor disks m s → AppendsOf s (part_of s c) × Appends c.row c.xid body s
 
 abbrev pub AppendAlone : {D : Type 0} → Ghosts D → Manager D → List Member → List (List ℕ) → Type 0
@@ -121,7 +122,7 @@ pub record MayJoin {D : Type 0} (disks : Ghosts D) (m : Manager D) (t : Together
     (len : ℕ) : Type 0 where
   pub apart : AllByRecursion (λ j. xid_eq j.xid xid ≡ false) t.members.items
   pub short : t.bytes + len ≤ MOST_BODY
-  pub room : (s : State) → ManagerStandsFor disks m s → m.up ≡ true
+  pub room : (s : State) → ManagerStandsFor disks m s → is_up m ≡ true
       → has_room_behind s t.bytes (length t.prepares.items) row len ≡ true
 
 -- it stands last in the group
@@ -144,10 +145,10 @@ pub record HasJoined {D : Type 0} (disks : Ghosts D) (m : Manager D) (at : ℕ) 
 
 -- the memory for it is taken
 pub record AreReady {D : Type 0} (disks : Ghosts D) (m : Manager D) (t : Together) (m' : Manager D) : Type 0 where
-  pub holds : Holds m'.log (as_one (bodies_of t.bodies.items))
-  pub log : HasReserved disks m.log m'.log
-  pub up : m'.up ≡ m.up
-  pub tables : MakeRooms m.tables t.prepares.items m'.tables
+  pub holds : Holds (log_of m') (as_one (bodies_of t.bodies.items))
+  pub log : HasReserved disks (log_of m) (log_of m')
+  pub up : is_up m' ≡ is_up m
+  pub tables : MakeRooms (tables_of m) t.prepares.items (tables_of m')
 
 -- Calls were asked together, of whichever state the manager stood for: they may stand together, and were answered
 -- one after another, each as one step, with this of their records; the manager stands for where these steps lead. One
@@ -158,7 +159,7 @@ pub record TakesTogether {D : Type 0} (disks : Ghosts D) (m : Manager D) (first 
   pub together : (s : State) → ManagerStandsFor disks m s → MayStandTogether s (parts_of s (first ∷ rest))
   pub leads : (s : State) → ManagerStandsFor disks m s
       → (s' : State) × Leads s (group_entries a (part_of s first) (parts_of s rest)) s' × ManagerStandsFor disks m' s'
-  pub called : (s : State) → ManagerStandsFor disks m s → HasCalled disks (Appended a) m.log m'.log
+  pub called : (s : State) → ManagerStandsFor disks m s → HasCalled disks (Appended a) (log_of m) (log_of m')
   pub crash : (s : State) → ManagerStandsFor disks m s → Trusts disks
       → (lost : State) × Leads s (group_entries Lost (part_of s first) (parts_of s rest)) lost
-      × LeavesAppend disks m.log m'.log s lost
+      × LeavesAppend disks (log_of m) (log_of m') s lost

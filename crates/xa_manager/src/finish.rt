@@ -3,7 +3,8 @@ ghost use Rattle.std.specs.Prelude.{◌≡◌, IfErr, IfOk, OnErr};
 ghost use Rattle.xa_log.specs.LogView.{LogView};
 ghost use Rattle.xa_model.specs.State.{State};
 ghost use Rattle.xa_manager.specs.Connected.{connected_to};
-ghost use Rattle.xa_manager.specs.Pending.{IsPendingFrom, HasFinished, IsGroupOf};
+ghost use Rattle.xa_manager.specs.Parts.{log_of, outcome_of};
+ghost use Rattle.xa_manager.specs.Pending.{IsPendingFrom, HasFinished, IsGroupOf, calls_of};
 ghost use Rattle.xa_manager.specs.Once.{AreOnce};
 
 use crate::manager::Manager;
@@ -24,13 +25,13 @@ impl<D: Disk> Manager<D> {
         answer: SyncAnswer,
     ) -> Result<(Vec<(usize, Reply)>, Vec<Asked>), (PendingGroup, SyncAnswer)>
         requires { IsGroupOf self.old group }
-        ensures ok { IfOk result (λ r. HasFinished D.Disk self.old group r.0.items self.new × (r.1 ≡ group.calls)) }
+        ensures ok { IfOk result (λ r. HasFinished D.Disk self.old group r.0.items self.new × (r.1 ≡ calls_of group)) }
         ensures once { IfOk result (λ r. AreOnce r.0.items) }
         ensures err { IfErr result (λ r. (r.0 ≡ group) × ((log : LogView D) (s : State)
             → IsPendingFrom D.Disk log self.old group s → IsPendingFrom D.Disk log self.new group s)) }
         ensures group { IfErr result (λ r. IsGroupOf self.new group) }
-        ensures log { OnErr result (self.new.log ≡ self.old.log) }
-        ensures outcome { self.new.outcome ≡ self.old.outcome }
+        ensures log { OnErr result (log_of self.new ≡ log_of self.old) }
+        ensures outcome { outcome_of self.new ≡ outcome_of self.old }
         ensures company { connected_to self.new ≡ connected_to self.old }
     {
         let alloc = self.tables.alloc;

@@ -8,12 +8,13 @@ ghost use Rattle.xa_model.specs.State.{State, Up};
 ghost use Rattle.xa_manager.specs.Managed.{ManagerStandsFor};
 ghost use Rattle.xa_manager.specs.Answered.{FullyAnswered, AnswersAll, ArePinned, RunsAll, StaysFor, connect_reply};
 ghost use Rattle.xa_assoc.specs.Company.{Gains, Loses};
-ghost use Rattle.xa_manager.specs.Drained.{GivesBack};
+ghost use Rattle.xa_manager.specs.Drained.{HasGivenBack};
 ghost use Rattle.xa_manager.specs.Connected.{connected_to};
 ghost use Rattle.xa_manager.specs.Promises.{PromisesAll};
 ghost use Rattle.xa_frame.specs.Limits.{IsReply};
 ghost use Rattle.xa_manager.specs.Counted.{CountsAll};
-ghost use Rattle.mv_rules.specs.Records.{versions_in};
+ghost use Rattle.xa_manager.specs.Parts.{log_of, outcome_of};
+ghost use Rattle.xa_manager.specs.Status.{versions_of};
 
 use crate::done::Done;
 use crate::doubt::Doubt;
@@ -73,7 +74,7 @@ impl<D: Disk> Manager<D> {
         requires { IsAsked request }
         ensures answered { FullyAnswered D.Disk self.old (Event.Call session request) result self.new }
         ensures connected { connected_to self.new ≡ connected_to self.old }
-        ensures drained { GivesBack self.new.tables.branches self.new.tables.records }
+        ensures drained { HasGivenBack self.new }
         ensures place { result.place ≡ 0 }
         ensures limits { IsReply result }
     {
@@ -101,7 +102,7 @@ impl<D: Disk> Manager<D> {
 
     /// What the device did in the last connect, call, hang-up or restart that found its memory; Quiet before the first.
     pub fn outcome(&self) -> Outcome
-        ensures { result ≡ self.now.outcome }
+        ensures { result ≡ outcome_of self.now }
     {
         self.outcome
     }
@@ -138,21 +139,21 @@ impl<D: Disk> Manager<D> {
     /// How many versions of all keys are kept, with one for the absence of each key that a branch found absent or was
     /// the first to write. Those that nobody can read any more are dropped as the calls go on.
     pub fn versions(&self) -> u64
-        ensures { result ≡ versions_in self.now.tables.records }
+        ensures { result ≡ versions_of self.now }
     {
         self.tables.records.versions()
     }
 
     /// Whether the log's current file is the first one.
     pub fn on_first(&self) -> bool
-        ensures { result ≡ self.now.log.on_first }
+        ensures { result ≡ (log_of self.now).on_first }
     {
         self.log.on_first()
     }
 
     /// Gives the two disks back, the first one first.
     pub fn into_disks(self) -> (D, D)
-        ensures { result ≡ (first_of self.log, second_of self.log) }
+        ensures { result ≡ (first_of (log_of self), second_of (log_of self)) }
     {
         self.log.into_disks()
     }
@@ -161,9 +162,9 @@ impl<D: Disk> Manager<D> {
     /// down. Connects and hang-ups leave the low water as it is.
     pub(crate) fn give_low_water(&mut self)
         ensures stays { StaysFor D.Disk self.old self.new }
-        ensures log { self.new.log ≡ self.old.log }
-        ensures outcome { self.new.outcome ≡ self.old.outcome }
-        ensures drained { GivesBack self.new.tables.branches self.new.tables.records }
+        ensures log { log_of self.new ≡ log_of self.old }
+        ensures outcome { outcome_of self.new ≡ outcome_of self.old }
+        ensures drained { HasGivenBack self.new }
         ensures company { connected_to self.new ≡ connected_to self.old }
     {
         self.tables.give_low_water();

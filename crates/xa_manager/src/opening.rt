@@ -19,6 +19,7 @@ ghost use Rattle.xa_manager.specs.Files.{FilesStandFor};
 ghost use Rattle.xa_manager.specs.LogStands.{Trusts};
 ghost use Rattle.xa_manager.specs.Managed.{ManagerStandsFor};
 ghost use Rattle.xa_manager.specs.Opening.{IsBadSetting, IsFound, HasBegun, HasBegunOn, LogRefused, BootRefused, OpenRefused, begun_manager};
+ghost use Rattle.xa_manager.specs.Parts.{log_of};
 ghost use Rattle.xa_manager.specs.Refused.{LeavesFinding, LogsBoot, LeavesBegin, LeavesLogging, LeavesRefused};
 
 use crate::boots::{NextBoot, Planned, plan};
@@ -91,7 +92,7 @@ impl<D: Disk + Drop> Manager<D> {
             (λ r. OpenRefused r.fault settings.name settings.log_bytes (D.seen first) (D.seen second)) }
         // What it did to the disks: to those that it gives back, and to those of a manager's log.
         ensures logs { IfOk result
-            (λ m. LeavesLogging D.Disk settings.log_bytes first second Appended.Kept m.log) }
+            (λ m. LeavesLogging D.Disk settings.log_bytes first second Appended.Kept (log_of m)) }
         ensures leaves { IfErr result
             (λ r. LeavesRefused D.Disk r.fault settings.log_bytes first r.first second r.second) }
         // What a crash at any moment of it leaves of files that stand for a state.

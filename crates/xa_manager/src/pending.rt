@@ -4,7 +4,8 @@ ghost use Rattle.xa_model.specs.Events.{IsAsked};
 ghost use Rattle.xa_model.specs.State.{State};
 ghost use Rattle.xa_manager.specs.Answered.{StaysFor};
 ghost use Rattle.xa_manager.specs.Connected.{connected_to};
-ghost use Rattle.xa_manager.specs.Pending.{IsPending, IsGroupOf, WritesGroup};
+ghost use Rattle.xa_manager.specs.Parts.{log_of, outcome_of};
+ghost use Rattle.xa_manager.specs.Pending.{IsPending, IsGroupOf, WritesGroup, calls_of};
 ghost use Rattle.xa_manager.specs.Managed.{ManagerStandsFor};
 ghost use Rattle.xa_manager.specs.Reserving.{HasReserved};
 
@@ -24,7 +25,7 @@ pub struct PendingGroup {
 impl PendingGroup {
     /// Its calls, with those that were left out of it.
     pub fn calls(&self) -> &[Asked]
-        ensures { result.now ≡ self.now.calls.items }
+        ensures { result.now ≡ (calls_of self.now).items }
     {
         &self.calls
     }
@@ -40,12 +41,12 @@ impl<D: Disk> Manager<D> {
         requires asked { AllByRecursion (λ c. IsAsked c.request) calls.items }
         ensures ok { IfOk result
             (λ f. (s : State) → ManagerStandsFor D.Disk self.old s → IsPending D.Disk self.new f s) }
-        ensures group { IfOk result (λ f. IsGroupOf self.new f × (f.calls ≡ calls)) }
+        ensures group { IfOk result (λ f. IsGroupOf self.new f × (calls_of f ≡ calls)) }
         ensures wrote { IfOk result (λ f. WritesGroup D.Disk self.old f self.new) }
         ensures err { OnErr result (StaysFor D.Disk self.old self.new) }
         ensures back { IfErr result (λ given. given ≡ calls) }
-        ensures reserved { OnErr result (HasReserved D.Disk self.old.log self.new.log) }
-        ensures outcome { self.new.outcome ≡ self.old.outcome }
+        ensures reserved { OnErr result (HasReserved D.Disk (log_of self.old) (log_of self.new)) }
+        ensures outcome { outcome_of self.new ≡ outcome_of self.old }
         ensures company { connected_to self.new ≡ connected_to self.old }
     {
         let Ok(together) = self.group_of(&calls) else {

@@ -8,24 +8,25 @@ use xa_disk::{Disk, Effect, MemDisk};
 impl Manager<MemDisk> {
     ghost use Rattle.xa_log.specs.Planned.{CrashesBoth, Plans, PlansStop};
     ghost use Rattle.xa_manager.specs.Answered.{StaysFor};
+    ghost use Rattle.xa_manager.specs.Parts.{log_of, outcome_of};
 
     /// Plans that the k-th device call of the current file's disk from now fails, as `MemDisk::fail` does. Nothing else
     /// changes.
     pub fn fail(&mut self, k: u64, effect: Effect) -> Result<(), AllocError>
-        ensures planned { Plans result k effect self.old.log.disk self.new.log.disk }
-        ensures other { self.new.log.other ≡ self.old.log.other }
+        ensures planned { Plans result k effect (log_of self.old).disk (log_of self.new).disk }
+        ensures other { (log_of self.new).other ≡ (log_of self.old).other }
         ensures stays { StaysFor ⟦<MemDisk as Disk>⟧ self.old self.new }
-        ensures outcome { self.new.outcome ≡ self.old.outcome }
+        ensures outcome { outcome_of self.new ≡ outcome_of self.old }
     {
         self.log.fail(k, effect)
     }
 
     /// The same of the other file's disk.
     pub fn fail_other(&mut self, k: u64, effect: Effect) -> Result<(), AllocError>
-        ensures planned { Plans result k effect self.old.log.other self.new.log.other }
-        ensures current { self.new.log.disk ≡ self.old.log.disk }
+        ensures planned { Plans result k effect (log_of self.old).other (log_of self.new).other }
+        ensures current { (log_of self.new).disk ≡ (log_of self.old).disk }
         ensures stays { StaysFor ⟦<MemDisk as Disk>⟧ self.old self.new }
-        ensures outcome { self.new.outcome ≡ self.old.outcome }
+        ensures outcome { outcome_of self.new ≡ outcome_of self.old }
     {
         self.log.fail_other(k, effect)
     }
@@ -33,20 +34,20 @@ impl Manager<MemDisk> {
     /// Plans that from its k-th device call from now the current file's disk stops, as `MemDisk::stop` does. Nothing
     /// else changes.
     pub fn stop(&mut self, k: u64)
-        ensures planned { PlansStop k self.old.log.disk self.new.log.disk }
-        ensures other { self.new.log.other ≡ self.old.log.other }
+        ensures planned { PlansStop k (log_of self.old).disk (log_of self.new).disk }
+        ensures other { (log_of self.new).other ≡ (log_of self.old).other }
         ensures stays { StaysFor ⟦<MemDisk as Disk>⟧ self.old self.new }
-        ensures outcome { self.new.outcome ≡ self.old.outcome }
+        ensures outcome { outcome_of self.new ≡ outcome_of self.old }
     {
         self.log.stop(k);
     }
 
     /// The same of the other file's disk.
     pub fn stop_other(&mut self, k: u64)
-        ensures planned { PlansStop k self.old.log.other self.new.log.other }
-        ensures current { self.new.log.disk ≡ self.old.log.disk }
+        ensures planned { PlansStop k (log_of self.old).other (log_of self.new).other }
+        ensures current { (log_of self.new).disk ≡ (log_of self.old).disk }
         ensures stays { StaysFor ⟦<MemDisk as Disk>⟧ self.old self.new }
-        ensures outcome { self.new.outcome ≡ self.old.outcome }
+        ensures outcome { outcome_of self.new ≡ outcome_of self.old }
     {
         self.log.stop_other(k);
     }
@@ -58,7 +59,7 @@ impl Manager<MemDisk> {
         current: u64,
         other: u64,
     ) -> Result<(MemDisk, MemDisk), AllocError>
-        ensures { IfOk result (CrashesBoth current other self.log) }
+        ensures { IfOk result (CrashesBoth current other (log_of self)) }
     {
         self.log.into_crashed_disks(current, other)
     }

@@ -26,6 +26,7 @@ ghost use Rattle.xa_manager.specs.Answered.{StaysFor, HasCalled, NoneRises};
 ghost use Rattle.xa_manager.specs.Crash.{LeavesLook, LeavesBoot, LeavesBy};
 ghost use Rattle.xa_manager.specs.LogStands.{Trusts, HasRecords};
 ghost use Rattle.xa_manager.specs.Managed.{ManagerStandsFor, AnswersAs, Doubts};
+ghost use Rattle.xa_manager.specs.Parts.{log_of, outcome_of};
 ghost use Rattle.xa_manager.specs.Promises.{RestartPromises};
 ghost use Rattle.xa_manager.specs.Rereading.{IsFate, Found, IsCounted, GoesOn, HoldsNext, IsNext, IsReady, Plans};
 ghost use Rattle.xa_manager.specs.Reserving.{HasReserved};
@@ -295,21 +296,22 @@ impl<D: Disk> Manager<D> {
     /// stood for.
     pub fn restart(&mut self) -> Reply
         ensures answered { MatchBool (is_memory result.detail)
-            (StaysFor D.Disk self.old self.new × (self.new.outcome ≡ self.old.outcome))
+            (StaysFor D.Disk self.old self.new × (outcome_of self.new ≡ outcome_of self.old))
             ((s : State) → ManagerStandsFor D.Disk self.old s → Trusts D.Disk
-            → AnswersAs D.Disk (taken (restart_turn s) self.new.outcome) result self.new) }
+            → AnswersAs D.Disk (taken (restart_turn s) (outcome_of self.new)) result self.new) }
         ensures promises { is_memory result.detail ≡ false → RestartPromises D.Disk self.old result self.new }
         ensures pinned { is_memory result.detail ≡ true → result ≡ detailed XAER_RMFAIL Detail.Memory }
         ensures leaves { MatchBool (is_memory result.detail)
             ((s : State) → ManagerStandsFor D.Disk self.old s → Trusts D.Disk
-            → LeavesLook D.Disk self.old.log self.new.log s)
+            → LeavesLook D.Disk (log_of self.old) (log_of self.new) s)
             ((s : State) → ManagerStandsFor D.Disk self.old s → Trusts D.Disk
-            → LeavesBy D.Disk self.old.log (restart_turn s) self.new.outcome self.new.log s) }
-        ensures called { is_memory result.detail ≡ false → HasCalled D.Disk self.new.outcome self.old.log self.new.log }
+            → LeavesBy D.Disk (log_of self.old) (restart_turn s) (outcome_of self.new) (log_of self.new) s) }
+        ensures called { is_memory result.detail ≡ false
+            → HasCalled D.Disk (outcome_of self.new) (log_of self.old) (log_of self.new) }
         ensures connected { connected_to self.new ≡ connected_to self.old }
         ensures place { result.place ≡ 0 }
         ensures limits { IsReply result }
-        ensures quiet { is_memory result.detail ≡ true → NoneRises D.failures self.old.log self.new.log }
+        ensures quiet { is_memory result.detail ≡ true → NoneRises D.failures (log_of self.old) (log_of self.new) }
     {
         match self.restarted() {
             Ok(done) => {

@@ -12,6 +12,7 @@ ghost use Rattle.xa_manager.specs.Answered.{StaysFor};
 ghost use Rattle.xa_manager.specs.Connected.{connected_to};
 ghost use Rattle.xa_manager.specs.GroupAnswers.{AnswersTogether, TakeAnswers, TakesGroup, told};
 ghost use Rattle.xa_manager.specs.Once.{AreOnce};
+ghost use Rattle.xa_manager.specs.Parts.{log_of, outcome_of};
 ghost use Rattle.xa_manager.specs.Reserving.{HasReserved};
 ghost use Rattle.xa_manager.specs.Together.{AreReady, IsGroup, members_of};
 
@@ -83,8 +84,8 @@ impl<D: Disk> Manager<D> {
         ensures ok { IfOk result (λ replies. AnswersTogether D.Disk self.old calls.now replies.items self.new) }
         ensures once { IfOk result (λ replies. AreOnce replies.items) }
         ensures err { OnErr result (StaysFor D.Disk self.old self.new) }
-        ensures reserved { OnErr result (HasReserved D.Disk self.old.log self.new.log) }
-        ensures outcome { self.new.outcome ≡ self.old.outcome }
+        ensures reserved { OnErr result (HasReserved D.Disk (log_of self.old) (log_of self.new)) }
+        ensures outcome { outcome_of self.new ≡ outcome_of self.old }
         ensures company { connected_to self.new ≡ connected_to self.old }
     {
         let together = self.group_of(calls)?;
