@@ -1,6 +1,7 @@
 -- A group that is pending: its records are written, their sync is to follow, and sessions work on other branches
 -- meanwhile.
 use Rattle.std.specs.Prelude.{ℕ, ◌≡◌, ◌<◌, ◌≤◌, true, false, Some, None, List, [], ◌∷◌, length, map, MatchBool, IsSomeAnd, Result, Vec}
+use Rattle.std.specs.declared.alloc.Global.{Global}
 use Rattle.std.specs.List.{AllByRecursion}
 use Rattle.xa_assoc.specs.Refusals.{is_memory}
 use Rattle.xa_disk.specs.declared.disk.Disk.{Ghosts}
@@ -51,7 +52,7 @@ work_by s n (request.Delete key) = put_by s key None (own_branch s n)
 work_by s n _ = ok s
 
 -- the calls that were asked, with those that were left out of it
-abbrev pub calls_of : PendingGroup → Vec Asked
+abbrev pub calls_of : PendingGroup → Vec Asked Global
 calls_of f = f.calls
 
 -- what the write of its records was answered

@@ -29,6 +29,7 @@ use Rattle.xa_script.specs.Requests.{ReadsTexts}
 use Rattle.xa_play.specs.Disks.{StandsFor, Answered, Stays, Planned, Stopped, FilesStand, MemoryIsTrusted, first_seen, second_seen}
 use Rattle.xa_manager.specs.Files.{FilesStandFor}
 use Rattle.xa_manager.specs.Answered.{StepsAs}
+use Rattle.xa_manager.specs.Parts.{log_of, outcome_of}
 use Rattle.xa_disk.specs.contracts.memory.MemDiskDisk.TheImpl.{ghosts as mem_disks}
 use Rattle.std.specs.Prelude.{⊤, pos}
 use Rattle.std.specs.declared.alloc.AllocError.{AllocError}
@@ -73,16 +74,16 @@ follows m' reply None h = absurd h
 follows m' reply (Some a) h = (a.after, ap (λ (r : Reply). Some (record { reply = r; after = a.after })) h.0, h.1)
 
 answers_by : (trusted : MemoryIsTrusted) (n : ℕ) (m m' : Manager MemDisk) (asked : Event) (reply : Reply) (run : Run) (b : Bool) →
-    MatchBool b (Stays m m' × (m'.outcome ≡ m.outcome)) (StepsAs mem_disks m asked reply m') →
+    MatchBool b (Stays m m' × (outcome_of m' ≡ outcome_of m)) (StepsAs mem_disks m asked reply m') →
     (b ≡ true → (may_want_memory asked ≡ true) × (reply ≡ wanted_memory asked)) → IsEvent asked → StandsAs [] n m run →
     Said run asked reply b (StandsAs [] n m')
 answers_by trusted n m m' asked reply run true h wanted event stands =
     let w = wanted refl in (w.0, w.1, (h.0 run.now stands.0, stands.1, stands.2))
 answers_by trusted n m m' asked reply run false h wanted event stands =
-    let a = follows m' reply (step run.now (Asked asked) m'.outcome) (h run.now stands.0 (inl trusted)) in
-    let entry : Entry = record { happening = Asked asked; outcome = m'.outcome; reply = reply } in
-    let same = asked_keeps run.now asked m'.outcome (record { reply = reply; after = a.0 }) a.1 in
-    (m'.outcome, (a.0, a.1, (a.2, same ∙ stands.1, run_more run entry a.0 stands.2 event a.1)))
+    let a = follows m' reply (step run.now (Asked asked) (outcome_of m')) (h run.now stands.0 (inl trusted)) in
+    let entry : Entry = record { happening = Asked asked; outcome = outcome_of m'; reply = reply } in
+    let same = asked_keeps run.now asked (outcome_of m') (record { reply = reply; after = a.0 }) a.1 in
+    (outcome_of m', (a.0, a.1, (a.2, same ∙ stands.1, run_more run entry a.0 stands.2 event a.1)))
 
 shows : (trusted : MemoryIsTrusted) (n : ℕ) (m m' : Manager MemDisk) (asked : Event) (answer : Option Reply) (run : Run) →
     IsSomeAnd answer (λ reply. Answered m asked reply m') → IsEvent asked → StandsAs [] n m run → Shows run asked (printed answer) (StandsAs [] n m')
@@ -133,7 +134,7 @@ line_plays trusted files laws name n m m' Reopen answer run h stands =
 line_plays trusted files laws name n m m' (Crash file keeps) answer run h stands = (
   ap printed h.0,
   h.1.0,
-  record { log = m.log; stands = stands.0.log trusted; left = h.1.1 },
+  record { log = log_of m; stands = stands.0.log trusted; left = h.1.1 },
   λ left is stand. reopens name n m' left is (h.1.2 left.now (laws left is).recoverable stand),
 )
 

@@ -21,6 +21,7 @@ use Rattle.xa_manager.specs.Files.{FilesStandFor}
 use Rattle.xa_manager.specs.LogStands.{Trusts, LogStandsFor}
 use Rattle.xa_manager.specs.Managed.{ManagerStandsFor}
 use Rattle.xa_manager.specs.declared.manager.Manager.{Manager}
+use Rattle.xa_manager.specs.Parts.{log_of, outcome_of}
 use Rattle.xa_script.specs.declared.call_effect.CallEffect.{CallEffect}
 use Rattle.xa_script.specs.declared.call_effect.CallEffect.TheVariants as script
 use Rattle.xa_script.specs.declared.log_file.LogFile.{LogFile}
@@ -50,30 +51,34 @@ as_effect script.Lost = planned.Lost
 
 -- neither what the manager stands for changes, nor the outcome that it tells
 abbrev pub StaysAndTells : Manager MemDisk → Manager MemDisk → Type 0
-StaysAndTells m m' = Stays m m' × (m'.outcome ≡ m.outcome)
+StaysAndTells m m' = Stays m m' × (outcome_of m' ≡ outcome_of m)
 
 -- It is planned, of the file that the line names, that this device call fails with this effect. Nothing else changes:
 -- neither the other file's disk, nor what the manager stands for, nor the outcome that it tells.
 abbrev pub Planned : Result (Unit {0}) AllocError → LogFile → ℕ → CallEffect → Manager MemDisk → Manager MemDisk
     → Type 0
 Planned result Current call effect m m' =
-    Plans result call (as_effect effect) m.log.disk m'.log.disk × (m'.log.other ≡ m.log.other) × StaysAndTells m m'
+    Plans result call (as_effect effect) (log_of m).disk (log_of m').disk
+    × ((log_of m').other ≡ (log_of m).other) × StaysAndTells m m'
 Planned result Other call effect m m' =
-    Plans result call (as_effect effect) m.log.other m'.log.other × (m'.log.disk ≡ m.log.disk) × StaysAndTells m m'
+    Plans result call (as_effect effect) (log_of m).other (log_of m').other
+    × ((log_of m').disk ≡ (log_of m).disk) × StaysAndTells m m'
 
 -- It is planned, of the file that the line names, that from this device call on its disk stops, and nothing else changes.
 abbrev pub Stopped : LogFile → ℕ → Manager MemDisk → Manager MemDisk → Type 0
 Stopped Current call m m' =
-    PlansStop call m.log.disk m'.log.disk × (m'.log.other ≡ m.log.other) × StaysAndTells m m'
+    PlansStop call (log_of m).disk (log_of m').disk
+    × ((log_of m').other ≡ (log_of m).other) × StaysAndTells m m'
 Stopped Other call m m' =
-    PlansStop call m.log.other m'.log.other × (m'.log.disk ≡ m.log.disk) × StaysAndTells m m'
+    PlansStop call (log_of m).other (log_of m').other
+    × ((log_of m').disk ≡ (log_of m).disk) × StaysAndTells m m'
 
 -- what a read gives of the two files
 abbrev pub first_seen : Manager MemDisk → List ℕ
-first_seen m = seen (first_of m.log)
+first_seen m = seen (first_of (log_of m))
 
 abbrev pub second_seen : Manager MemDisk → List ℕ
-second_seen m = seen (second_of m.log)
+second_seen m = seen (second_of (log_of m))
 
 -- the files of a manager's log stand for whichever state it stands for
 abbrev pub FilesStand : Type 0

@@ -9,6 +9,7 @@ use Rattle.xa_model.specs.Answer.{plain}
 use Rattle.xa_model.specs.State.{State}
 use Rattle.xa_manager.specs.declared.fault.ManagerFault.{ManagerFault}
 use Rattle.xa_manager.specs.declared.manager.Manager.{Manager}
+use Rattle.xa_manager.specs.Parts.{log_of}
 use Rattle.xa_xid.specs.Triple.{Triple}
 use Rattle.xa_script.specs.declared.line.Line.{Line}
 use Rattle.xa_script.specs.declared.line.Line.TheVariants.{Silent, Unknown, Connect, Hangup, Call, Status, Fail, Stop, Reopen, Crash}
@@ -60,7 +61,7 @@ module _ (name : List ℕ) (log_bytes : ℕ) where
   -- the manager was opened on what a crash left of its disks
   abbrev pub Crashed : LogFile → ℕ → Manager MemDisk → Manager MemDisk → Type 0
   Crashed file keeps m m' =
-      (disks : MemDisk × MemDisk) × CrashesTo file keeps m.log disks
+      (disks : MemDisk × MemDisk) × CrashesTo file keeps (log_of m) disks
       × OpenedOn name log_bytes (seen disks.0) (seen disks.1) m'
 
   -- What one line is answered by a manager, and leaves of it.

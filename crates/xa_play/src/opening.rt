@@ -2,6 +2,7 @@
 ghost use Rattle.std.specs.Prelude.{◌≡◌, ◌↔◌, ◌⊎◌, IfErr, IfOk, IsErrOf};
 ghost use Rattle.xa_model.specs.History.{fresh};
 ghost use Rattle.xa_manager.specs.Opening.{IsBadSetting};
+ghost use Rattle.xa_manager.specs.Parts.{log_of};
 ghost use Rattle.xa_play.specs.Disks.{StandsFor, CrashesTo, OpenedOn, first_seen, second_seen, seen};
 ghost use Rattle.xa_play.specs.Played.{Crashed, IsOpeningFault};
 
@@ -89,7 +90,7 @@ fn crashed_disks(
     file: LogFile,
     keeps: u64,
 ) -> Result<(MemDisk, MemDisk), AllocError>
-    ensures { IfOk result (CrashesTo file keeps manager.log) }
+    ensures { IfOk result (CrashesTo file keeps (log_of manager)) }
 {
     match file {
         LogFile::Current => manager.into_crashed_disks(keeps, 0),

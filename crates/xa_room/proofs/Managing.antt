@@ -13,6 +13,7 @@ use Rattle.xa_manager.specs.Crash.{CrashesAs}
 use Rattle.xa_manager.specs.LogStands.{Trusts}
 use Rattle.xa_manager.specs.Managed.{ManagerStandsFor}
 use Rattle.xa_manager.proofs.Counting.{called_alone, called_for, none_by}
+use Rattle.xa_manager.specs.Parts.{log_of, outcome_of}
 use Rattle.xa_room.specs.Manages.{Acts}
 
 each_way : (b : Bool) (A B C E : Type 0) → (b ≡ true → A → C) → (b ≡ false → B → E) → MatchBool b A B → MatchBool b C E
@@ -25,16 +26,16 @@ by_cases false C E f g = g refl
 
 pub acted : {D : Type 0} (disks : Ghosts D) (old : Manager D) (event : Event) (reply : Reply) (new : Manager D)
     → FullyAnswered disks old event reply new
-    → Acts (ManagerStandsFor disks) (Trusts disks) (λ m. m.outcome)
-    (λ event outcome a b. HasCalledFor disks (is_trim event) outcome a.log b.log) (λ event outcome a b. CrashesAs disks a event outcome b) (λ m. counted_by disks.failures m.log) old event reply new
+    → Acts (ManagerStandsFor disks) (Trusts disks) (λ m. outcome_of m)
+    (λ event outcome a b. HasCalledFor disks (is_trim event) outcome (log_of a) (log_of b)) (λ event outcome a b. CrashesAs disks a event outcome b) (λ m. counted_by disks.failures (log_of m)) old event reply new
 acted disks old event reply new full = record {
   answered = each_way (is_memory reply.detail) _ _ _ _ (λ e h. h.0) (λ e h. h) full.answered;
   pinned = full.pinned;
   called = full.called;
   crash = full.crash;
   counted = by_cases (is_memory reply.detail) _ _
-      (λ e s stands. none_by disks old.log new.log (full.quiet e))
+      (λ e s stands. none_by disks (log_of old) (log_of new) (full.quiet e))
       (λ e s stands premise.
       let called = full.called e s stands premise in
-      (called_alone disks (is_trim event) new.outcome old.log new.log called, called_for disks (is_trim event) new.outcome old.log new.log called));
+      (called_alone disks (is_trim event) (outcome_of new) (log_of old) (log_of new) called, called_for disks (is_trim event) (outcome_of new) (log_of old) (log_of new) called));
 }

@@ -27,6 +27,7 @@ use Rattle.xa_manager.specs.Counted.{counted_by}
 use Rattle.xa_manager.specs.Managed.{ManagerStandsFor}
 use Rattle.xa_manager.specs.GroupAnswers as manager
 use Rattle.xa_manager.specs.GroupAnswers.{AreReplies, IsReplyTo}
+use Rattle.xa_manager.specs.Parts.{log_of}
 use Rattle.xa_manager.specs.Reserving.{HasReserved}
 use Rattle.xa_manager.specs.Together.{Member, TakesTogether, part_of, parts_of}
 use Rattle.xa_manager.specs.declared.manager.Manager.{Manager}
@@ -109,5 +110,5 @@ pub group_lost : (s : State) (calls : List Asked) (a : Appending) (c : Member) (
 group_lost s calls a c cs r rs h = λ i. one_lost s calls (Appended Lost) a c r h.0 i ∷ all_lost s calls (Joined Lost) a cs rs h.1 i
 
 module _ {D : Type 0} (disks : Ghosts D) where
-  pub rests : (old new : Manager D) → StaysFor disks old new → HasReserved disks old.log new.log → Rests (ManagerStandsFor disks) (λ m. counted_by disks.failures m.log) old new
-  rests old new stays r = record { stays = stays; counted = none_by disks old.log new.log (none_rises disks old.log new.log r old.log (refl, refl)) }
+  pub rests : (old new : Manager D) → StaysFor disks old new → HasReserved disks (log_of old) (log_of new) → Rests (ManagerStandsFor disks) (λ m. counted_by disks.failures (log_of m)) old new
+  rests old new stays r = record { stays = stays; counted = none_by disks (log_of old) (log_of new) (none_rises disks (log_of old) (log_of new) r (log_of old) (refl, refl)) }

@@ -11,6 +11,7 @@ use Rattle.xa_manager.specs.Counted.{RiseBy, failures_in}
 use Rattle.xa_manager.specs.Crash.{LeavesAppend}
 use Rattle.xa_manager.specs.LogStands.{Trusts}
 use Rattle.xa_manager.specs.Managed.{ManagerStandsFor}
+use Rattle.xa_manager.specs.Parts.{log_of}
 use Rattle.xa_manager.specs.Together.{asked_at}
 use Rattle.xa_manager.specs.declared.manager.Manager.{Manager}
 use Rattle.xa_manager.specs.declared.together.Asked.{Asked}
@@ -98,4 +99,4 @@ lost_entries (e ∷ es) = lost_entry (Appended Lost) e ∷ map (lost_entry (Join
 abbrev pub CrashesTogether : {D : Type 0} → disk.Ghosts D → List Event → Manager D → Manager D → Type 0
 CrashesTogether disks events m m' =
     (s : State) → ManagerStandsFor disks m s → Trusts disks
-    → (lost : State) × Leads s (lost_entries events) lost × LeavesAppend disks m.log m'.log s lost
+    → (lost : State) × Leads s (lost_entries events) lost × LeavesAppend disks (log_of m) (log_of m') s lost

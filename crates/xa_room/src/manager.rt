@@ -14,6 +14,7 @@ impl<D: Disk> Manages for Manager<D> {
     ghost use Rattle.xa_manager.specs.Crash.{CrashesAs};
     ghost use Rattle.xa_manager.specs.LogStands.{Trusts};
     ghost use Rattle.xa_manager.specs.Managed.{ManagerStandsFor};
+    ghost use Rattle.xa_manager.specs.Parts.{log_of, outcome_of};
     ghost use Rattle.xa_manager.specs.Status.{versions_of};
     ghost use Rattle.xa_room.specs.Together.{CrashesTogether};
 
@@ -21,15 +22,15 @@ impl<D: Disk> Manages for Manager<D> {
 
     ghost trusts = { Trusts D.Disk };
 
-    ghost told = { λ m. m.outcome };
+    ghost told = { λ m. outcome_of m };
 
-    ghost has_called = { λ event outcome old new. HasCalledFor D.Disk (is_trim event) outcome old.log new.log };
+    ghost has_called = { λ event outcome old new. HasCalledFor D.Disk (is_trim event) outcome (log_of old) (log_of new) };
 
     ghost crashes = { λ event outcome old new. CrashesAs D.Disk old event outcome new };
 
     ghost crashes_together = { λ events old new. CrashesTogether D.Disk events old new };
 
-    ghost failures = { λ m. counted_by D.failures m.log };
+    ghost failures = { λ m. counted_by D.failures (log_of m) };
 
     ghost has_session = { λ m n. (connected_to m).has n };
 

@@ -14,7 +14,8 @@ use Rattle.xa_manager.specs.Answered.{FullyAnswered, HasCalled, StaysFor, as_app
 use Rattle.xa_manager.specs.Counted.{RiseBy, counted_by, failures_in, failures_of_append}
 use Rattle.xa_manager.specs.LogStands.{Trusts}
 use Rattle.xa_manager.specs.Managed.{ManagerStandsFor}
-use Rattle.xa_manager.specs.Pending.{HasFinished, IsPending, IsPendingFrom, WorksBeside, WritesGroup}
+use Rattle.xa_manager.specs.Parts.{log_of}
+use Rattle.xa_manager.specs.Pending.{HasFinished, IsPending, IsPendingFrom, WorksBeside, WritesGroup, calls_of, write_of}
 use Rattle.xa_manager.specs.Reserving.{HasReserved}
 use Rattle.xa_manager.specs.declared.manager.Manager.{Manager}
 use Rattle.xa_manager.specs.declared.pending.PendingGroup.{PendingGroup}
@@ -99,30 +100,30 @@ module _ {D : Type 0} (disks : disk.Ghosts D) where
   sides : (log : LogView D) → counted_by F log ≡ (if log.on_first then F log.disk else F log.other, if log.on_first then F log.other else F log.disk)
   sides log = λ i. (either F log.on_first log.disk log.other i, either F log.on_first log.other log.disk i)
 
-  wrote_rises : (m m' : Manager D) (f : PendingGroup) → WritesGroup disks m f m' → RiseBy 0 (counted_by F m.log) (counted_before F f m'.log)
+  wrote_rises : (m m' : Manager D) (f : PendingGroup) → WritesGroup disks m f m' → RiseBy 0 (counted_by F (log_of m)) (counted_before F f (log_of m'))
   wrote_rises m m' f w =
       let log = w.log in
       let h = w.written in
-      let first = none_by disks m.log log (none_rises disks m.log log w.reserved m.log (refl, refl)) in
-      let then_ : RiseBy 0 (counted_by F log) (if log.on_first then (before_write f.written.write (F m'.log.disk), F log.other) else (F log.other, before_write f.written.write (F m'.log.disk)))
-      = subst (λ (x : ℕ × ℕ). RiseBy 0 x (if log.on_first then (before_write f.written.write (F m'.log.disk), F log.other) else (F log.other, before_write f.written.write (F m'.log.disk)))) (sym (sides log))
-      (begin_sides log.on_first (F log.disk) (F log.other) (before_write f.written.write (F m'.log.disk)) (begin_one f.written.write _ (F log.disk) (F m'.log.disk) _ _ h.calls)) in
-      let same : counted_before F f m'.log ≡ (if log.on_first then (before_write f.written.write (F m'.log.disk), F log.other) else (F log.other, before_write f.written.write (F m'.log.disk)))
-      = λ i. if h.other.1 i then (before_write f.written.write (F m'.log.disk), F (h.other.0 i)) else (F (h.other.0 i), before_write f.written.write (F m'.log.disk)) in
-      rise_both 0 0 (counted_by F m.log) (counted_by F log) (counted_before F f m'.log) first (subst (λ (x : ℕ × ℕ). RiseBy 0 (counted_by F log) x) (sym same) then_)
+      let first = none_by disks (log_of m) log (none_rises disks (log_of m) log w.reserved (log_of m) (refl, refl)) in
+      let then_ : RiseBy 0 (counted_by F log) (if log.on_first then (before_write (write_of f) (F (log_of m').disk), F log.other) else (F log.other, before_write (write_of f) (F (log_of m').disk)))
+      = subst (λ (x : ℕ × ℕ). RiseBy 0 x (if log.on_first then (before_write (write_of f) (F (log_of m').disk), F log.other) else (F log.other, before_write (write_of f) (F (log_of m').disk)))) (sym (sides log))
+      (begin_sides log.on_first (F log.disk) (F log.other) (before_write (write_of f) (F (log_of m').disk)) (begin_one (write_of f) _ (F log.disk) (F (log_of m').disk) _ _ h.calls)) in
+      let same : counted_before F f (log_of m') ≡ (if log.on_first then (before_write (write_of f) (F (log_of m').disk), F log.other) else (F log.other, before_write (write_of f) (F (log_of m').disk)))
+      = λ i. if h.other.1 i then (before_write (write_of f) (F (log_of m').disk), F (h.other.0 i)) else (F (h.other.0 i), before_write (write_of f) (F (log_of m').disk)) in
+      rise_both 0 0 (counted_by F (log_of m)) (counted_by F log) (counted_before F f (log_of m')) first (subst (λ (x : ℕ × ℕ). RiseBy 0 (counted_by F log) x) (sym same) then_)
 
-  finished_rises : (m m' : Manager D) (f : PendingGroup) (a : Appending) (log : LogView D) (s : State) → IsPendingFrom disks log m f s → HasCalled disks (Appended a) log m'.log
-      → SettlesBy f.written.write (as_appended a) (F m.log.disk) (F m'.log.disk) → RiseBy (failures_of_append a) (counted_before F f m.log) (counted_by F m'.log)
+  finished_rises : (m m' : Manager D) (f : PendingGroup) (a : Appending) (log : LogView D) (s : State) → IsPendingFrom disks log m f s → HasCalled disks (Appended a) log (log_of m')
+      → SettlesBy (write_of f) (as_appended a) (F (log_of m).disk) (F (log_of m').disk) → RiseBy (failures_of_append a) (counted_before F f (log_of m)) (counted_by F (log_of m'))
   finished_rises m m' f a log s fl called fails =
       let h = fl.written in
-      let other : m'.log.other ≡ m.log.other = called.0 ∙ sym h.other.0 in
-      let side : m'.log.on_first ≡ m.log.on_first = called.1 ∙ sym h.other.1 in
-      let x = before_write f.written.write (F m.log.disk) in
-      let there : RiseBy (failures_of_append a) (counted_before F f m.log) (if m.log.on_first then F m'.log.disk else F m.log.other, if m.log.on_first then F m.log.other else F m'.log.disk)
-      = finish_sides (failures_of_append a) m.log.on_first x (F m.log.other) (F m'.log.disk) (finish_one f.written.write a _ (F log.disk) (F m.log.disk) (F m'.log.disk) _ _ h.calls fails) in
-      let same : counted_by F m'.log ≡ (if m.log.on_first then F m'.log.disk else F m.log.other, if m.log.on_first then F m.log.other else F m'.log.disk)
-      = sides m'.log ∙ (λ i. (if side i then F m'.log.disk else F (other i), if side i then F (other i) else F m'.log.disk)) in
-      subst (λ (y : ℕ × ℕ). RiseBy (failures_of_append a) (counted_before F f m.log) y) (sym same) there
+      let other : (log_of m').other ≡ (log_of m).other = called.0 ∙ sym h.other.0 in
+      let side : (log_of m').on_first ≡ (log_of m).on_first = called.1 ∙ sym h.other.1 in
+      let x = before_write (write_of f) (F (log_of m).disk) in
+      let there : RiseBy (failures_of_append a) (counted_before F f (log_of m)) (if (log_of m).on_first then F (log_of m').disk else F (log_of m).other, if (log_of m).on_first then F (log_of m).other else F (log_of m').disk)
+      = finish_sides (failures_of_append a) (log_of m).on_first x (F (log_of m).other) (F (log_of m').disk) (finish_one (write_of f) a _ (F log.disk) (F (log_of m).disk) (F (log_of m').disk) _ _ h.calls fails) in
+      let same : counted_by F (log_of m') ≡ (if (log_of m).on_first then F (log_of m').disk else F (log_of m).other, if (log_of m).on_first then F (log_of m).other else F (log_of m').disk)
+      = sides (log_of m') ∙ (λ i. (if side i then F (log_of m').disk else F (other i), if side i then F (other i) else F (log_of m').disk)) in
+      subst (λ (y : ℕ × ℕ). RiseBy (failures_of_append a) (counted_before F f (log_of m)) y) (sym same) there
 
   -- ---- events, with no group pending
 
@@ -148,8 +149,8 @@ module _ {D : Type 0} (disks : disk.Ghosts D) where
   map_some (Some a) P Q f h = f a h
 
   module _ (m m' : Manager D) (f : PendingGroup) (event : Event) (reply : Reply) (w : WorksBeside disks m f event reply m') where
-    same_counts : RiseBy 0 (counted_before F f m.log) (counted_before F f m'.log)
-    same_counts = subst (λ (l : LogView D). RiseBy 0 (counted_before F f m.log) (counted_before F f l)) (sym w.log) (rise_none (counted_before F f m.log))
+    same_counts : RiseBy 0 (counted_before F f (log_of m)) (counted_before F f (log_of m'))
+    same_counts = subst (λ (l : LogView D). RiseBy 0 (counted_before F f (log_of m)) (counted_before F f l)) (sym w.log) (rise_none (counted_before F f (log_of m)))
 
     stays_by : (b : Bool)
         → ((log : LogView D) (s : State) → IsPendingFrom disks log m f s → MatchBool b (IsPendingFrom disks log m' f s)
@@ -160,8 +161,8 @@ module _ {D : Type 0} (disks : disk.Ghosts D) where
     stays_by true h = λ s st. (st.0, h st.0 s st.1)
     stays_by false h = λ s st premise. map_some (step s (turn.Asked event) Quiet) _ _ (λ a x. (x.0, (st.0, x.1))) (h st.0 s st.1)
 
-    counts_by : (b : Bool) → MatchBool b ((s : State) → IsPending disks m f s → RiseBy 0 (counted_before F f m.log) (counted_before F f m'.log))
-        ((s : State) → IsPending disks m f s → Trusts disks ⊎ (begins_boot event ≡ false) → (joins Quiet ≡ false) × RiseBy (failures_in Quiet) (counted_before F f m.log) (counted_before F f m'.log))
+    counts_by : (b : Bool) → MatchBool b ((s : State) → IsPending disks m f s → RiseBy 0 (counted_before F f (log_of m)) (counted_before F f (log_of m')))
+        ((s : State) → IsPending disks m f s → Trusts disks ⊎ (begins_boot event ≡ false) → (joins Quiet ≡ false) × RiseBy (failures_in Quiet) (counted_before F f (log_of m)) (counted_before F f (log_of m')))
     counts_by true = λ s st. same_counts
     counts_by false = λ s st premise. (refl, same_counts)
 
@@ -177,7 +178,7 @@ module _ {D : Type 0} (disks : disk.Ghosts D) where
   -- ---- it is finished
 
   pub answered_group : (m m' : Manager D) (f : PendingGroup) (replies : List (ℕ × Reply)) → HasFinished disks m f replies m'
-      → AnswersAs (manages_of disks) (gr m (Some f)) f.calls.items replies (gr m' None)
+      → AnswersAs (manages_of disks) (gr m (Some f)) (calls_of f).items replies (gr m' None)
   answered_group m m' f [] h = absurd h
   answered_group m m' f (r ∷ rs) h =
       let first = h.0 in
@@ -187,24 +188,24 @@ module _ {D : Type 0} (disks : disk.Ghosts D) where
       let per = h.5 in (
         a,
         record {
-          told = all_told f.calls.items a (first ∷ rest) (r ∷ rs) are;
-          unplaced = all_unplaced f.calls.items a (first ∷ rest) (r ∷ rs) are;
+          told = all_told (calls_of f).items a (first ∷ rest) (r ∷ rs) are;
+          unplaced = all_unplaced (calls_of f).items a (first ∷ rest) (r ∷ rs) are;
           leads = λ s st.
               let x = (per st.0 s st.1).leads in
-              (x.0, subst (λ (es : List Entry). Leads s es x.0) (group_told s f.calls.items a first rest r rs are) x.1, x.2);
+              (x.0, subst (λ (es : List Entry). Leads s es x.0) (group_told s (calls_of f).items a first rest r rs are) x.1, x.2);
           called = λ s st log s' fl. (per log s' fl).called;
           crash = λ log s fl trusts.
               let y = (per log s fl).crash trusts in
-              (y.0, subst (λ (es : List Entry). Leads s es y.0) (group_lost s f.calls.items a first rest r rs are) y.1, y.2);
+              (y.0, subst (λ (es : List Entry). Leads s es y.0) (group_lost s (calls_of f).items a first rest r rs are) y.1, y.2);
           counted = λ s st. finished_rises m m' f a st.0 s st.1 (per st.0 s st.1).called h.4;
         },
       )
 
-  pub not_finished : (m m' : Manager D) (f : PendingGroup) → ((log : LogView D) (s : State) → IsPendingFrom disks log m f s → IsPendingFrom disks log m' f s) → m'.log ≡ m.log
+  pub not_finished : (m m' : Manager D) (f : PendingGroup) → ((log : LogView D) (s : State) → IsPendingFrom disks log m f s → IsPendingFrom disks log m' f s) → log_of m' ≡ log_of m
       → RestsAs (manages_of disks) (gr m (Some f)) (gr m' (Some f))
   not_finished m m' f stays same = record {
     stays = λ s st. (st.0, stays st.0 s st.1);
-    counted = subst (λ (l : LogView D). RiseBy 0 (counted_before F f m.log) (counted_before F f l)) (sym same) (rise_none (counted_before F f m.log));
+    counted = subst (λ (l : LogView D). RiseBy 0 (counted_before F f (log_of m)) (counted_before F f l)) (sym same) (rise_none (counted_before F f (log_of m)));
   }
 
   -- ---- the same, of a manager that has it pending
@@ -214,13 +215,13 @@ module _ {D : Type 0} (disks : disk.Ghosts D) where
   worked g m' f event reply is w =
       at g.pending (Some f) (Some f) (Some f) (λ x y. ActsAs (manages_of disks) (gr g.manager x) event reply (gr m' y)) is refl (acted_beside g.manager m' f event reply w)
 
-  pub finished : (g : GroupManager D) (m' : Manager D) (p' : Option PendingGroup) (f : PendingGroup) (calls : List Asked) (replies : List (ℕ × Reply)) → g.pending ≡ Some f → p' ≡ None → calls ≡ f.calls.items → HasFinished disks g.manager f replies m'
+  pub finished : (g : GroupManager D) (m' : Manager D) (p' : Option PendingGroup) (f : PendingGroup) (calls : List Asked) (replies : List (ℕ × Reply)) → g.pending ≡ Some f → p' ≡ None → calls ≡ (calls_of f).items → HasFinished disks g.manager f replies m'
       → AnswersAs (manages_of disks) g calls replies (gr m' p')
   finished g m' p' f calls replies is none same h =
       at g.pending (Some f) p' None (λ x y. AnswersAs (manages_of disks) (gr g.manager x) calls replies (gr m' y)) is none
       (subst (λ (l : List Asked). AnswersAs (manages_of disks) (gr g.manager (Some f)) l replies (gr m' None)) (sym same) (answered_group g.manager m' f replies h))
 
-  pub unfinished : (g : GroupManager D) (m' : Manager D) (f f' : PendingGroup) → g.pending ≡ Some f → f' ≡ f → ((log : LogView D) (s : State) → IsPendingFrom disks log g.manager f s → IsPendingFrom disks log m' f s) → m'.log ≡ g.manager.log
+  pub unfinished : (g : GroupManager D) (m' : Manager D) (f f' : PendingGroup) → g.pending ≡ Some f → f' ≡ f → ((log : LogView D) (s : State) → IsPendingFrom disks log g.manager f s → IsPendingFrom disks log m' f s) → log_of m' ≡ log_of g.manager
       → RestsAs (manages_of disks) g (gr m' (Some f'))
   unfinished g m' f f' is same stays log =
       at g.pending (Some f) (Some f') (Some f) (λ x y. RestsAs (manages_of disks) (gr g.manager x) (gr m' y)) is (ap Some same) (not_finished g.manager m' f stays log)

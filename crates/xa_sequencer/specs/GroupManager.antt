@@ -10,7 +10,8 @@ use Rattle.xa_manager.specs.Counted.{counted_by}
 use Rattle.xa_manager.specs.Crash.{CrashesAs, LeavesAppend}
 use Rattle.xa_manager.specs.LogStands.{Trusts}
 use Rattle.xa_manager.specs.Managed.{ManagerStandsFor}
-use Rattle.xa_manager.specs.Pending.{IsGroupOf, IsPending, IsPendingFrom, LeavesPending}
+use Rattle.xa_manager.specs.Parts.{log_of, outcome_of}
+use Rattle.xa_manager.specs.Pending.{IsGroupOf, IsPending, IsPendingFrom, LeavesPending, calls_of, write_of}
 use Rattle.xa_manager.specs.Status.{versions_of}
 use Rattle.xa_manager.specs.declared.manager.Manager.{Manager}
 use Rattle.xa_manager.specs.declared.pending.PendingGroup.{PendingGroup}
@@ -37,7 +38,7 @@ HasItsGroup m (Some f) = IsGroupOf m f
 -- the calls of the pending group
 abbrev pub calls_in : Option PendingGroup → Option (List Asked)
 calls_in None = None
-calls_in (Some f) = Some f.calls.items
+calls_in (Some f) = Some (calls_of f).items
 
 pub has_none : {D : Type 0} (m : Manager D) (p : Option PendingGroup) → calls_in p ≡ None → HasItsGroup m p
 has_none m None none = tt
@@ -50,17 +51,17 @@ StandsWith disks m (Some f) s = IsPending disks m f s
 
 -- No device is called while a group is pending.
 abbrev pub told_with : {D : Type 0} → Manager D → Option PendingGroup → Outcome
-told_with m None = m.outcome
+told_with m None = outcome_of m
 told_with m (Some f) = Quiet
 
 -- What the device did, by whether a group was pending before and is afterwards: for one that is no more, from the log on
 -- to which it was written.
 abbrev pub HasCalledWith : {D : Type 0} → disk.Ghosts D → Event → Outcome → Manager D → Option PendingGroup → Manager D
     → Option PendingGroup → Type 0
-HasCalledWith disks event outcome m None m' p = HasCalledFor disks (is_trim event) outcome m.log m'.log
-HasCalledWith disks event outcome m (Some f) m' (Some f') = m'.log ≡ m.log
+HasCalledWith disks event outcome m None m' p = HasCalledFor disks (is_trim event) outcome (log_of m) (log_of m')
+HasCalledWith disks event outcome m (Some f) m' (Some f') = log_of m' ≡ log_of m
 HasCalledWith {D} disks event outcome m (Some f) m' None =
-    (log : LogView D) (s : State) → IsPendingFrom disks log m f s → HasCalled disks outcome log m'.log
+    (log : LogView D) (s : State) → IsPendingFrom disks log m f s → HasCalled disks outcome log (log_of m')
 
 -- what a crash at any moment of an event leaves
 abbrev pub CrashesWith : {D : Type 0} → disk.Ghosts D → Event → Outcome → Manager D → Option PendingGroup → Manager D
@@ -75,7 +76,7 @@ abbrev pub CrashesTogetherWith : {D : Type 0} → disk.Ghosts D → List Event �
 CrashesTogetherWith disks events m None m' = CrashesTogether disks events m m'
 CrashesTogetherWith {D} disks events m (Some f) m' =
     (log : LogView D) (s : State) → IsPendingFrom disks log m f s → Trusts disks
-    → (lost : State) × Leads s (lost_entries events) lost × LeavesAppend disks log m'.log s lost
+    → (lost : State) × Leads s (lost_entries events) lost × LeavesAppend disks log (log_of m') s lost
 
 -- How many calls of a disk had failed before a write, by its answer and by how many have after it. At its top a count
 -- says nothing.
@@ -87,13 +88,13 @@ before_write (Err _) n = if n == top then top else n - 1
 abbrev pub counted_before : {D : Type 0} → (D → ℕ) → PendingGroup → LogView D → ℕ × ℕ
 counted_before failures f log =
     if log.on_first
-    then (before_write f.written.write (failures log.disk), failures log.other)
-    else (failures log.other, before_write f.written.write (failures log.disk))
+    then (before_write (write_of f) (failures log.disk), failures log.other)
+    else (failures log.other, before_write (write_of f) (failures log.disk))
 
 -- how many calls of its two devices have failed; of a pending group's write none is counted yet
 abbrev pub failures_with : {D : Type 0} → disk.Ghosts D → Manager D → Option PendingGroup → ℕ × ℕ
-failures_with disks m None = counted_by disks.failures m.log
-failures_with disks m (Some f) = counted_before disks.failures f m.log
+failures_with disks m None = counted_by disks.failures (log_of m)
+failures_with disks m (Some f) = counted_before disks.failures f (log_of m)
 
 -- all of it
 abbrev pub manages_of : {D : Type 0} → disk.Ghosts D → Ghosts (GroupManager D)

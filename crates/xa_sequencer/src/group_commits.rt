@@ -9,7 +9,7 @@ use xa_manager::Asked;
 /// says it: each event is a step of the sequential resource manager, from whichever state the manager stood for; with a
 /// group pending these are the states before the group.
 pub trait GroupCommits {
-    ghost use Rattle.std.specs.Prelude.{ℕ, ◌≡◌, ◌≢◌, ◌+◌, true, is_none, List, Option, None, Some, MatchResult, IfErr, IfOk, OnErr, OnOk, pos};
+    ghost use Rattle.std.specs.Prelude.{◌≡◌, ◌≢◌, ◌+◌, true, is_none, List, Option, None, Some, MatchResult, IfErr, IfOk, OnErr, OnOk, pos};
     ghost use Rattle.std.specs.List.{AllByRecursion};
     ghost use Rattle.xa_frame.specs.Limits.{IsReply};
     ghost use Rattle.xa_model.specs.declared.event.Event.{Event};
