@@ -1,6 +1,6 @@
 use crate::rows::none_wrong;
 use crate::scripted::wrong_play;
-use xa_rows::{Line, OK, P1, P2, Play};
+use xa_rows::{HUNG_UP, Line, OK, P1, P2, Play};
 
 // What calls answer of an XID that isn't known.
 const UNKNOWN: [Line; 16] = [
@@ -153,19 +153,6 @@ const MARKED_AT_WORK: [Line; 11] = [
     ("1 end TMSUCCESS 1:bb:", "-6 Nothing"),
     ("1 commit TMONEPHASE 1:bb:", "104 Nothing"),
     ("1 rollback TMNOFLAGS 1:bb:", "-4 Nothing"),
-];
-
-// A session that is gone marks the branch at which it worked, not one that it had left.
-const HUNG_UP: [Line; 9] = [
-    ("1 start TMNOFLAGS 1:bb:", "0 Nothing number 4294967297"),
-    ("1 end TMSUCCESS 1:bb:", OK),
-    ("1 start TMNOFLAGS 1:aa:", "0 Nothing number 4294967298"),
-    ("2 start TMJOIN 1:aa:", "0 Nothing number 4294967298"),
-    ("1 hangup", OK),
-    ("2 end TMSUCCESS 1:aa:", "101 Nothing"),
-    ("2 prepare TMNOFLAGS 1:bb:", "3 Nothing"),
-    ("2 prepare TMNOFLAGS 1:aa:", "101 Nothing"),
-    ("2 prepare TMNOFLAGS 1:aa:", "-4 Nothing"),
 ];
 
 const MARKS: [Play; 2] = [&[&P2, &MARKED, &MARKED_AT_WORK], &[&P2, &HUNG_UP]];

@@ -1,35 +1,11 @@
 use crate::rows::none_wrong;
-use crate::scripted::{wrong_end, wrong_play};
+use crate::scripted::{wrong_after, wrong_end, wrong_play};
 use std::alloc::Global;
 use xa_rows::{
-    COMMITTED, LEAST_LOG_BYTES, LISTED, LOG_BYTES, LOSE_LATE, Line, OK, P1, P2, PREPARED,
-    PREPARED_LOG_BYTES, Play, READ_IN_SECOND, REOPEN, RESTART, WRITTEN,
+    AT_WORK, COMMIT_REFUSED, COMMITTED, LEAST_LOG_BYTES, LISTED, LOG_BYTES, LOG_FULL, LOSE_LATE,
+    Line, OK, P1, P2, PREPARE_REFUSED, PREPARED, PREPARED_LOG_BYTES, Play, READ_IN_SECOND,
+    READ_IN_THIRD, REFUSED_AT_ONCE, REOPEN, RESTART, VOTED, WRITTEN,
 };
-
-// What is refused may be asked again, but a commit in one phase rolls its branch back.
-const REFUSED: [Line; 9] = [
-    ("fail 1 lost", ""),
-    ("1 prepare TMNOFLAGS 1:aa:bb", "-3 Device"),
-    ("1 prepare TMNOFLAGS 1:aa:bb", OK),
-    ("fail 1 lost", ""),
-    ("1 rollback TMNOFLAGS 1:aa:bb", "-3 Device"),
-    (
-        "1 recover TMSTARTRSCAN|TMENDRSCAN 10",
-        "1 Nothing xids 1:aa:bb",
-    ),
-    ("fail 2 lost", ""),
-    ("1 commit TMNOFLAGS 1:aa:bb", "4 Device"),
-    ("1 commit TMNOFLAGS 1:aa:bb", OK),
-];
-
-const REFUSED_AT_ONCE: [Line; 6] = [
-    ("1 start TMNOFLAGS 1:aa:cc", "0 Nothing number 4294967298"),
-    ("1 put 6b 77", OK),
-    ("1 end TMSUCCESS 1:aa:cc", OK),
-    ("fail 1 lost", ""),
-    ("1 commit TMONEPHASE 1:aa:cc", "-3 Device"),
-    ("1 commit TMONEPHASE 1:aa:cc", "-4 Nothing"),
-];
 
 const DECISIONS_REFUSED: [Line; 7] = [
     ("fail 1 kept", ""),
@@ -53,27 +29,20 @@ const PLANNED: [Line; 6] = [
 
 const REFUSALS: [Play; 3] = [
     &[
-        &P1,
-        &WRITTEN,
-        &REFUSED,
+        &PREPARE_REFUSED,
+        &LISTED,
+        &COMMIT_REFUSED,
         &REFUSED_AT_ONCE,
         &RESTART,
         &READ_IN_SECOND,
     ],
-    &[
-        &P1,
-        &WRITTEN,
-        &PREPARED,
-        &DECISIONS_REFUSED,
-        &RESTART,
-        &READ_IN_SECOND,
-    ],
-    &[&P1, &WRITTEN, &PLANNED, &RESTART, &READ_IN_SECOND],
+    &[&PREPARED, &DECISIONS_REFUSED, &RESTART, &READ_IN_SECOND],
+    &[&PLANNED, &RESTART, &READ_IN_SECOND],
 ];
 
 #[test]
 fn records_that_are_refused(rt: HostRuntime) {
-    none_wrong(&rt, wrong_play(rt.alloc(), &REFUSALS));
+    none_wrong(&rt, wrong_after(rt.alloc(), AT_WORK, &REFUSALS));
 }
 
 // A restart whose look at the log fails, at either file, and again.
@@ -106,56 +75,23 @@ const BOOT_FOUND: [Line; 4] = [
     ("1 get 6b", "-7 Nothing"),
 ];
 
-const THIRD_BOOT: [Line; 2] = [
-    ("1 start TMNOFLAGS 1:cc:", "0 Nothing number 12884901889"),
-    ("1 get 6b", "0 Nothing value 76"),
-];
-
 const RESTARTS: [Play; 4] = [
+    &[&UNREAD, &COMMITTED, &READ_IN_SECOND],
+    &[&BOOT_LOST, &RESTART, &LISTED, &COMMITTED, &READ_IN_SECOND],
+    &[&BOOT_FOUND, &RESTART, &LISTED, &COMMITTED, &READ_IN_THIRD],
     &[
-        &P1,
-        &WRITTEN,
-        &PREPARED,
-        &UNREAD,
-        &COMMITTED,
-        &READ_IN_SECOND,
-    ],
-    &[
-        &P1,
-        &WRITTEN,
-        &PREPARED,
-        &BOOT_LOST,
-        &RESTART,
-        &LISTED,
-        &COMMITTED,
-        &READ_IN_SECOND,
-    ],
-    &[
-        &P1,
-        &WRITTEN,
-        &PREPARED,
-        &BOOT_FOUND,
-        &RESTART,
-        &LISTED,
-        &COMMITTED,
-        &THIRD_BOOT,
-    ],
-    &[
-        &P1,
-        &WRITTEN,
-        &PREPARED,
         &BOOT_FOUND,
         &REOPEN,
         &P1,
         &LISTED,
         &COMMITTED,
-        &THIRD_BOOT,
+        &READ_IN_THIRD,
     ],
 ];
 
 #[test]
 fn restarts_that_fail(rt: HostRuntime) {
-    none_wrong(&rt, wrong_play(rt.alloc(), &RESTARTS));
+    none_wrong(&rt, wrong_after(rt.alloc(), VOTED, &RESTARTS));
 }
 
 // What is answered while the manager is down.
@@ -245,12 +181,6 @@ fn plays_that_open_again(rt: HostRuntime) {
     none_wrong(&rt, wrong_play(rt.alloc(), &OPENED_AGAIN));
 }
 
-// Where there is no room for a prepared branch it is rolled back.
-const FULL: [Line; 2] = [
-    ("1 prepare TMNOFLAGS 1:aa:bb", "104 LogFull"),
-    ("1 rollback TMNOFLAGS 1:aa:bb", "-4 Nothing"),
-];
-
 // A commit in one phase needs 49 + 61 + 4.
 const COMMITTED_LOG_BYTES: u64 = 114;
 
@@ -286,7 +216,7 @@ const ROOMS: [(u64, [Play; 1]); 7] = [
         PREPARED_LOG_BYTES,
         [&[&P1, &WRITTEN, &PREPARED, &REOPEN, &P1, &COMPLETED_IN_ROOM]],
     ),
-    (PREPARED_LOG_BYTES - 1, [&[&P1, &WRITTEN, &FULL]]),
+    (PREPARED_LOG_BYTES - 1, [&[&P1, &WRITTEN, &LOG_FULL]]),
     (
         COMMITTED_LOG_BYTES,
         [&[&P1, &WRITTEN, &COMMITTED_AT_ONCE, &RESTART, &READ_IN_SECOND]],

@@ -1,48 +1,17 @@
 use crate::rows::none_wrong;
-use crate::scripted::wrong_play;
+use crate::scripted::{wrong_after, wrong_play};
 use xa_rows::{
-    ABSENT_IN_SECOND, COMMITTED, CRASH, DECIDED, FORGOTTEN, HEURISTIC, LISTED, Line, NONE_LISTED,
-    OK, P1, P2, PREPARED, Play, READ_IN_SECOND, REOPEN, RESTART, WRITTEN,
+    ABSENT_IN_SECOND, COMMITTED, CRASH, DECIDED, DECIDED_AND_RESTARTED, FORGOTTEN, HEURISTIC,
+    LISTED, Line, NONE_LISTED, OK, P1, P2, Play, READ_IN_SECOND, READ_ONLY, REOPEN, RESTART, VOTED,
+    WRITTEN_AFTER_A_READ,
 };
 
 // A branch in doubt is recovered until it is committed, behind a restart, a reopening and a crash too.
 const RECOVERED: [Play; 4] = [
+    &[&LISTED, &RESTART, &LISTED, &COMMITTED, &NONE_LISTED],
+    &[&LISTED, &REOPEN, &P1, &LISTED, &COMMITTED, &NONE_LISTED],
+    &[&LISTED, &CRASH, &P1, &LISTED, &COMMITTED, &NONE_LISTED],
     &[
-        &P1,
-        &WRITTEN,
-        &PREPARED,
-        &LISTED,
-        &RESTART,
-        &LISTED,
-        &COMMITTED,
-        &NONE_LISTED,
-    ],
-    &[
-        &P1,
-        &WRITTEN,
-        &PREPARED,
-        &LISTED,
-        &REOPEN,
-        &P1,
-        &LISTED,
-        &COMMITTED,
-        &NONE_LISTED,
-    ],
-    &[
-        &P1,
-        &WRITTEN,
-        &PREPARED,
-        &LISTED,
-        &CRASH,
-        &P1,
-        &LISTED,
-        &COMMITTED,
-        &NONE_LISTED,
-    ],
-    &[
-        &P1,
-        &WRITTEN,
-        &PREPARED,
         &RESTART,
         &CRASH,
         &P1,
@@ -58,31 +27,12 @@ const RECOVERED: [Play; 4] = [
 
 #[test]
 fn branches_in_doubt(rt: HostRuntime) {
-    none_wrong(&rt, wrong_play(rt.alloc(), &RECOVERED));
+    none_wrong(&rt, wrong_after(rt.alloc(), VOTED, &RECOVERED));
 }
 
-// A branch without writes is gone once it is prepared.
-const READ_ONLY: [Line; 5] = [
-    ("1 start TMNOFLAGS 1:aa:", "0 Nothing number 4294967297"),
-    ("1 end TMSUCCESS 1:aa:", OK),
-    ("1 prepare TMNOFLAGS 1:aa:", "3 Nothing"),
-    ("1 commit TMNOFLAGS 1:aa:", "-4 Nothing"),
-    ("1 recover TMSTARTRSCAN|TMENDRSCAN 10", "0 Nothing xids"),
-];
-
-// What it read in the first boot makes no write of the second late.
-const BOOTS: [Line; 8] = [
-    ("1 start TMNOFLAGS 1:aa:", "0 Nothing number 4294967297"),
-    ("1 get 6b", "0 Nothing absent"),
-    ("1 end TMSUCCESS 1:aa:", OK),
-    ("1 prepare TMNOFLAGS 1:aa:", "3 Nothing"),
-    ("1 restart", OK),
-    ("1 start TMNOFLAGS 1:bb:", "0 Nothing number 8589934593"),
-    ("1 put 6b 76", OK),
+// A key that was read in the first boot is written in the second, and is found in the fourth.
+const LATER_BOOTS: [Line; 8] = [
     ("1 end TMSUCCESS 1:bb:", OK),
-];
-
-const LATER_BOOTS: [Line; 7] = [
     ("1 commit TMONEPHASE 1:bb:", OK),
     ("reopen", OK),
     ("connect", "0 Nothing number 1"),
@@ -105,8 +55,8 @@ const WORK_GONE: [Line; 8] = [
 ];
 
 const BOOT_PLAYS: [Play; 3] = [
-    &[&P1, &READ_ONLY],
-    &[&P1, &BOOTS, &LATER_BOOTS],
+    &[&P1, &READ_ONLY, &NONE_LISTED],
+    &[&P1, &WRITTEN_AFTER_A_READ, &LATER_BOOTS],
     &[&P1, &WORK_GONE],
 ];
 
@@ -129,11 +79,8 @@ const DECIDED_UNOPENED: [Line; 3] = [
     ("2 forget TMNOFLAGS 1:aa:bb", "-6 Nothing"),
 ];
 
-const HEURISTICS: [Play; 4] = [
+const HEURISTICS: [Play; 3] = [
     &[
-        &P1,
-        &WRITTEN,
-        &PREPARED,
         &DECIDED,
         &HEURISTIC,
         &LISTED,
@@ -143,20 +90,6 @@ const HEURISTICS: [Play; 4] = [
         &READ_IN_SECOND,
     ],
     &[
-        &P1,
-        &WRITTEN,
-        &PREPARED,
-        &DECIDED,
-        &RESTART,
-        &LISTED,
-        &HEURISTIC,
-        &READ_IN_SECOND,
-        &FORGOTTEN,
-    ],
-    &[
-        &P1,
-        &WRITTEN,
-        &PREPARED,
         &DECIDED_BACK,
         &LISTED,
         &RESTART,
@@ -164,19 +97,13 @@ const HEURISTICS: [Play; 4] = [
         &ABSENT_IN_SECOND,
         &FORGOTTEN,
     ],
-    &[
-        &P1,
-        &WRITTEN,
-        &PREPARED,
-        &DECIDED_UNOPENED,
-        &HEURISTIC,
-        &FORGOTTEN,
-    ],
+    &[&DECIDED_UNOPENED, &HEURISTIC, &FORGOTTEN],
 ];
 
 #[test]
 fn decisions_of_the_operator(rt: HostRuntime) {
-    none_wrong(&rt, wrong_play(rt.alloc(), &HEURISTICS));
+    none_wrong(&rt, wrong_after(rt.alloc(), VOTED, &HEURISTICS));
+    none_wrong(&rt, wrong_play(rt.alloc(), &[DECIDED_AND_RESTARTED]));
 }
 
 // Two branches in doubt, each with a write of its own key.

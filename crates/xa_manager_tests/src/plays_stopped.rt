@@ -1,21 +1,19 @@
 use crate::rows::none_wrong;
-use crate::scripted::{plays_parts, wrong_play};
+use crate::scripted::{plays_parts, wrong_after};
 use std::alloc::{AllocError, Global};
 use xa_rows::{
-    ABSENT_IN_SECOND, COMMITTED, DECIDED, FORGOTTEN, HEURISTIC, LISTED, Line, NONE_LISTED, OK, P1,
-    PREPARED, Play, READ_IN_SECOND, RESTART, WRITTEN,
+    ABSENT_IN_SECOND, AT_WORK, DECIDED, FORGOTTEN, HEURISTIC, IN_FOURTH, IN_SECOND, IN_THIRD,
+    LISTED, Line, NONE_LISTED, OK, P1, PREPARED, Play, READ_IN_SECOND, RESTART, VOTED, WRITTEN,
 };
 
 /// A line that has a disk stop from one of its device calls on, the reply of the call after it, the crash that follows,
 /// and what is found then.
 pub type Stop = (&'static str, &'static str, &'static str, Play);
 
-const LOST: &str = "-7 Device";
+pub const LOST: &str = "-7 Device";
 
 // What is found after a crash: the branch in doubt, to be committed; or committed; or not at all. Each boot's first
-// branch has its number.
-const IN_DOUBT: Play = &[&P1, &LISTED, &COMMITTED, &READ_IN_SECOND];
-
+// branch has its number; a later boot than the second finds it where one before it was logged.
 const DONE: Play = &[&P1, &NONE_LISTED, &READ_IN_SECOND];
 
 const GONE: Play = &[&P1, &NONE_LISTED, &ABSENT_IN_SECOND];
@@ -30,9 +28,9 @@ const PREPARE: &[Stop] = &[
     ("stop 2", LOST, "crash", GONE),
     ("stop 2", LOST, "crash other 16777216", GONE),
     ("stop 2", LOST, "crash 60", GONE),
-    ("stop 2", LOST, "crash 61", IN_DOUBT),
-    ("stop 3", OK, "crash", IN_DOUBT),
-    ("stop other 1", OK, "crash 0", IN_DOUBT),
+    ("stop 2", LOST, "crash 61", IN_SECOND),
+    ("stop 3", OK, "crash", IN_SECOND),
+    ("stop other 1", OK, "crash 0", IN_SECOND),
 ];
 
 const COMMIT_AT_ONCE: &[Stop] = &[
@@ -46,27 +44,27 @@ const COMMIT_AT_ONCE: &[Stop] = &[
 
 // The record of a completion or a decision has 46 bytes, and that of a forgotten one 45.
 const COMMIT: &[Stop] = &[
-    ("stop 1", LOST, "crash", IN_DOUBT),
-    ("stop 2", LOST, "crash", IN_DOUBT),
-    ("stop 2", LOST, "crash 45", IN_DOUBT),
+    ("stop 1", LOST, "crash", IN_SECOND),
+    ("stop 2", LOST, "crash", IN_SECOND),
+    ("stop 2", LOST, "crash 45", IN_SECOND),
     ("stop 2", LOST, "crash 46", DONE),
     ("stop 3", OK, "crash", DONE),
     ("stop other 1", OK, "crash", DONE),
 ];
 
 const ROLLBACK: &[Stop] = &[
-    ("stop 1", LOST, "crash", IN_DOUBT),
-    ("stop 2", LOST, "crash", IN_DOUBT),
-    ("stop 2", LOST, "crash 45", IN_DOUBT),
+    ("stop 1", LOST, "crash", IN_SECOND),
+    ("stop 2", LOST, "crash", IN_SECOND),
+    ("stop 2", LOST, "crash 45", IN_SECOND),
     ("stop 2", LOST, "crash 46", GONE),
     ("stop 3", OK, "crash", GONE),
     ("stop other 1", OK, "crash", GONE),
 ];
 
 const DECIDE: &[Stop] = &[
-    ("stop 1", LOST, "crash", IN_DOUBT),
-    ("stop 2", LOST, "crash", IN_DOUBT),
-    ("stop 2", LOST, "crash 45", IN_DOUBT),
+    ("stop 1", LOST, "crash", IN_SECOND),
+    ("stop 2", LOST, "crash", IN_SECOND),
+    ("stop 2", LOST, "crash 45", IN_SECOND),
     ("stop 2", LOST, "crash 46", COMPLETED),
     ("stop 3", OK, "crash", COMPLETED),
     ("stop other 1", OK, "crash", COMPLETED),
@@ -81,43 +79,28 @@ const FORGET: &[Stop] = &[
     ("stop other 1", OK, "crash", DONE),
 ];
 
-// The branch is in doubt in a later boot, since one before it was logged.
-const READ_IN_THIRD: [Line; 2] = [
-    ("1 start TMNOFLAGS 1:cc:", "0 Nothing number 12884901889"),
-    ("1 get 6b", "0 Nothing value 76"),
-];
-
-const READ_IN_FOURTH: [Line; 2] = [
-    ("1 start TMNOFLAGS 1:cc:", "0 Nothing number 17179869185"),
-    ("1 get 6b", "0 Nothing value 76"),
-];
-
-const IN_THIRD: Play = &[&P1, &LISTED, &COMMITTED, &READ_IN_THIRD];
-
-const IN_FOURTH: Play = &[&P1, &LISTED, &COMMITTED, &READ_IN_FOURTH];
-
 // A restart syncs, measures and reads the current file. The other one, which is empty, is synced and measured, and then
 // the new log is written to it: its front with a length 0 and a sync, two records and a sync, the first length, which has
 // 4 bytes, and a sync.
 const FIRST_RESTART: &[Stop] = &[
-    ("stop 1", LOST, "crash", IN_DOUBT),
-    ("stop 2", LOST, "crash", IN_DOUBT),
-    ("stop 3", LOST, "crash", IN_DOUBT),
+    ("stop 1", LOST, "crash", IN_SECOND),
+    ("stop 2", LOST, "crash", IN_SECOND),
+    ("stop 3", LOST, "crash", IN_SECOND),
     ("stop 4", OK, "crash", IN_THIRD),
-    ("stop other 1", LOST, "crash", IN_DOUBT),
-    ("stop other 2", LOST, "crash", IN_DOUBT),
-    ("stop other 3", LOST, "crash", IN_DOUBT),
-    ("stop other 4", LOST, "crash", IN_DOUBT),
-    ("stop other 4", LOST, "crash other 5", IN_DOUBT),
-    ("stop other 4", LOST, "crash other 12", IN_DOUBT),
-    ("stop other 5", LOST, "crash", IN_DOUBT),
-    ("stop other 6", LOST, "crash other 20", IN_DOUBT),
-    ("stop other 7", LOST, "crash", IN_DOUBT),
-    ("stop other 7", LOST, "crash other 16777216", IN_DOUBT),
-    ("stop other 8", LOST, "crash", IN_DOUBT),
-    ("stop other 9", LOST, "crash", IN_DOUBT),
-    ("stop other 9", LOST, "crash 16777216", IN_DOUBT),
-    ("stop other 9", LOST, "crash other 3", IN_DOUBT),
+    ("stop other 1", LOST, "crash", IN_SECOND),
+    ("stop other 2", LOST, "crash", IN_SECOND),
+    ("stop other 3", LOST, "crash", IN_SECOND),
+    ("stop other 4", LOST, "crash", IN_SECOND),
+    ("stop other 4", LOST, "crash other 5", IN_SECOND),
+    ("stop other 4", LOST, "crash other 12", IN_SECOND),
+    ("stop other 5", LOST, "crash", IN_SECOND),
+    ("stop other 6", LOST, "crash other 20", IN_SECOND),
+    ("stop other 7", LOST, "crash", IN_SECOND),
+    ("stop other 7", LOST, "crash other 16777216", IN_SECOND),
+    ("stop other 8", LOST, "crash", IN_SECOND),
+    ("stop other 9", LOST, "crash", IN_SECOND),
+    ("stop other 9", LOST, "crash 16777216", IN_SECOND),
+    ("stop other 9", LOST, "crash other 3", IN_SECOND),
     ("stop other 9", LOST, "crash other 4", IN_THIRD),
     ("stop other 10", OK, "crash", IN_THIRD),
 ];
@@ -153,10 +136,6 @@ pub fn wrong_stop(alloc: Global, call: &Call, rows: &[Stop]) -> Option<usize> {
     }
     None
 }
-
-const AT_WORK: Play = &[&P1, &WRITTEN];
-
-const VOTED: Play = &[&P1, &WRITTEN, &PREPARED];
 
 const BY_OPERATOR: Play = &[&P1, &WRITTEN, &PREPARED, &DECIDED];
 
@@ -328,12 +307,12 @@ const STAYS: [Line; 5] = [
 ];
 
 const PLANS: &[Play] = &[
-    &[&P1, &WRITTEN, &TAKEN_BACK, &P1, &NONE_LISTED],
-    &[&P1, &WRITTEN, &EARLIER, &P1, &NONE_LISTED],
-    &[&P1, &WRITTEN, &STAYS, &P1, &LISTED],
+    &[&TAKEN_BACK, &P1, &NONE_LISTED],
+    &[&EARLIER, &P1, &NONE_LISTED],
+    &[&STAYS, &P1, &LISTED],
 ];
 
 #[test]
 fn plans_of_stops(rt: HostRuntime) {
-    none_wrong(&rt, wrong_play(rt.alloc(), PLANS));
+    none_wrong(&rt, wrong_after(rt.alloc(), AT_WORK, PLANS));
 }

@@ -26,6 +26,16 @@ pub fn wrong_end(alloc: Global, log_bytes: u64, plays: &[Play], fault: &str) -> 
     None
 }
 
+/// The first of these parts that isn't played behind what stands before each of them.
+pub fn wrong_after(alloc: Global, before: Play, plays: &[Play]) -> Option<usize> {
+    for (index, play) in plays.iter().enumerate() {
+        if plays_parts(alloc, before, &[], play, "") != Ok(true) {
+            return Some(index);
+        }
+    }
+    None
+}
+
 /// The same of plays that are played to their ends, of a log of 2^30 bytes.
 pub fn wrong_play(alloc: Global, plays: &[Play]) -> Option<usize> {
     wrong_end(alloc, LOG_BYTES, plays, "")

@@ -1,11 +1,12 @@
 //! Trims that stop, or of which device calls fail, at each of their calls and in either file, and what an opening finds
 //! behind a crash.
-use crate::plays_stopped::{Stop, wrong_stop};
+use crate::plays_stopped::{LOST, Stop, wrong_stop};
 use crate::rows::none_wrong;
-use crate::scripted::wrong_play;
-use xa_rows::{COMMITTED, LISTED, Line, OK, P1, PREPARED, Play, READ_IN_SECOND, RESTART, WRITTEN};
-
-const LOST: &str = "-7 Device";
+use crate::scripted::wrong_after;
+use xa_rows::{
+    COMMITTED, IN_FOURTH, IN_SECOND, IN_THIRD, LISTED, Line, OK, P1, PREPARED, Play,
+    READ_IN_SECOND, READ_IN_THIRD, RESTART, VOTED, WRITTEN,
+};
 
 const REFUSED: &str = "-3 Device";
 
@@ -13,26 +14,7 @@ const KEPT: &str = "0 Nothing number 110";
 
 const TRIMMED: [Line; 1] = [("1 trim", KEPT)];
 
-const VOTED: Play = &[&P1, &WRITTEN, &PREPARED];
-
 const VOTED_AND_TRIMMED: Play = &[&P1, &WRITTEN, &PREPARED, &TRIMMED];
-
-// What is found in each boot: the branch is in doubt, and is committed then.
-const IN_SECOND: Play = &[&P1, &LISTED, &COMMITTED, &READ_IN_SECOND];
-
-const IN_THIRD: Play = &[&P1, &LISTED, &COMMITTED, &READ_IN_THIRD];
-
-const IN_FOURTH: Play = &[&P1, &LISTED, &COMMITTED, &READ_IN_FOURTH];
-
-const READ_IN_THIRD: [Line; 2] = [
-    ("1 start TMNOFLAGS 1:cc:", "0 Nothing number 12884901889"),
-    ("1 get 6b", "0 Nothing value 76"),
-];
-
-const READ_IN_FOURTH: [Line; 2] = [
-    ("1 start TMNOFLAGS 1:cc:", "0 Nothing number 17179869185"),
-    ("1 get 6b", "0 Nothing value 76"),
-];
 
 // A trim makes no call of the current file. To the other one it writes the new log: its front with a length 0 and a
 // sync, two records and a sync, the first length, which has 4 bytes, and a sync.
@@ -115,11 +97,8 @@ const FOUND_WITH_WORK: [Line; 5] = [
 const IS_GONE: [Line; 1] = [("1 end TMSUCCESS 1:dd:", "-4 Nothing")];
 
 const FAILING: &[Play] = &[
-    &[&P1, &WRITTEN, &PREPARED, &FAILS],
+    &[&FAILS],
     &[
-        &P1,
-        &WRITTEN,
-        &PREPARED,
         &LOST_WITH_WORK,
         &RESTART,
         &IS_GONE,
@@ -128,9 +107,6 @@ const FAILING: &[Play] = &[
         &READ_IN_SECOND,
     ],
     &[
-        &P1,
-        &WRITTEN,
-        &PREPARED,
         &FOUND_WITH_WORK,
         &RESTART,
         &IS_GONE,
@@ -142,5 +118,5 @@ const FAILING: &[Play] = &[
 
 #[test]
 fn trims_that_fail(rt: HostRuntime) {
-    none_wrong(&rt, wrong_play(rt.alloc(), FAILING));
+    none_wrong(&rt, wrong_after(rt.alloc(), VOTED, FAILING));
 }

@@ -1,5 +1,6 @@
 use std::alloc::Global;
 use std::cell::RefCell;
+use std::fmt::Display;
 use std::io::{self, ErrorKind, Write};
 use xa_rows::first_wrong;
 use xa_script::Style;
@@ -186,7 +187,7 @@ fn scripts_over_connections(rt: HostRuntime) {
     assert_eq!(rt; wrong_row(rt.alloc(), &ROWS), None, "the first wrong row");
 }
 
-fn has_text(alloc: Global, fault: TalkFault, text: &str) -> bool {
+pub fn has_text<F: Display + Drop>(alloc: Global, fault: F, text: &str) -> bool {
     match format!(in alloc; "xarm: {fault}") {
         Ok(line) => line.as_str() == text,
         Err(_) => false,

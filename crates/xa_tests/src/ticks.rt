@@ -1,5 +1,5 @@
 use crate::rows::none_wrong;
-use crate::talks::Server;
+use crate::talks::{Server, has_text};
 use std::alloc::Global;
 use std::cell::RefCell;
 use xa_frame::Reply;
@@ -158,13 +158,6 @@ fn wrong_row(alloc: Global, rows: &[Row]) -> Option<usize> {
 #[test]
 fn moments_over_a_connection(rt: HostRuntime) {
     none_wrong(&rt, wrong_row(rt.alloc(), &ROWS));
-}
-
-fn has_text(alloc: Global, fault: TickFault, text: &str) -> bool {
-    match format!(in alloc; "xarm: {fault}") {
-        Ok(line) => line.as_str() == text,
-        Err(_) => false,
-    }
 }
 
 #[test]
