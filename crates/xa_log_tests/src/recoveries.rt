@@ -5,7 +5,7 @@ use xa_record::{Record, read};
 use xa_recovery::{
     Durable, LogFault, RebuildFault, list_after, next_boot, rebuild, rebuild_log, snapshot,
 };
-use xa_rows::first_wrong;
+use xa_rows::{are_alike, first_wrong};
 use xa_shared::SharedBytes;
 use xa_xid::Xid;
 
@@ -227,15 +227,6 @@ fn has_one_of_each(durable: &Durable) -> bool {
         && durable.decided().len() == 1
 }
 
-fn are_xids(listed: &[Xid], wanted: &[&Xid]) -> bool {
-    for (xid, want) in listed.iter().zip(wanted) {
-        if *xid != **want {
-            return false;
-        }
-    }
-    listed.len() == wanted.len()
-}
-
 fn lists_as(
     alloc: Global,
     durable: &Durable,
@@ -244,7 +235,7 @@ fn lists_as(
     wanted: &[&Xid],
 ) -> bool {
     match list_after(alloc, durable, after, count) {
-        Ok(listed) => are_xids(&listed, wanted),
+        Ok(listed) => are_alike(&listed, wanted),
         Err(_) => false,
     }
 }

@@ -1,6 +1,6 @@
 //! What the tests of several crates have in common.
 //!
-//! - `table`: `first_wrong`, the first row of a table that isn't right
+//! - `table`: `first_wrong`, the first row of a table that isn't right; `are_alike`, whether a list is what is wanted
 //! - `parts`: `Line`, `Play`, and the parts that many plays have
 //! - `limits`: the greatest lengths and counts, as the documents state them
 #![tactic(auto)]
@@ -20,4 +20,4 @@ pub use parts::{
     READ_IN_THIRD, READ_ONLY, REFUSED_AT_ONCE, REOPEN, RESTART, VOTED, WRITTEN,
     WRITTEN_AFTER_A_READ,
 };
-pub use table::first_wrong;
+pub use table::{are_alike, first_wrong};

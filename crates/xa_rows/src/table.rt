@@ -12,3 +12,13 @@ pub fn first_wrong<T, F: Fn(&T) -> bool>(rows: &[T], is_right: F) -> Option<usiz
 {
     rows.iter().position(|row| !is_right(row))
 }
+
+/// Whether these values are listed, in this order.
+pub fn are_alike<T: PartialEq>(listed: &[T], wanted: &[&T]) -> bool {
+    for (value, want) in listed.iter().zip(wanted) {
+        if *value != **want {
+            return false;
+        }
+    }
+    listed.len() == wanted.len()
+}

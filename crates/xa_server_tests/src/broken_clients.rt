@@ -1,7 +1,7 @@
 ghost use Rattle.std.specs.Prelude.{◌≡◌};
 ghost use Rattle.xa_model.specs.State.{State};
 
-use crate::clients::{CALLS, OPEN, are_answered, client, listening, opened_at};
+use crate::clients::{CALLS, are_answered, client, is_cut_off, listening};
 use crate::desks::{PARTS, desk_over, is_audited, opened};
 use std::alloc::Global;
 use std::marker::Brand;
@@ -19,24 +19,6 @@ use xa_workers::{OpenGate, Report, WorkFault, run_workers};
 
 /// How many of them break off: inside the start, behind none of its bytes, one, and so on.
 const BROKEN: u8 = 16;
-
-/// The k-th client breaks off inside its second frame. It has the reply to its first one, and no more. A connect, an
-/// open and a hang-up are recorded of each client before it.
-fn is_cut_off<R: Net<Stream = TcpStream>>(
-    rt: &R,
-    alloc: Global,
-    address: SocketAddr,
-    k: u8,
-) -> bool {
-    let place = k.saturating_mul(3).saturating_add(2);
-    let Some(bytes) = CALLS.get(..OPEN.len() + k as usize) else {
-        return false;
-    };
-    match client(rt, alloc, address, bytes) {
-        Some(replies) => replies.as_slice() == opened_at(place).as_slice(),
-        None => false,
-    }
-}
 
 /// The last one doesn't break off. It has both replies.
 fn is_served<R: Net<Stream = TcpStream>>(rt: &R, alloc: Global, address: SocketAddr) -> bool {

@@ -1,4 +1,4 @@
-use crate::clients::{CALLS, OPEN, are_answered, client, listening, opened_at, reach};
+use crate::clients::{CALLS, are_answered, is_cut_off, listening, reach};
 use crate::desks::opened;
 use crate::servers::{EACH_CALL, Talked, is_as_played, script_of, talked};
 use std::alloc::Global;
@@ -88,23 +88,6 @@ fn loops_answer<
 fn loops_answer_as_play(rt: HostRuntime) {
     let script = script_of(rt.alloc(), EACH_CALL).expect(&rt, "a script");
     assert!(rt; loops_answer(&rt, EACH_CALL, script.as_slice()));
-}
-
-// The k-th client breaks off behind the k-th byte of its second frame. It has the reply to its first one.
-fn is_cut_off<R: Net<Stream = TcpStream>>(
-    rt: &R,
-    alloc: Global,
-    address: SocketAddr,
-    k: u8,
-) -> bool {
-    let place = k.saturating_mul(3).saturating_add(2);
-    let Some(bytes) = CALLS.get(..OPEN.len() + k as usize) else {
-        return false;
-    };
-    match client(rt, alloc, address, bytes) {
-        Some(replies) => replies.as_slice() == opened_at(place).as_slice(),
-        None => false,
-    }
 }
 
 // One that sends byte by byte, and takes its replies so.

@@ -1,6 +1,7 @@
 use xa_rows::{
-    COMMITTED, DECIDED, FORGOTTEN, HEURISTIC, LISTED, LOSE, LOSE_LATE, Line, NONE_LISTED, OK, P1,
-    P2, PREPARED, Play, READ_IN_SECOND, RESTART, WRITTEN,
+    COMMITTED, DECIDED, DECIDED_AND_RESTARTED, FORGOTTEN, HEURISTIC, HUNG_UP, LISTED, LOG_FULL,
+    LOSE, LOSE_LATE, Line, NONE_LISTED, OK, P1, P2, PREPARED, Play, READ_IN_SECOND, READ_ONLY,
+    REFUSED_AT_ONCE, RESTART, VOTED, WRITTEN, WRITTEN_AFTER_A_READ,
 };
 
 // Worked rows: what they ask, and what is answered with ample memory.
@@ -52,23 +53,6 @@ const BUSY: [Line; 5] = [
 
 const NOT_BUSY: [Line; 2] = [("2 put 6b 76", OK), ("1 get 6b", "0 Nothing absent")];
 
-const READ_ONLY: [Line; 4] = [
-    ("1 start TMNOFLAGS 1:aa:", "0 Nothing number 4294967297"),
-    ("1 end TMSUCCESS 1:aa:", OK),
-    ("1 prepare TMNOFLAGS 1:aa:", "3 Nothing"),
-    ("1 commit TMNOFLAGS 1:aa:", "-4 Nothing"),
-];
-
-const BOOTS: [Line; 7] = [
-    ("1 start TMNOFLAGS 1:aa:", "0 Nothing number 4294967297"),
-    ("1 get 6b", "0 Nothing absent"),
-    ("1 end TMSUCCESS 1:aa:", OK),
-    ("1 prepare TMNOFLAGS 1:aa:", "3 Nothing"),
-    ("1 restart", OK),
-    ("1 start TMNOFLAGS 1:bb:", "0 Nothing number 8589934593"),
-    ("1 put 6b 76", OK),
-];
-
 const FLAGS: [Line; 5] = [
     ("1 start TMJOIN|TMRESUME 1:aa:", "-5 Nothing"),
     ("1 start TMASYNC 1:aa:", "-2 Nothing"),
@@ -94,18 +78,6 @@ const MIGRATION: [Line; 8] = [
     ("3 start TMRESUME 1:bb:", "-6 Nothing"),
     ("1 close TMNOFLAGS", "-6 Nothing"),
     ("1 end TMSUCCESS 1:bb:", OK),
-];
-
-const HUNG_UP: [Line; 9] = [
-    ("1 start TMNOFLAGS 1:bb:", "0 Nothing number 4294967297"),
-    ("1 end TMSUCCESS 1:bb:", OK),
-    ("1 start TMNOFLAGS 1:aa:", "0 Nothing number 4294967298"),
-    ("2 start TMJOIN 1:aa:", "0 Nothing number 4294967298"),
-    ("1 hangup", OK),
-    ("2 end TMSUCCESS 1:aa:", "101 Nothing"),
-    ("2 prepare TMNOFLAGS 1:bb:", "3 Nothing"),
-    ("2 prepare TMNOFLAGS 1:aa:", "101 Nothing"),
-    ("2 prepare TMNOFLAGS 1:aa:", "-4 Nothing"),
 ];
 
 const TWO_BRANCHES: [Line; 8] = [
@@ -180,7 +152,7 @@ pub const ROWS: [Play; 18] = [
         &NONE_LISTED,
     ],
     &[&P1, &READ_ONLY],
-    &[&P1, &BOOTS],
+    &[&P1, &WRITTEN_AFTER_A_READ],
     &[&P1, &FLAGS],
     &[&P2, &XIDS],
     &[&P2, &THIRD, &MIGRATION],
@@ -195,17 +167,7 @@ pub const ROWS: [Play; 18] = [
         &FORGOTTEN,
         &NONE_LISTED,
     ],
-    &[
-        &P1,
-        &WRITTEN,
-        &PREPARED,
-        &DECIDED,
-        &RESTART,
-        &LISTED,
-        &HEURISTIC,
-        &READ_IN_SECOND,
-        &FORGOTTEN,
-    ],
+    DECIDED_AND_RESTARTED,
     &[&P2, &TWO_BRANCHES, &SCANNED],
     &[&OPENING],
     &[&P2, &MARKS],
@@ -221,15 +183,6 @@ const REFUSED: [Line; 8] = [
     ("fail 2 lost", ""),
     ("1 commit TMNOFLAGS 1:aa:bb", "4 Device"),
     ("1 commit TMNOFLAGS 1:aa:bb", OK),
-];
-
-const REFUSED_AT_ONCE: [Line; 6] = [
-    ("1 start TMNOFLAGS 1:aa:cc", "0 Nothing number 4294967298"),
-    ("1 put 6b 77", OK),
-    ("1 end TMSUCCESS 1:aa:cc", OK),
-    ("fail 1 lost", ""),
-    ("1 commit TMONEPHASE 1:aa:cc", "-3 Device"),
-    ("1 commit TMONEPHASE 1:aa:cc", "-4 Nothing"),
 ];
 
 const COMMIT_LOST: [Line; 2] = [
@@ -262,12 +215,7 @@ pub const FAILING: [Play; 3] = [
     ],
 ];
 
-const LOG_FULL: [Line; 2] = [
-    ("1 prepare TMNOFLAGS 1:aa:bb", "104 LogFull"),
-    ("1 rollback TMNOFLAGS 1:aa:bb", "-4 Nothing"),
-];
-
 /// Rows of a log that has room for a prepared branch, and of one that has a byte less.
-pub const ROOM: [Play; 1] = [&[&P1, &WRITTEN, &PREPARED]];
+pub const ROOM: [Play; 1] = [VOTED];
 
 pub const NO_ROOM: [Play; 1] = [&[&P1, &WRITTEN, &LOG_FULL]];

@@ -51,16 +51,19 @@ fn is_prepared(record: &Record, named: &Xid) -> bool {
     }
 }
 
-// read, and written again
+// A body's record, if that is written again as it was.
+fn read_again(alloc: Global, body: &[u8]) -> Option<Record> {
+    let record = read(alloc, body).ok()?;
+    if is_body(write(alloc, &record), body) {
+        Some(record)
+    } else {
+        None
+    }
+}
+
 fn reads_prepared(alloc: Global) -> Option<bool> {
     let named = Xid::take_text(b"1:aa:bb")?;
-    match read(alloc, &PREPARED) {
-        Ok(record) => {
-            let again = write(alloc, &record);
-            Some(is_prepared(&record, &named) && is_body(again, &PREPARED))
-        }
-        Err(_) => None,
-    }
+    Some(is_prepared(&read_again(alloc, &PREPARED)?, &named))
 }
 
 #[test]
@@ -93,19 +96,13 @@ fn is_base(record: &Record) -> bool {
     }
 }
 
-fn reads_base(alloc: Global) -> bool {
-    match read(alloc, &BASE) {
-        Ok(record) => {
-            let again = write(alloc, &record);
-            is_base(&record) && is_body(again, &BASE)
-        }
-        Err(_) => false,
-    }
+fn reads_base(alloc: Global) -> Option<bool> {
+    Some(is_base(&read_again(alloc, &BASE)?))
 }
 
 #[test]
 fn base(rt: HostRuntime) {
-    assert!(rt; reads_base(rt.alloc()));
+    assert!(rt; reads_base(rt.alloc()) == Some(true));
 }
 
 fn is_held(record: &Record, named: &Xid) -> bool {
@@ -121,13 +118,7 @@ fn is_held(record: &Record, named: &Xid) -> bool {
 
 fn reads_held(alloc: Global) -> Option<bool> {
     let named = Xid::take_text(b"1:aa:bb")?;
-    match read(alloc, &HELD) {
-        Ok(record) => {
-            let again = write(alloc, &record);
-            Some(is_held(&record, &named) && is_body(again, &HELD))
-        }
-        Err(_) => None,
-    }
+    Some(is_held(&read_again(alloc, &HELD)?, &named))
 }
 
 #[test]

@@ -7,6 +7,7 @@ use xa_desk::Served;
 use xa_frame::{
     Body, FrameFault, Question, Reply, Request, decode_question, encode_question, one_question,
 };
+use xa_rows::first_wrong;
 use xa_script::{Line, read_line, reply_line};
 
 /// The frame of its reply.
@@ -47,12 +48,10 @@ fn letter(alloc: Global, content: &[u8]) -> u8 {
 }
 
 fn wrong_content(alloc: Global, rows: &[(&[u8], u8)]) -> Option<usize> {
-    for (index, (content, expected)) in rows.iter().enumerate() {
-        if letter(alloc, content) != *expected {
-            return Some(index);
-        }
-    }
-    None
+    first_wrong(
+        rows,
+        |(content, expected)| letter(alloc, content) == *expected,
+    )
 }
 
 #[test]
@@ -125,12 +124,7 @@ fn asks_status(alloc: Global, line: &[u8]) -> bool {
 }
 
 fn wrong_line(alloc: Global, rows: &[(&[u8], bool)]) -> Option<usize> {
-    for (index, (line, asks)) in rows.iter().enumerate() {
-        if asks_status(alloc, line) != *asks {
-            return Some(index);
-        }
-    }
-    None
+    first_wrong(rows, |(line, asks)| asks_status(alloc, line) == *asks)
 }
 
 #[test]

@@ -2,6 +2,7 @@ use std::alloc::Global;
 use xa_assoc::Sessions;
 use xa_branch::{BeginFault, Branches, Kind, Known, Lasting, State};
 use xa_codes::{Direction, XA_RBOTHER, XAER_NOTA, XAER_PROTO};
+use xa_rows::are_alike;
 use xa_xid::Xid;
 
 fn first() -> Option<Xid> {
@@ -169,15 +170,6 @@ fn room_given_back(rt: HostRuntime) {
     assert!(rt; begins(&mut branches, &xid, 4294967297) && gives_back(&mut branches, &xid));
 }
 
-fn are(listed: &[Xid], wanted: &[&Xid]) -> bool {
-    for (xid, want) in listed.iter().zip(wanted) {
-        if *xid != **want {
-            return false;
-        }
-    }
-    listed.len() == wanted.len()
-}
-
 fn lists(
     alloc: Global,
     branches: &Branches,
@@ -186,7 +178,7 @@ fn lists(
     wanted: &[&Xid],
 ) -> bool {
     match branches.list_after(alloc, after, count) {
-        Ok(listed) => are(&listed, wanted),
+        Ok(listed) => are_alike(&listed, wanted),
         Err(_) => false,
     }
 }
