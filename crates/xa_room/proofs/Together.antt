@@ -1,20 +1,14 @@
--- A manager over a log answers calls together as a room asks.
-use Rattle.std.proofs.Common.{◌≡◌, ◌∙◌, ℕ, Bool, false, List, [], ◌∷◌, map, Some, Result, Ok, Err, IfOk, OnErr, refl, sym, ap, subst}
+-- What is told of calls that were answered together, and the entries that they are.
+use Rattle.std.proofs.Common.{◌≡◌, ◌∙◌, ℕ, false, List, [], ◌∷◌, map, Result, Ok, Err, IfOk, refl, sym, ap, subst}
 use Rattle.std.specs.List.{AllByRecursion}
 use Rattle.xa_assoc.specs.Refusals.{is_memory}
 use Rattle.xa_codes.specs.declared.codes.TheConstants.{XAER_RMFAIL}
 use Rattle.xa_codes.specs.declared.detail.Detail.TheVariants as detail
-use Rattle.xa_disk.specs.declared.disk.Disk.{Ghosts}
 use Rattle.xa_frame.specs.Limits.{IsReply}
 use Rattle.xa_frame.specs.declared.reply.Reply.{Reply}
 use Rattle.xa_frame.specs.declared.request.Request.{Request}
-use Rattle.xa_frame.specs.declared.request.Request.TheVariants.{Open, Close, Start, End, Prepare, Commit, Rollback, Forget, Recover, Get, Put, Delete, Decide, Doom, Restart, Timeout, Tick, Trim, Branches}
-use Rattle.xa_log.specs.LogView.{LogView}
-use Rattle.xa_xid.specs.Triple.{Triple}
 use Rattle.xa_model.specs.Answer.{detailed}
-use Rattle.xa_model.specs.Events.{asks_trim, is_trim}
-use Rattle.xa_model.specs.History.{Entry, Leads}
-use Rattle.xa_model.specs.Laws.Together.{entry_of, group_entries, replied, xid_of}
+use Rattle.xa_model.specs.Laws.Together.{entry_of, group_entries, replied}
 use Rattle.xa_model.specs.State.{State}
 use Rattle.xa_model.specs.Turn as turn
 use Rattle.xa_model.specs.declared.event.Event.TheVariants.{Call}
@@ -22,19 +16,10 @@ use Rattle.xa_model.specs.declared.outcome.Appending.{Appending}
 use Rattle.xa_model.specs.declared.outcome.Appending.TheVariants.{Kept, Refused, Lost}
 use Rattle.xa_model.specs.declared.outcome.Outcome.{Outcome}
 use Rattle.xa_model.specs.declared.outcome.Outcome.TheVariants.{Appended, Joined}
-use Rattle.xa_manager.specs.Answered.{HasCalledFor, StaysFor}
-use Rattle.xa_manager.specs.Counted.{counted_by}
-use Rattle.xa_manager.specs.Managed.{ManagerStandsFor}
-use Rattle.xa_manager.specs.GroupAnswers as manager
 use Rattle.xa_manager.specs.GroupAnswers.{AreReplies, IsReplyTo}
-use Rattle.xa_manager.specs.Parts.{log_of}
-use Rattle.xa_manager.specs.Reserving.{HasReserved}
-use Rattle.xa_manager.specs.Together.{Member, TakesTogether, part_of, parts_of}
-use Rattle.xa_manager.specs.declared.manager.Manager.{Manager}
+use Rattle.xa_manager.specs.Together.{Member, part_of, parts_of}
 use Rattle.xa_manager.specs.declared.together.Asked.{Asked}
-use Rattle.xa_manager.proofs.Counting.{called_for, none_by}
-use Rattle.xa_manager.proofs.Reserved.{none_reserved, none_rises}
-use Rattle.xa_room.specs.Together.{ActsTogether, AnswersTogether, AreUnplaced, CrashesTogether, IsToldOf, Rests, event_at, events_of, lost_entries, lost_entry, told_entries, told_entry}
+use Rattle.xa_room.specs.Together.{AreUnplaced, IsToldOf, event_at, events_of, lost_entries, lost_entry, told_entries, told_entry}
 
 pub if_ok : {A E : Type 0} (r : Result A E) (P Q : A → Type 0) → ((x : A) → P x → Q x) → IfOk r P → IfOk r Q
 if_ok (Ok x) P Q f h = f x h
@@ -108,7 +93,3 @@ all_lost s calls o a (c ∷ cs) (r ∷ rs) h = λ i. one_lost s calls o a c r h.
 pub group_lost : (s : State) (calls : List Asked) (a : Appending) (c : Member) (cs : List Member) (r : ℕ × Reply) (rs : List (ℕ × Reply))
     → AreReplies calls a (c ∷ cs) (r ∷ rs) → group_entries Lost (part_of s c) (parts_of s cs) ≡ lost_entries (events_of calls (r ∷ rs))
 group_lost s calls a c cs r rs h = λ i. one_lost s calls (Appended Lost) a c r h.0 i ∷ all_lost s calls (Joined Lost) a cs rs h.1 i
-
-module _ {D : Type 0} (disks : Ghosts D) where
-  pub rests : (old new : Manager D) → StaysFor disks old new → HasReserved disks (log_of old) (log_of new) → Rests (ManagerStandsFor disks) (λ m. counted_by disks.failures (log_of m)) old new
-  rests old new stays r = record { stays = stays; counted = none_by disks (log_of old) (log_of new) (none_rises disks (log_of old) (log_of new) r (log_of old) (refl, refl)) }

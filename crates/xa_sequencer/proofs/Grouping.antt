@@ -9,7 +9,7 @@ use Rattle.xa_manager.specs.Together.{asked_at}
 use Rattle.xa_manager.specs.declared.together.Asked.{Asked}
 use Rattle.xa_model.specs.Events.{HaveHappened, IsAsked}
 use Rattle.xa_model.specs.History as history
-use Rattle.xa_model.specs.History.{HasGroups, JoinAfter, Leads, append_in}
+use Rattle.xa_model.specs.History.{JoinAfter, Leads, append_in}
 use Rattle.xa_model.specs.State.{State}
 use Rattle.xa_model.specs.Turn as turn
 use Rattle.xa_model.specs.declared.event.Event.{Event}

@@ -10,13 +10,12 @@ use Rattle.xa_disk.specs.declared.disk.DiskFault.{DiskFault}
 use Rattle.xa_frame.specs.declared.reply.Reply.{Reply}
 use Rattle.xa_log.specs.Calls.{SettlesBy, WritesAhead}
 use Rattle.xa_log.specs.LogView.{LogView}
-use Rattle.xa_manager.specs.Answered.{FullyAnswered, HasCalled, StaysFor, as_appended}
+use Rattle.xa_manager.specs.Answered.{FullyAnswered, HasCalled, as_appended}
 use Rattle.xa_manager.specs.Counted.{RiseBy, counted_by, failures_in, failures_of_append}
 use Rattle.xa_manager.specs.LogStands.{Trusts}
 use Rattle.xa_manager.specs.Managed.{ManagerStandsFor}
 use Rattle.xa_manager.specs.Parts.{log_of}
 use Rattle.xa_manager.specs.Pending.{HasFinished, IsPending, IsPendingFrom, WorksBeside, WritesGroup, calls_of, write_of}
-use Rattle.xa_manager.specs.Reserving.{HasReserved}
 use Rattle.xa_manager.specs.declared.manager.Manager.{Manager}
 use Rattle.xa_manager.specs.declared.pending.PendingGroup.{PendingGroup}
 use Rattle.xa_manager.specs.declared.together.Asked.{Asked}
@@ -33,7 +32,7 @@ use Rattle.xa_model.specs.declared.outcome.Appending.{Appending}
 use Rattle.xa_model.specs.declared.outcome.Appending.TheVariants.{Kept, Refused, Lost}
 use Rattle.xa_model.specs.declared.outcome.Outcome.TheVariants.{Appended, Quiet}
 use Rattle.xa_room.proofs.Managing.{acted}
-use Rattle.xa_room.proofs.Together.{all_told, all_unplaced, group_lost, group_told, rests}
+use Rattle.xa_room.proofs.Together.{all_told, all_unplaced, group_lost, group_told}
 use Rattle.xa_sequencer.specs.GroupCommits.{ActsAs, AnswersAs, RestsAs}
 use Rattle.xa_sequencer.specs.declared.group_manager.GroupManager.{GroupManager}
 use Rattle.xa_sequencer.specs.GroupManager.{before_write, calls_in, counted_before, manages_of}
