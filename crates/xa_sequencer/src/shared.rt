@@ -101,8 +101,7 @@ impl<M: GroupCommits, S: Start, L: Ledger> SharedSequencer<M, S, L> {
         // read first: where the group is answered in between, it doesn't sleep
         let groups = self.answered.notifications();
         if tries >= MOST_TRIES && self.is_syncing() {
-            self.answered
-                .sleep(rt, groups, Duration::from_millis(REST));
+            self.answered.sleep(rt, groups, Duration::from_millis(REST));
         } else {
             yield_now();
         }
