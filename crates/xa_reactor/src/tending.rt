@@ -211,9 +211,9 @@ impl Loop {
     }
 
     // Whether there are requests that may wait for the device, another loop is at it, and none of them can have been answered
-    // yet.
+    // yet; unless the round had too many turns.
     fn is_held_up<D: Reception>(&self, door: &D) -> bool {
-        self.tools.together.waits() && !door.is_free() && !door.is_due(self.due)
+        self.tools.together.may_gather() && !door.is_free() && !door.is_due(self.due)
     }
 
     // Looks for more requests, and gathers again where another loop has gone to the device meanwhile. Whether a connection waits

@@ -15,6 +15,10 @@ use std::alloc::Global;
 /// After how many turns a round waits for no more.
 const MANY_TURNS: usize = 64;
 
+/// After how many turns a round takes in no more while another loop syncs: what comes after each of them is kept until all
+/// are over.
+const MOST_TURNS: usize = 100_000;
+
 /// What the turns of a round came to, until all of them are over.
 #[derive(Drop)]
 pub(crate) struct Together {
@@ -58,6 +62,11 @@ impl Together {
     /// Whether there are requests that may wait for a device.
     pub(crate) fn waits(&self) -> bool {
         !self.waiting.is_empty()
+    }
+
+    /// Whether there are requests that may wait for a device, and the round may have more turns meanwhile.
+    pub(crate) fn may_gather(&self) -> bool {
+        self.waits() && self.over.len() < MOST_TURNS
     }
 
     /// Whether there are requests that may wait for a device, some of so many connections have asked for none, and the
