@@ -2,10 +2,8 @@
 use Rattle.std.proofs.Common.{◌≡◌, ◌≢◌, ℕ, List, [], ◌∷◌, ◌++◌, refl, sym, ◌∙◌, ap, Option, Some, None, Vec, Global, Result, Ok, Err, OnOk, OnErr}
 use Rattle.xa_disk.specs.declared.call.Call.{Call}
 use Rattle.xa_disk.specs.declared.call.Call.TheVariants.{Write, Sync}
-use Rattle.xa_disk.specs.declared.memory.MemDisk.{MemDisk}
 use Rattle.xa_disk.specs.Disk.{put}
 use Rattle.xa_disk.specs.Replay.{first_of, replay, replay_more, at_first, Now}
-use Rattle.xa_disk.specs.Memory.{Stays, Wrote}
 
 -- once the first bytes are kept, a write doesn't change them
 pub first_stays : (first : Option (Vec ℕ Global)) (old new : List ℕ) → first ≢ None → first_of first new ≡ first_of first old
@@ -29,14 +27,3 @@ written first old new bytes calls calls' at v kept text more before is =
     ∙ (λ i. put (before i) at (sym text i))
     ∙ sym (replay_write (first_of first old) calls calls' at v more)
     ∙ ap (λ (l : List ℕ). (replay l calls').seen) (sym (first_stays first old new kept))
-
-pub wrote_after : (a b d : MemDisk) (at : ℕ) (bytes : List ℕ) → Stays a b → Wrote b d at bytes → Wrote a d at bytes
-wrote_after a b d at bytes s w = record {
-  first = w.first ∙ s.same.first;
-  noted = (w.noted.0, w.noted.1, w.noted.2 ∙ ap (λ (l : List Call). l ++ Write at w.noted.0 ∷ []) s.same.calls);
-  bytes_are = w.bytes_are ∙ ap (λ (l : List ℕ). put l at bytes) s.same.bytes;
-}
-
-pub ok_wrote_after : {T E : Type 0} (r : Result T E) (a b d : MemDisk) (at : ℕ) (bytes : List ℕ) → Stays a b → OnOk r (Wrote b d at bytes) → OnOk r (Wrote a d at bytes)
-ok_wrote_after (Ok x) a b d at bytes s w = wrote_after a b d at bytes s w
-ok_wrote_after (Err x) a b d at bytes s w = tt

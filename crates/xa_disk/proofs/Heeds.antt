@@ -5,11 +5,11 @@ use Rattle.xa_disk.specs.declared.plan.Effect.TheVariants.{Kept, Lost}
 use Rattle.xa_disk.specs.declared.call.Call.{Call}
 use Rattle.xa_disk.specs.declared.call.Call.TheVariants.{Write, Sync}
 use Rattle.xa_disk.specs.declared.disk.DiskFault.{DiskFault}
-use Rattle.xa_disk.specs.declared.memory.MemDisk.{MemDisk}
+use Rattle.xa_disk.specs.MemDiskView.{MemDiskView}
 use Rattle.xa_disk.specs.Disk.{put}
 use Rattle.xa_disk.specs.Memory.{Keeps, Wrote, Synced, Heeds}
 
-keeps_then : (a b d e : MemDisk) → Keeps a b → Keeps b d → Keeps d e → Keeps a e
+keeps_then : (a b d e : MemDiskView) → Keeps a b → Keeps b d → Keeps d e → Keeps a e
 keeps_then a b d e p q r = record { first = r.first ∙ q.first ∙ p.first; calls = r.calls ∙ q.calls ∙ p.calls; bytes = r.bytes ∙ q.bytes ∙ p.bytes }
 
 heeds : {T : Type 0} (D R : Type 0) (plan : Option Effect) (r : Result T DiskFault) (done : Bool) → OnOk r ((plan ≡ None) × IsTrue done) → OnErr r (plan ≡ None → done ≡ false) → (plan ≡ Some Lost → done ≡ false)
@@ -30,7 +30,7 @@ at_false : (P Q : Type 0) (b : Bool) → MatchBool b P Q → b ≡ false → Q
 at_false P Q true it is = absurd (cc is)
 at_false P Q false it is = it
 
-module _ (a b d e : MemDisk) where
+module _ (a b d e : MemDiskView) where
   wrote_between : (at : ℕ) (bytes : List ℕ) → Keeps a b → Wrote b d at bytes → Keeps d e → Wrote a e at bytes
   wrote_between at bytes s w k = record {
     first = k.first ∙ w.first ∙ s.first;
@@ -45,7 +45,7 @@ module _ (a b d e : MemDisk) where
     bytes = k.bytes ∙ w.bytes ∙ s.bytes;
   }
 
-module _ {T : Type 0} (a b d e : MemDisk) where
+module _ {T : Type 0} (a b d e : MemDiskView) where
   pub heeds_put : (at : ℕ) (bytes : List ℕ) (plan planned : Option Effect) (r : Result T DiskFault) (done : Bool) → plan ≡ planned → Keeps a b → MatchBool done (Wrote b d at bytes) (Keeps b d) → (plan ≡ Some Lost → done ≡ false) → Keeps d e
       → OnOk r ((plan ≡ None) × IsTrue done) → OnErr r (plan ≡ None → done ≡ false) → Heeds planned r (Wrote a e at bytes) (Keeps a e) (Keeps a e)
   heeds_put at bytes plan planned r done is s w lost k ok err =

@@ -7,8 +7,8 @@ use Rattle.xa_disk.specs.declared.call.Call.{Call}
 use Rattle.xa_disk.specs.declared.call.Call.TheVariants.{Write, Sync}
 use Rattle.xa_disk.specs.Replay.{Now, after, at_first, replay_from, replay, Reaches, IsImage}
 use Rattle.xa_disk.specs.Images.{torn_same, put_torn}
-use Rattle.xa_disk.specs.declared.memory.MemDisk.{MemDisk}
-use Rattle.xa_disk.specs.Memory.{start_of, Crashes, CrashesKeeping}
+use Rattle.xa_disk.specs.MemDiskView.{MemDiskView}
+use Rattle.xa_disk.specs.Memory.{Crashes, CrashesKeeping}
 use Rattle.xa_disk.specs.Keeping.{unsynced, written_bytes, put_front, put_fronts, kept}
 
 -- the ranges of writes behind those that were pending, the newest first
@@ -124,9 +124,9 @@ unsynced_sync since [] = refl
 unsynced_sync since (Write a b ∷ calls) = unsynced_sync (since ++ Write a b ∷ []) calls
 unsynced_sync since (Sync ∷ calls) = unsynced_sync [] calls
 
-pub crashed : {T E : Type 0} (r : Result T E) (old new : MemDisk) → OnOk r (CrashesKeeping 0 old new) → OnOk r (Crashes old new)
+pub crashed : {T E : Type 0} (r : Result T E) (old new : MemDiskView) → OnOk r (CrashesKeeping 0 old new) → OnOk r (Crashes old new)
 crashed (Ok x) old new k = record {
-  seen = k.seen ∙ none_kept (start_of old) old.calls.items;
+  seen = k.seen ∙ none_kept old.first old.calls;
   left = k.left;
   durable = k.durable;
   plans = k.plans;

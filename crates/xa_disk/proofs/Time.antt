@@ -5,10 +5,10 @@ use Rattle.std.proofs.lemmas.Bool.{cases_lt}
 use Rattle.xa_disk.specs.Disk.{Torn, Same, Only, Passes}
 use Rattle.xa_disk.specs.declared.call.Call.{Call}
 use Rattle.xa_disk.specs.declared.call.Call.TheVariants.{Write, Sync}
-use Rattle.xa_disk.specs.declared.memory.MemDisk.{MemDisk}
+use Rattle.xa_disk.specs.MemDiskView.{MemDiskView}
 use Rattle.xa_disk.specs.Replay.{Now, after, replay, replay_more, at_first, IsImage, LeftSince}
 use Rattle.xa_disk.specs.Images.{seen_may_stay, torn_same}
-use Rattle.xa_disk.specs.Memory.{start_of, Keeps, Wrote, Synced}
+use Rattle.xa_disk.specs.Memory.{Keeps, Wrote, Synced}
 
 abbrev Elapsed : (List ℕ → List ℕ → Type 0) → List ℕ → List Call → List ℕ → List Call → Type 0
 Elapsed step first calls first' calls' =
@@ -46,41 +46,41 @@ to : (step : List ℕ → List ℕ → Type 0) (first first' : List ℕ) (calls 
 to step first first' calls calls' calls'' f l passes =
     subst (λ (x : List ℕ). Elapsed step first calls x calls'') (sym f) (subst (λ (x : List Call). Elapsed step first calls first x) (sym l) passes)
 
-abbrev Between : (List ℕ → List ℕ → Type 0) → MemDisk → MemDisk → Type 0
-Between step a e = Elapsed step (start_of a) a.calls.items (start_of e) e.calls.items
+abbrev Between : (List ℕ → List ℕ → Type 0) → MemDiskView → MemDiskView → Type 0
+Between step a e = Elapsed step a.first a.calls e.first e.calls
 
-pub time_put : (a b d e : MemDisk) (done : Bool) (at : ℕ) (bytes : List ℕ) → Keeps a b → MatchBool done (Wrote b d at bytes) (Keeps b d) → Keeps d e → Between (Torn at (length bytes)) a e
+pub time_put : (a b d e : MemDiskView) (done : Bool) (at : ℕ) (bytes : List ℕ) → Keeps a b → MatchBool done (Wrote b d at bytes) (Keeps b d) → Keeps d e → Between (Torn at (length bytes)) a e
 time_put a b d e true at bytes s w k =
     let v = w.noted.0 in
     subst (λ (xs : List ℕ). Between (Torn at (length xs)) a e) w.noted.1
-    (to (Torn at (length v.items)) (start_of a) (start_of e) a.calls.items (a.calls.items ++ Write at v ∷ []) e.calls.items
+    (to (Torn at (length v.items)) a.first e.first a.calls (a.calls ++ Write at v ∷ []) e.calls
     (k.first ∙ w.first ∙ s.first)
     (k.calls ∙ w.noted.2 ∙ ap (λ (l : List Call). l ++ Write at v ∷ []) s.calls)
-    (more _ (start_of a) a.calls.items (Write at v) (λ c now. now)))
+    (more _ a.first a.calls (Write at v) (λ c now. now)))
 time_put a b d e false at bytes s w k =
-    to _ (start_of a) (start_of e) a.calls.items a.calls.items e.calls.items (k.first ∙ w.first ∙ s.first) (k.calls ∙ w.calls ∙ s.calls)
-    (none _ (torn_same at (length bytes)) (start_of a) a.calls.items)
+    to _ a.first e.first a.calls a.calls e.calls (k.first ∙ w.first ∙ s.first) (k.calls ∙ w.calls ∙ s.calls)
+    (none _ (torn_same at (length bytes)) a.first a.calls)
 
-pub time_sync : (a b d e : MemDisk) (done : Bool) → Keeps a b → MatchBool done (Synced b d) (Keeps b d) → Keeps d e → Between Same a e
+pub time_sync : (a b d e : MemDiskView) (done : Bool) → Keeps a b → MatchBool done (Synced b d) (Keeps b d) → Keeps d e → Between Same a e
 time_sync a b d e true s w k =
-    to Same (start_of a) (start_of e) a.calls.items (a.calls.items ++ Sync ∷ []) e.calls.items (k.first ∙ w.first ∙ s.first)
+    to Same a.first e.first a.calls (a.calls ++ Sync ∷ []) e.calls (k.first ∙ w.first ∙ s.first)
     (k.calls ∙ w.noted ∙ ap (λ (l : List Call). l ++ Sync ∷ []) s.calls)
-    (more _ (start_of a) a.calls.items Sync (λ c now. ((replay (start_of a) a.calls.items).seen, seen_may_stay (start_of a) a.calls.items, now)))
+    (more _ a.first a.calls Sync (λ c now. ((replay a.first a.calls).seen, seen_may_stay a.first a.calls, now)))
 time_sync a b d e false s w k =
-    to _ (start_of a) (start_of e) a.calls.items a.calls.items e.calls.items (k.first ∙ w.first ∙ s.first) (k.calls ∙ w.calls ∙ s.calls)
-    (none Same (λ c. refl) (start_of a) a.calls.items)
+    to _ a.first e.first a.calls a.calls e.calls (k.first ∙ w.first ∙ s.first) (k.calls ∙ w.calls ∙ s.calls)
+    (none Same (λ c. refl) a.first a.calls)
 
 -- after a sync nothing but what a read gives
-pub durable : (a b d e : MemDisk) → Keeps a b → Synced b d → Keeps d e → Only a.bytes.items (IsImage (replay (start_of e) e.calls.items))
+pub durable : (a b d e : MemDiskView) → Keeps a b → Synced b d → Keeps d e → Only a.bytes (IsImage (replay e.first e.calls))
 durable a b d e s w k c now =
-    let same : replay (start_of e) e.calls.items ≡ after Sync (replay (start_of a) a.calls.items) =
-    ap (λ (x : List ℕ). replay x e.calls.items) (k.first ∙ w.first ∙ s.first)
-    ∙ ap (λ (l : List Call). replay (start_of a) l) (k.calls ∙ w.noted ∙ ap (λ (l : List Call). l ++ Sync ∷ []) s.calls)
-    ∙ replay_more (at_first (start_of a)) a.calls.items Sync in
-    let image : c ≡ (replay (start_of a) a.calls.items).seen = subst (λ (x : Now). IsImage x c) same now in
+    let same : replay e.first e.calls ≡ after Sync (replay a.first a.calls) =
+    ap (λ (x : List ℕ). replay x e.calls) (k.first ∙ w.first ∙ s.first)
+    ∙ ap (λ (l : List Call). replay a.first l) (k.calls ∙ w.noted ∙ ap (λ (l : List Call). l ++ Sync ∷ []) s.calls)
+    ∙ replay_more (at_first a.first) a.calls Sync in
+    let image : c ≡ (replay a.first a.calls).seen = subst (λ (x : Now). IsImage x c) same now in
     image ∙ sym a.replayed
 
-pub durable_at : {T F : Type 0} (P : Type 0) (r : Result T F) (done : Bool) (a b d e : MemDisk) → OnOk r (P × IsTrue done) → Keeps a b → MatchBool done (Synced b d) (Keeps b d) → Keeps d e → OnOk r (Only a.bytes.items (IsImage (replay (start_of e) e.calls.items)))
+pub durable_at : {T F : Type 0} (P : Type 0) (r : Result T F) (done : Bool) (a b d e : MemDiskView) → OnOk r (P × IsTrue done) → Keeps a b → MatchBool done (Synced b d) (Keeps b d) → Keeps d e → OnOk r (Only a.bytes (IsImage (replay e.first e.calls)))
 durable_at P (Ok x) true a b d e ok s w k = durable a b d e s w k
 durable_at P (Ok x) false a b d e ok s w k = absurd (cc)
 durable_at P (Err x) done a b d e ok s w k = tt

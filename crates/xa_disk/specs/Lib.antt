@@ -6,4 +6,6 @@ pub mod RawCall
 pub mod Replay
 pub mod Keeping
 pub mod Images
+pub mod MemDiskView
+pub mod MemDiskFields
 pub mod Memory

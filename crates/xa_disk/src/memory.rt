@@ -10,6 +10,7 @@ use crate::call::{Call, kept, note_sync, note_write};
 use crate::faults::Faults;
 use crate::{Counts, Disk, DiskFault, Effect, SyncAnswer, Syncer};
 use std::alloc::{AllocError, Global};
+use std::marker::Model;
 
 /// A disk in memory. A test plans which of its calls fail, and when it crashes.
 #[derive(Debug, Drop)]
@@ -22,6 +23,26 @@ pub struct MemDisk {
     failures: u64,
     counts: Counts,
     ghost replayed: { bytes.items ≡ (replay (first_of first bytes.items) calls.items).seen },
+}
+
+impl Model for MemDisk {
+    ghost use Rattle.xa_disk.specs.MemDiskFields.{shown};
+    ghost use Rattle.xa_disk.specs.MemDiskView.{MemDiskView};
+
+    ghost Value = { MemDiskView };
+
+    ghost view = { shown };
+}
+
+// Copies what a disk holds at first, before the first write changes it.
+fn keep_first(first: &mut Option<Vec<u8>>, bytes: &[u8], alloc: Global) -> Result<(), AllocError>
+    ensures same { first_of first.new bytes.now ≡ first_of first.old bytes.now }
+    ensures ok { OnOk result (first.new ≢ None) }
+{
+    if first.is_none() {
+        *first = Some(Vec::from_slice(alloc, bytes)?);
+    }
+    Ok(())
 }
 
 // What a disk held at first: its bytes now, where no write has changed them.
@@ -92,9 +113,7 @@ impl MemDisk {
         ensures ok { OnOk result (CrashesKeeping k self.old self.new) }
         ensures err { OnErr result (self.new ≡ self.old) }
     {
-        let alloc = *self.bytes.allocator();
-        let first = held_first(&self.first, &self.bytes);
-        let bytes = kept(alloc, first, &self.calls, k)?;
+        let bytes = self.kept(k)?;
         self.first = None;
         self.bytes = bytes;
         self.calls.clear();
@@ -104,7 +123,16 @@ impl MemDisk {
 }
 
 impl MemDisk {
-    ghost use Rattle.xa_disk.specs.Memory.{Keeps, Stays, CountsDown, planned};
+    ghost use Rattle.xa_disk.specs.Keeping.{kept};
+    ghost use Rattle.xa_disk.specs.Memory.{Keeps, SameCounts, SamePlans, CountsDown, Wrote, Synced, planned};
+
+    // What a crash leaves that keeps the first k of the bytes written since the last sync.
+    fn kept(&self, k: u64) -> Result<Vec<u8>, AllocError>
+        ensures { IfOk result (λ bytes. bytes.items ≡ kept self.now.first self.now.calls k) }
+    {
+        let first = held_first(&self.first, &self.bytes);
+        kept(*self.bytes.allocator(), first, &self.calls, k)
+    }
 
     // The plan for the call that is made now, with which the counts are these.
     fn begin(&mut self, counts: Counts) -> Option<Effect>
@@ -123,7 +151,7 @@ impl MemDisk {
         ensures ok { OnOk result ((plan ≡ None) × IsTrue done) }
         ensures err { OnErr result (plan ≡ None → done ≡ false) }
         ensures kept { Keeps self.old self.new }
-        ensures faults { self.new.faults ≡ self.old.faults }
+        ensures plans { SamePlans self.old self.new }
         ensures counts { self.new.counts ≡ self.old.counts }
         ensures count { CountsFault result self.old.failures self.new.failures }
     {
@@ -134,42 +162,15 @@ impl MemDisk {
         Err(DiskFault)
     }
 
-    // Copies what the disk held at first, before the first write changes it.
-    fn keep_first(&mut self) -> Result<(), AllocError>
-        ensures same { Stays self.old self.new }
-        ensures ok { OnOk result (self.new.first ≢ None) }
-        ensures faults { self.new.faults ≡ self.old.faults }
-    {
-        if self.first.is_none() {
-            let alloc = *self.bytes.allocator();
-            self.first = Some(Vec::from_slice(alloc, &self.bytes)?);
-        }
-        Ok(())
-    }
-}
-
-impl MemDisk {
-    ghost use Rattle.xa_disk.specs.Memory.{Keeps, SameCounts, Wrote, Synced};
-
     // A write with its effect.
     fn put(&mut self, at: u64, from: &[u8]) -> Result<(), AllocError>
         ensures ok { OnOk result (Wrote self.old self.new at from.now) }
         ensures err { OnErr result (Keeps self.old self.new) }
         ensures counted { SameCounts self.old self.new }
-        ensures faults { self.new.faults ≡ self.old.faults }
-    {
-        self.keep_first()?;
-        self.put_kept(at, from)
-    }
-
-    fn put_kept(&mut self, at: u64, from: &[u8]) -> Result<(), AllocError>
-        requires { self.old.first ≢ None }
-        ensures ok { OnOk result (Wrote self.old self.new at from.now) }
-        ensures err { OnErr result (Keeps self.old self.new) }
-        ensures counted { SameCounts self.old self.new }
-        ensures faults { self.new.faults ≡ self.old.faults }
+        ensures plans { SamePlans self.old self.new }
     {
         let alloc = *self.bytes.allocator();
+        keep_first(&mut self.first, &self.bytes, alloc)?;
         note_write(&mut self.calls, alloc, at, from)?;
         match put_bytes(&mut self.bytes, at, from) {
             Ok(()) => Ok(()),
@@ -184,7 +185,7 @@ impl MemDisk {
         ensures ok { OnOk result (Synced self.old self.new) }
         ensures err { OnErr result (Keeps self.old self.new) }
         ensures counted { SameCounts self.old self.new }
-        ensures faults { self.new.faults ≡ self.old.faults }
+        ensures plans { SamePlans self.old self.new }
     {
         note_sync(&mut self.calls)?;
         Ok(())
@@ -195,7 +196,7 @@ impl MemDisk {
         ensures done { MatchBool result (Wrote self.old self.new at from.now) (Keeps self.old self.new) }
         ensures counted { SameCounts self.old self.new }
         ensures lost { plan ≡ Some Effect.Lost → result ≡ false }
-        ensures faults { self.new.faults ≡ self.old.faults }
+        ensures plans { SamePlans self.old self.new }
     {
         if let Some(Effect::Lost) = plan {
             return false;
@@ -211,7 +212,7 @@ impl MemDisk {
         ensures done { MatchBool result (Synced self.old self.new) (Keeps self.old self.new) }
         ensures counted { SameCounts self.old self.new }
         ensures lost { plan ≡ Some Effect.Lost → result ≡ false }
-        ensures faults { self.new.faults ≡ self.old.faults }
+        ensures plans { SamePlans self.old self.new }
     {
         if let Some(Effect::Lost) = plan {
             return false;
@@ -229,13 +230,13 @@ impl Disk for MemDisk {
 
     ghost honest = { ⊤ };
 
-    ghost seen = { λ d. d.bytes.items };
+    ghost seen = { λ d. d.bytes };
 
-    ghost may_leave = { λ d c. IsImage (replay (first_of d.first d.bytes.items) d.calls.items) c };
+    ghost may_leave = { λ d c. IsImage (replay d.first d.calls) c };
 
-    ghost moment = { λ d. length d.calls.items };
+    ghost moment = { λ d. length d.calls };
 
-    ghost left_since = { λ d t c. LeftSince (first_of d.first d.bytes.items) d.calls.items t c };
+    ghost left_since = { λ d t c. LeftSince d.first d.calls t c };
 
     ghost tears = { AllOrNone };
 
@@ -245,15 +246,15 @@ impl Disk for MemDisk {
 
     ghost counts = { λ d. d.counts };
 
-    ghost counts_now = { λ d t c le now. counts_now (first_of d.first d.bytes.items) d.calls.items t c le now };
+    ghost counts_now = { λ d t c le now. counts_now d.first d.calls t c le now };
 
-    ghost only_now = { λ d c left. only_now (first_of d.first d.bytes.items) d.calls.items c left };
+    ghost only_now = { λ d c left. only_now d.first d.calls c left };
 
-    ghost seen_may_stay = { λ d. stays_of (first_of d.first d.bytes.items) d.calls.items d.bytes.items d.replayed };
+    ghost seen_may_stay = { λ d. stays_of d.first d.calls d.bytes d.replayed };
 
     fn length(&mut self) -> Result<u64, DiskFault>
-        ensures value { IfOk result (λ n. n ≡ length self.old.bytes.items) }
-        ensures same { self.new.bytes.items ≡ self.old.bytes.items }
+        ensures value { IfOk result (λ n. n ≡ length self.old.bytes) }
+        ensures same { self.new.bytes ≡ self.old.bytes }
         ensures time { PassesTime Same self.old self.new }
         ensures calls { self.new.counts ≡ with_length self.old.counts }
         ensures count { CountsFault result self.old.failures self.new.failures }
@@ -268,15 +269,15 @@ impl Disk for MemDisk {
 
     fn read_at(&mut self, at: u64, into: &mut [u8]) -> Result<(), DiskFault>
         requires { 1 ≤ length into.old }
-        ensures value { OnOk result (Reads self.old.bytes.items at into.new) }
-        ensures same { self.new.bytes.items ≡ self.old.bytes.items }
+        ensures value { OnOk result (Reads self.old.bytes at into.new) }
+        ensures same { self.new.bytes ≡ self.old.bytes }
         ensures time { PassesTime Same self.old self.new }
         ensures calls { self.new.counts ≡ with_read (length into.old) self.old.counts }
         ensures count { CountsFault result self.old.failures self.new.failures }
         ensures later { CountsDown self.old self.new }
         ensures heeds { Heeds (planned self.old 1) result
             (Keeps self.old self.new)
-            ((length self.old.bytes.items < at + length into.old) × Keeps self.old self.new)
+            ((length self.old.bytes < at + length into.old) × Keeps self.old self.new)
             (Keeps self.old self.new) }
     {
         let plan = self.begin(self.counts.with_read(into.len()));
@@ -286,8 +287,8 @@ impl Disk for MemDisk {
 
     fn write_at(&mut self, at: u64, from: &[u8]) -> Result<(), DiskFault>
         requires { 1 ≤ length from.now }
-        ensures written { OnOk result (self.new.bytes.items ≡ put self.old.bytes.items at from.now) }
-        ensures failed { OnErr result (AllOrNone self.old.bytes.items at from.now self.new.bytes.items) }
+        ensures written { OnOk result (self.new.bytes ≡ put self.old.bytes at from.now) }
+        ensures failed { OnErr result (AllOrNone self.old.bytes at from.now self.new.bytes) }
         ensures time { PassesTime (Torn at (length from.now)) self.old self.new }
         ensures calls { self.new.counts ≡ with_write self.old.counts }
         ensures count { CountsFault result self.old.failures self.new.failures }
@@ -301,8 +302,8 @@ impl Disk for MemDisk {
     }
 
     fn sync(&mut self) -> Result<(), DiskFault>
-        ensures durable { OnOk result (Only self.old.bytes.items (image_of self.new)) }
-        ensures same { self.new.bytes.items ≡ self.old.bytes.items }
+        ensures durable { OnOk result (Only self.old.bytes (image_of self.new)) }
+        ensures same { self.new.bytes ≡ self.old.bytes }
         ensures time { PassesTime Same self.old self.new }
         ensures calls { self.new.counts ≡ with_sync self.old.counts }
         ensures count { CountsFault result self.old.failures self.new.failures }
@@ -320,8 +321,8 @@ impl Disk for MemDisk {
     }
 
     fn take_sync(&mut self, _answer: SyncAnswer) -> Result<(), DiskFault>
-        ensures durable { OnOk result (Only self.old.bytes.items (image_of self.new)) }
-        ensures same { self.new.bytes.items ≡ self.old.bytes.items }
+        ensures durable { OnOk result (Only self.old.bytes (image_of self.new)) }
+        ensures same { self.new.bytes ≡ self.old.bytes }
         ensures time { PassesTime Same self.old self.new }
         ensures calls { self.new.counts ≡ with_sync self.old.counts }
         ensures count { CountsFault result self.old.failures self.new.failures }
