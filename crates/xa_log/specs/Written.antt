@@ -1,10 +1,11 @@
 -- A group on its way into a log: its records are written after the log's end, and their sync is to follow.
-use Rattle.std.specs.Prelude.{◌≡◌, ◌≢◌, ℕ, ◌+◌, ◌-◌, ◌≤◌, ◌<◌, ◌==◌, if◌then◌else◌, true, false, List, length}
+use Rattle.std.specs.Prelude.{◌≡◌, ◌≢◌, ℕ, ◌+◌, ◌-◌, ◌≤◌, ◌<◌, ◌==◌, if◌then◌else◌, true, false, List, length, Result}
 use Rattle.std.specs.List.{AllByRecursion}
 use Rattle.xa_disk.specs.Counts.{top}
 use Rattle.xa_disk.specs.Disk.{Torn}
 use Rattle.xa_disk.specs.Time.{LeavesOnly, TimePasses}
 use Rattle.xa_disk.specs.declared.disk.Disk.{Ghosts}
+use Rattle.xa_disk.specs.declared.disk.DiskFault.{DiskFault}
 use Rattle.xa_limits.specs.declared.TheConstants.{FIRST_OFFSET, LENGTH_BYTES}
 use Rattle.xa_log.specs.Ahead.{AppendsBy, IsKnown, Writes, ready_for}
 use Rattle.xa_log.specs.Answers.{LeftWritten}
@@ -19,6 +20,10 @@ use Rattle.xa_log.specs.declared.appending.Appended.{Appended}
 use Rattle.xa_log.specs.declared.appending.Appended.TheVariants.{Full, Kept}
 use Rattle.xa_log.specs.LogView.{LogView}
 use Rattle.xa_log.specs.declared.written.Written.{Written}
+
+-- what its write was answered
+abbrev pub write_of : Written → Result (Unit {0}) DiskFault
+write_of w = w.write
 
 -- a group's records and its closing length, as they go to the end of a log
 abbrev pub range_of : {D : Type 0} → LogView D → List (List ℕ) → List ℕ

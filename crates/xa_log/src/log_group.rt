@@ -14,7 +14,7 @@ ghost use Rattle.xa_log.specs.LogStates.{KeepsAll};
 ghost use Rattle.xa_log.specs.LogView.{LogView};
 ghost use Rattle.xa_log.specs.Stands.{Answers, Leaves, Moves, Renumbers, Stands, Untouched};
 ghost use Rattle.xa_log.specs.TwoFiles.{AppendsTo, Pair};
-ghost use Rattle.xa_log.specs.Written.{AppendsGroup, HasWritten, IsRange};
+ghost use Rattle.xa_log.specs.Written.{AppendsGroup, HasWritten, IsRange, write_of};
 
 use crate::Log;
 use crate::ahead::ready_behind;
@@ -141,7 +141,7 @@ impl<D: Disk> Log<D> {
         ensures group { (before : LogView D) (group : List (List ℕ)) → HasWritten D.Disk group written before self.old
             → AppendsGroup D.Disk group result before self.new }
         ensures not_full { result ≢ Appended.Full }
-        ensures fails { SettlesBy written.write result (D.failures self.old.disk) (D.failures self.new.disk) }
+        ensures fails { SettlesBy (write_of written) result (D.failures self.old.disk) (D.failures self.new.disk) }
     {
         let Written {
             to,

@@ -8,7 +8,7 @@ ghost use Rattle.xa_log.specs.Ahead.{IsMeasured};
 ghost use Rattle.xa_log.specs.Calls.{OnlyReads, ReadsLittle, asked};
 ghost use Rattle.xa_log.specs.Chain.{logged};
 ghost use Rattle.xa_log.specs.Checkpoint.{IsQuiet};
-ghost use Rattle.xa_log.specs.Opened.{IsOpened};
+ghost use Rattle.xa_log.specs.Opened.{IsOpened, found_in, found_in_first, limit_of};
 ghost use Rattle.xa_log.specs.Pair.{generation, pair_fault, logged_pair};
 ghost use Rattle.xa_log.specs.Reading.{Ends, bodies_of, TellsFault, ExplainsNew};
 ghost use Rattle.xa_log.specs.Stands.{EndsBehind};
@@ -97,15 +97,15 @@ impl<D: Disk + Drop> Log<D> {
     pub fn on(first: D, second: D, opened: Opened) -> (Log<D>, Vec<Vec<u8>>)
         ensures log { D.honest → IsOpened D.Disk first second opened
             → IsOpenPair D.Disk (bodies_of result.1.items) (logged (D.seen result.0.other)) result.0 }
-        ensures ends { Ends opened.scan → EndsBehind (bodies_of result.1.items) result.0 }
+        ensures ends { Ends (found_in opened) → EndsBehind (bodies_of result.1.items) result.0 }
         ensures disks { (first_of result.0 ≡ first) × (second_of result.0 ≡ second) }
-        ensures on_first { result.0.on_first ≡ opened.on_first }
-        ensures bodies { result.1 ≡ opened.scan.bodies }
-        ensures format { result.0.format ≡ opened.scan.format }
-        ensures end { result.0.end ≡ opened.scan.end }
-        ensures digest { result.0.digest ≡ opened.scan.digest }
+        ensures on_first { result.0.on_first ≡ found_in_first opened }
+        ensures bodies { result.1 ≡ (found_in opened).bodies }
+        ensures format { result.0.format ≡ (found_in opened).format }
+        ensures end { result.0.end ≡ (found_in opened).end }
+        ensures digest { result.0.digest ≡ (found_in opened).digest }
         ensures number { result.0.generation ≡ generation (bodies_of result.1.items) }
-        ensures settings { result.0.log_bytes ≡ opened.log_bytes }
+        ensures settings { result.0.log_bytes ≡ limit_of opened }
         ensures measured { D.honest → IsOpened D.Disk first second opened → IsMeasured D.Disk result.0 }
         ensures alive { result.0.lost ≡ false }
     {

@@ -1,5 +1,3 @@
-ghost use Rattle.std.specs.Prelude.{◌≡◌, is_ok};
-
 use xa_disk::DiskFault;
 use xa_limits::DIGEST_BYTES;
 
@@ -13,13 +11,4 @@ pub struct Written {
     pub(crate) generation: usize,
     // What the write was answered.
     pub(crate) write: Result<(), DiskFault>,
-}
-
-impl Written {
-    /// Whether the write succeeded, so that a sync may.
-    pub fn is_whole(&self) -> bool
-        ensures { result ≡ is_ok self.now.write }
-    {
-        self.write.is_ok()
-    }
 }
