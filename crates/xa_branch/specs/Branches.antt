@@ -16,6 +16,13 @@ use Rattle.xa_branch.specs.declared.working.Working.{Working as Kept}
 use Rattle.xa_branch.specs.Due.{due_named, due_among, is_then}
 use Rattle.xa_branch.specs.Kinds.{held_as}
 
+-- the number of their boot, and the last moment that was told
+abbrev pub boot_of : Branches → ℕ
+boot_of m = m.boot
+
+abbrev pub moment_of : Branches → ℕ
+moment_of m = m.moment
+
 -- what is kept of the branch at work with this XID
 abbrev pub working_at : Branches → Triple → Option Kept
 working_at m xid = get xid_cmp m.working xid

@@ -3,7 +3,7 @@ ghost use Rattle.std.specs.List.{list_any};
 ghost use Rattle.xa_model.specs.State.{State as ModelState, active_of, works_in};
 ghost use Rattle.xa_model.specs.Associations.{joined, resumed, not_resumed, suspended, not_suspended, ended, hang_up_by};
 ghost use Rattle.xa_model.specs.Invariants.Sound.{IsSound};
-ghost use Rattle.xa_branch.specs.Branches.{BranchesStandFor};
+ghost use Rattle.xa_branch.specs.Branches.{BranchesStandFor, moment_of};
 ghost use Rattle.xa_branch.specs.Follows.{AreOwn, FollowsEach, InEachOf, InSoundOf};
 ghost use Rattle.xa_branch.specs.Kinds.{ended_kind, resumed_kind};
 
@@ -83,7 +83,7 @@ impl Branches {
         ensures follows { (s : ModelState) (n : ℕ) → IsSound s → AreOwn own.now s n
             → option_copied active.entry ≡ active_of s.associations n
             → BranchesStandFor self.old s → BranchesStandFor self.new (hang_up_by s n).after }
-        ensures moment { self.new.moment ≡ self.old.moment }
+        ensures moment { moment_of self.new ≡ moment_of self.old }
     {
         take_all_due(&self.working, &mut self.due, own);
         leave_all(&mut self.working, own, active);

@@ -36,7 +36,7 @@ pub struct Branches {
 }
 
 impl Branches {
-    ghost use Rattle.xa_branch.specs.Branches.{BranchesStandFor, working_at, lasting_at, number_of};
+    ghost use Rattle.xa_branch.specs.Branches.{BranchesStandFor, working_at, lasting_at, moment_of, number_of};
     ghost use Rattle.xa_branch.specs.Calls.{readiness_of};
     ghost use Rattle.xa_branch.specs.Facts.{fact_of};
     ghost use Rattle.xa_branch.specs.Follows.{InEach, InSound};
@@ -94,7 +94,7 @@ impl Branches {
 
     /// The last moment that was told, in seconds.
     pub fn moment(&self) -> u64
-        ensures value { result ≡ self.now.moment }
+        ensures value { result ≡ moment_of self.now }
         ensures state { InEach self.now (λ s. result ≡ s.moment) }
     {
         self.moment

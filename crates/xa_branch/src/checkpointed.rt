@@ -2,7 +2,7 @@ ghost use Rattle.std.specs.Prelude.{◌≡◌, IfOk, map};
 ghost use Rattle.xa_model.specs.State.{State};
 ghost use Rattle.xa_model.specs.Durable.{durable};
 ghost use Rattle.xa_model.specs.Trimming.{trimmed};
-ghost use Rattle.xa_branch.specs.Branches.{BranchesStandFor};
+ghost use Rattle.xa_branch.specs.Branches.{BranchesStandFor, boot_of};
 ghost use Rattle.xa_branch.specs.Checkpointed.{decided_as, TimesOf};
 ghost use Rattle.xa_branch.specs.Follows.{InEach, InSound};
 
@@ -17,7 +17,7 @@ use xa_xid::Xid;
 impl Branches {
     /// The number of this boot.
     pub fn boot(&self) -> u32
-        ensures value { result ≡ self.now.boot }
+        ensures value { result ≡ boot_of self.now }
         ensures state { InEach self.now (λ s. result ≡ s.boot) }
     {
         self.boot

@@ -11,7 +11,7 @@ use Rattle.xa_frame.specs.declared.request.Request.{Request}
 use Rattle.xa_frame.specs.declared.request.Request.TheVariants as request
 use Rattle.xa_log.specs.Calls.{SettlesBy}
 use Rattle.xa_log.specs.Reading.{bodies_of}
-use Rattle.xa_log.specs.Written.{HasWritten, IsRange}
+use Rattle.xa_log.specs.Written.{HasWritten, IsRange, write_of as answered_as}
 use Rattle.xa_log.specs.LogView.{LogView}
 use Rattle.xa_record.specs.Spelling.{spelled}
 use Rattle.xa_model.specs.declared.event.Event.{Event}
@@ -57,7 +57,7 @@ calls_of f = f.calls
 
 -- what the write of its records was answered
 abbrev pub write_of : PendingGroup → Result (Unit {0}) DiskFault
-write_of f = f.written.write
+write_of f = answered_as f.written
 
 -- The group has some calls, each with its row, of distinct XIDs, and its records stand where the manager's log ends.
 pub record IsGroupOf {D : Type 0} (m : Manager D) (f : PendingGroup) : Type 0 where

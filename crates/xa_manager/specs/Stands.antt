@@ -8,7 +8,7 @@ use Rattle.mv_rules.specs.Records.{StandsFor as RecordsStandFor}
 use Rattle.mv_rules.specs.Ties.{history_of}
 use Rattle.xa_assoc.specs.Refusals.{is_memory}
 use Rattle.xa_assoc.specs.Sessions.{SessionsStandFor}
-use Rattle.xa_branch.specs.Branches.{BranchesStandFor}
+use Rattle.xa_branch.specs.Branches.{BranchesStandFor, moment_of}
 use Rattle.xa_branch.specs.Room.{HaveRooms}
 use Rattle.xa_xid.specs.Triple.{Triple}
 use Rattle.xa_manager.specs.View.{View}
@@ -45,7 +45,7 @@ pub record StandsDown (m : View) (s : State) : Type 0 where
   pub log_bytes : m.log_bytes ≡ s.log_bytes
   pub down : s.standing ≡ Down
   pub sessions : SessionsStandFor m.sessions s
-  pub moment : m.branches.moment ≡ s.moment
+  pub moment : moment_of m.branches ≡ s.moment
   pub recoverable : IsRecoverable s
 
 abbrev pub TablesStandFor : Bool → View → State → Type 0

@@ -13,7 +13,7 @@ use Rattle.xa_log.specs.Ahead.{AppendsBy}
 use Rattle.xa_log.specs.Group.{as_one}
 use Rattle.xa_log.specs.Stands.{Stands, Leaves, Moves}
 use Rattle.xa_log.specs.TwoFiles.{Pair, AppendsTo}
-use Rattle.xa_log.specs.Written.{HasWritten}
+use Rattle.xa_log.specs.Written.{HasWritten, write_of}
 use Rattle.xa_log.specs.LogView.{LogView}
 use Rattle.xa_log.specs.declared.written.Written.{Written}
 use Rattle.xa_limits.specs.declared.TheConstants.{AROUND_CLOSED}
@@ -78,7 +78,7 @@ pub record HasJournaled {D : Type 0} (disks : Ghosts D) (group : List (List ℕ)
 pub record HasSettled {D : Type 0} (disks : Ghosts D) (w : Written) (a : Appending) (m m' : Manager D) : Type 0 where
   pub appended : (log : LogView D) (group : List (List ℕ)) → HasWritten disks group w log m.log
       → HasAppended disks group a log m'.log
-  pub fails : SettlesBy w.write (as_appended a) (disks.failures m.log.disk) (disks.failures m'.log.disk)
+  pub fails : SettlesBy (write_of w) (as_appended a) (disks.failures m.log.disk) (disks.failures m'.log.disk)
   pub up : m.up ≡ true → m'.up ≡ up_after a
   pub doubt : m'.doubt ≡ doubt_after a m.log.end
   pub tables : m'.tables ≡ m.tables

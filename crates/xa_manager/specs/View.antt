@@ -7,7 +7,7 @@ use Rattle.xa_assoc.specs.declared.sessions.Sessions.{Sessions}
 use Rattle.xa_assoc.specs.Seats.{active_at, opened_at}
 use Rattle.xa_branch.specs.declared.branches.Branches.{Branches}
 use Rattle.xa_branch.specs.declared.working.Working.{Working}
-use Rattle.xa_branch.specs.Branches.{working_at}
+use Rattle.xa_branch.specs.Branches.{moment_of, working_at}
 use Rattle.xa_manager.specs.declared.tables.Tables.{Tables}
 
 -- its settings, the tables of sessions and of branches, and the versions of all keys
@@ -25,7 +25,7 @@ view_of t =
 -- what the refusals before a session's row look at, of a manager that is up or isn't
 abbrev pub context_at : Bool → View → ℕ → Context
 context_at up m n =
-    record { up = up; name = m.name; session = opened_at m.sessions n; moment = m.branches.moment }
+    record { up = up; name = m.name; session = opened_at m.sessions n; moment = moment_of m.branches }
 
 -- the branch that a session is at work for
 abbrev pub with_working : View → Triple → Option (Triple × Working)

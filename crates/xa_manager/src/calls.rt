@@ -4,6 +4,7 @@ ghost use Rattle.xa_model.specs.Early.{call_of, passes_down, has_wrong_count, ha
 ghost use Rattle.xa_model.specs.Events.{IsAsked};
 ghost use Rattle.xa_assoc.specs.Refusals.{is_memory, IsBare};
 ghost use Rattle.xa_assoc.specs.Seats.{opened_at};
+ghost use Rattle.xa_branch.specs.Branches.{moment_of};
 ghost use Rattle.xa_manager.specs.Turns.{HasDone, HasWanted};
 ghost use Rattle.xa_manager.specs.View.{context_at, view_of};
 ghost use Rattle.xa_manager.specs.Connected.{connected_to};
@@ -26,7 +27,7 @@ impl<D: Disk> Manager<D> {
         ensures served { IfSome result (λ r. is_memory r.detail ≡ false) }
         ensures connected { result ≡ None → IsSome (opened_at self.now.tables.sessions session) }
         ensures counted { result ≡ None → has_wrong_count request.now ≡ false }
-        ensures later { result ≡ None → has_wrong_moment self.now.tables.branches.moment request.now ≡ false }
+        ensures later { result ≡ None → has_wrong_moment (moment_of self.now.tables.branches) request.now ≡ false }
         ensures answered { result ≡ None → self.now.up ≡ false → passes_down (call_of request.now) ≡ true }
         ensures bare { IfSome result IsBare }
     {

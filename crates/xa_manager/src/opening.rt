@@ -2,7 +2,7 @@ ghost use Rattle.std.specs.Prelude.{ℕ, ◌≡◌, ◌≤◌, ◌<◌, ◌⊎�
 ghost use Rattle.xa_limits.specs.declared.TheConstants.{MOST_LOG};
 ghost use Rattle.xa_log.specs.Chain.{newest};
 ghost use Rattle.xa_log.specs.LogView.{LogView};
-ghost use Rattle.xa_log.specs.Opened.{IsOpened};
+ghost use Rattle.xa_log.specs.Opened.{IsOpened, found_in, found_in_first, limit_of};
 ghost use Rattle.xa_log.specs.Pair.{generation, pair_fault, logged_pair};
 ghost use Rattle.xa_log.specs.Reading.{Ends, bodies_of};
 ghost use Rattle.xa_log.specs.Stands.{EndsBehind};
@@ -227,18 +227,18 @@ fn find_log<D: Disk>(
     log_bytes: u64,
 ) -> Result<(Opened, bool), OpenFault>
     ensures logged { D.honest
-        → IfOk result (λ r. logged_pair (D.seen first.old) (D.seen second.old) ≡ bodies_of r.0.scan.bodies.items) }
+        → IfOk result (λ r. logged_pair (D.seen first.old) (D.seen second.old) ≡ bodies_of (found_in r.0).bodies.items) }
     ensures stands { D.honest → IfOk result (λ r. IsOpened D.Disk first.new second.new r.0) }
-    ensures made { IfOk result (λ r. r.1 ≡ true → (r.0.scan.bodies.items ≡ []) × (r.0.on_first ≡ true)) }
-    ensures modern { IfOk result (λ r. r.1 ≡ true → r.0.scan.format ≡ newest) }
+    ensures made { IfOk result (λ r. r.1 ≡ true → ((found_in r.0).bodies.items ≡ []) × (found_in_first r.0 ≡ true)) }
+    ensures modern { IfOk result (λ r. r.1 ≡ true → (found_in r.0).format ≡ newest) }
     ensures made_beside { D.honest → IfOk result (λ r. r.1 ≡ true → D.seen second.new ≡ []) }
     ensures made_of { D.honest
         → IfOk result (λ r. r.1 ≡ true → (D.seen first.old ≡ []) × (D.seen second.old ≡ [])) }
-    ensures ends { IfOk result (λ r. Ends r.0.scan) }
+    ensures ends { IfOk result (λ r. Ends (found_in r.0)) }
     ensures whole { D.honest
         → OnOk result (((D.seen first.old ≡ []) × (D.seen second.old ≡ []))
         ⊎ (pair_fault log_bytes (D.seen first.old) (D.seen second.old) ≡ None)) }
-    ensures settings { IfOk result (λ r. r.0.log_bytes ≡ log_bytes) }
+    ensures settings { IfOk result (λ r. limit_of r.0 ≡ log_bytes) }
     ensures refused { D.honest → IfErr result (λ e. LogRefused e log_bytes (D.seen first.old) (D.seen second.old)) }
     ensures leaves { D.honest → LeavesFinding D.Disk first.old first.new second.old second.new }
 {

@@ -12,6 +12,7 @@ ghost use Rattle.xa_log.specs.Pair.{generation};
 ghost use Rattle.xa_log.specs.Reading.{bodies_of};
 ghost use Rattle.xa_log.specs.LogView.{LogView};
 ghost use Rattle.xa_log.specs.TwoFiles.{first_of, second_of};
+ghost use Rattle.xa_branch.specs.Branches.{moment_of};
 ghost use Rattle.mv_rules.specs.Within.{IsWithin, HasKeys};
 ghost use Rattle.xa_limits.specs.declared.TheConstants.{MOST_BOOTS, MOST_VALUE};
 ghost use Rattle.xa_model.specs.Answer.{detailed};
@@ -91,7 +92,7 @@ impl<D: Disk> Manager<D> {
     /// Makes ready what the next boot begins with, of the bodies of the log that was read again. All memory of a restart
     /// is taken by then.
     fn make_ready(&mut self, bodies: Vec<Vec<u8>>) -> Result<Planned, LogFault>
-        ensures plans { Plans self.old.tables.branches.moment (bodies_of bodies.items) result }
+        ensures plans { Plans (moment_of self.old.tables.branches) (bodies_of bodies.items) result }
         ensures holds { IfOk result (λ planned. HoldsNext self.new.log planned.next) }
         ensures log { OnOk result (HasReserved D.Disk self.old.log self.new.log) }
         ensures rest { self.new ≡ record self.old { log = self.new.log } }
@@ -156,12 +157,12 @@ impl<D: Disk> Manager<D> {
         ensures turn { (s t : State) (rs : List Record) → ManagerStandsFor D.Disk self.old s → Trusts D.Disk
             → IsFate survived s t → Backs rs t → HasRecords D.Disk rs self.old.log
             → self.old.log.lost ≡ false → nat_lt t.logged_boot MOST_BOOTS ≡ true
-            → next.boot ≡ t.logged_boot + 1 → IsReady (durable t) (t.logged_boot + 1) self.old.tables.branches.moment next
+            → next.boot ≡ t.logged_boot + 1 → IsReady (durable t) (t.logged_boot + 1) (moment_of self.old.tables.branches) next
             → AnswersAs D.Disk (taken (restart_turn s) result.outcome) result.reply self.new }
         ensures leaves { (s t : State) (rs : List Record) → ManagerStandsFor D.Disk self.old s → Trusts D.Disk
             → IsFate survived s t → Backs rs t → HasRecords D.Disk rs self.old.log
             → self.old.log.lost ≡ false → nat_lt t.logged_boot MOST_BOOTS ≡ true
-            → IsReady (durable t) (t.logged_boot + 1) self.old.tables.branches.moment next
+            → IsReady (durable t) (t.logged_boot + 1) (moment_of self.old.tables.branches) next
             → LeavesBoot D.Disk self.old.log (restart_turn s) result.outcome self.new.log }
         ensures outcome { self.new.outcome ≡ self.old.outcome }
         ensures called { self.old.log.lost ≡ false → (log : LogView D) → NoneRises D.failures log self.old.log
@@ -203,7 +204,7 @@ impl<D: Disk> Manager<D> {
 
     /// A new boot begins with what the log came to, which has so many records after where it ended.
     fn begin(&mut self, planned: Planned, after_end: usize) -> Done
-        requires next { IsNext planned.durable.value self.old.tables.branches.moment planned.next }
+        requires next { IsNext planned.durable.value (moment_of self.old.tables.branches) planned.next }
         requires boot { planned.boot ≡ planned.durable.value.boot }
         requires holds { HoldsNext self.old.log planned.next }
         requires above { IfSome planned.next

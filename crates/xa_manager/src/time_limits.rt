@@ -2,6 +2,7 @@ ghost use Rattle.std.specs.Prelude.{◌≡◌, false, nat_lt, IsSome};
 ghost use Rattle.xa_model.specs.TimeLimits.{timeout_by, tick_by};
 ghost use Rattle.xa_assoc.specs.Company.{company_of};
 ghost use Rattle.xa_assoc.specs.Seats.{opened_at};
+ghost use Rattle.xa_branch.specs.Branches.{moment_of};
 ghost use Rattle.xa_manager.specs.Replies.{IsFresh};
 ghost use Rattle.xa_assoc.specs.Refusals.{IsBare};
 ghost use Rattle.xa_manager.specs.Tables.{TablesFollow};
@@ -27,7 +28,7 @@ impl Tables {
 
     /// The moment, in seconds, is not below the last one: branches whose limit is over are marked, and counted.
     pub fn tick(&mut self, moment: u64) -> Reply
-        requires later { nat_lt moment self.old.branches.moment ≡ false }
+        requires later { nat_lt moment (moment_of self.old.branches) ≡ false }
         ensures follows { TablesFollow self.old (λ s. tick_by s moment) result self.new }
         ensures company { company_of self.new.sessions ≡ company_of self.old.sessions }
         ensures fresh { IsFresh result }
