@@ -23,6 +23,7 @@ use Rattle.xa_model.proofs.LogSizes.{sizes-append}
 use Rattle.xa_model.proofs.Folds.{one_more}
 use Rattle.xa_model.proofs.Times.{known_below}
 use Rattle.xa_model.proofs.Applied.{IsAmong, among, idle_branch}
+use Rattle.xa_model.proofs.AppliedAll.{applied_changes, applied_logged}
 use Rattle.xa_model.proofs.AppliedDecisions.{applied_lasts}
 use Rattle.xa_model.proofs.LoggedOrder.{LogsOn, in_order}
 use Rattle.xa_model.proofs.Newer.{AreUnused, changed_unused, left_unused, committed_still}
@@ -56,17 +57,7 @@ more_end rs r end before h e =
 -- boots
 
 applied_current : (s : State) (r : Record) → is_boot r ≡ false → (applied r s).logged_boot ≡ (applied r s).boot → s.logged_boot ≡ s.boot
-applied_current s (logged.Opened boot) e h = absurd (cc e)
-applied_current s (logged.Prepared xid t ws) e h = h
-applied_current s (logged.Committed xid t ws) e h = h
-applied_current s (logged.Completed xid direction.Commit) e h = h
-applied_current s (logged.Completed xid direction.Rollback) e h = h
-applied_current s (logged.Decided xid direction.Commit) e h = h
-applied_current s (logged.Decided xid direction.Rollback) e h = h
-applied_current s (logged.Forgotten xid) e h = h
-applied_current s (logged.Base t ws) e h = h
-applied_current s (logged.Held xid t ws) e h = h
-applied_current s (logged.Known xid direction) e h = h
+applied_current s r other h = sym (applied_logged s r other) ∙ h ∙ ap (λ (t : State). t.boot) (applied_changes s r)
 
 -- the timestamp of the record's branch is no other branch's
 

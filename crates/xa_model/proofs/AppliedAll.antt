@@ -22,63 +22,67 @@ use Rattle.xa_model.proofs.Recordable.{recordable, relogged, applied_loggable}
 
 -- what a record leaves alone
 
+-- it changes no more than the branches, what was decided, and the log
+pub applied_changes : (s : State) (r : Record)
+    → applied r s ≡ record s { logged_boot = (applied r s).logged_boot; branches = (applied r s).branches; decided = (applied r s).decided; end = (applied r s).end }
+applied_changes s (logged.Opened boot) = refl
+applied_changes s (logged.Prepared xid t ws) = refl
+applied_changes s (logged.Committed xid t ws) = refl
+applied_changes s (logged.Completed xid direction.Commit) = refl
+applied_changes s (logged.Completed xid direction.Rollback) = refl
+applied_changes s (logged.Decided xid direction.Commit) = refl
+applied_changes s (logged.Decided xid direction.Rollback) = refl
+applied_changes s (logged.Forgotten xid) = refl
+applied_changes s (logged.Base t ws) = refl
+applied_changes s (logged.Held xid t ws) = refl
+applied_changes s (logged.Known xid way) = refl
+
 pub applied_standing : (s : State) (r : Record) → (applied r s).standing ≡ s.standing
-applied_standing s (logged.Opened boot) = refl
-applied_standing s (logged.Prepared xid t ws) = refl
-applied_standing s (logged.Committed xid t ws) = refl
-applied_standing s (logged.Completed xid direction.Commit) = refl
-applied_standing s (logged.Completed xid direction.Rollback) = refl
-applied_standing s (logged.Decided xid direction.Commit) = refl
-applied_standing s (logged.Decided xid direction.Rollback) = refl
-applied_standing s (logged.Forgotten xid) = refl
-applied_standing s (logged.Base t ws) = refl
-applied_standing s (logged.Held xid t ws) = refl
-applied_standing s (logged.Known xid way) = refl
+applied_standing s r = ap (λ (t : State). t.standing) (applied_changes s r)
 
 pub applied_open : (s : State) (r : Record) → (applied r s).open_records ≡ s.open_records
-applied_open s (logged.Opened boot) = refl
-applied_open s (logged.Prepared xid t ws) = refl
-applied_open s (logged.Committed xid t ws) = refl
-applied_open s (logged.Completed xid direction.Commit) = refl
-applied_open s (logged.Completed xid direction.Rollback) = refl
-applied_open s (logged.Decided xid direction.Commit) = refl
-applied_open s (logged.Decided xid direction.Rollback) = refl
-applied_open s (logged.Forgotten xid) = refl
-applied_open s (logged.Base t ws) = refl
-applied_open s (logged.Held xid t ws) = refl
-applied_open s (logged.Known xid way) = refl
+applied_open s r = ap (λ (t : State). t.open_records) (applied_changes s r)
 
 -- the boot that was logged last is this one still
-pub applied_current : (s : State) (r : Record) → is_boot r ≡ false → s.logged_boot ≡ s.boot → (applied r s).logged_boot ≡ (applied r s).boot
-applied_current s (logged.Opened boot) other e = absurd (cc other)
-applied_current s (logged.Prepared xid t ws) other e = e
-applied_current s (logged.Committed xid t ws) other e = e
-applied_current s (logged.Completed xid direction.Commit) other e = e
-applied_current s (logged.Completed xid direction.Rollback) other e = e
-applied_current s (logged.Decided xid direction.Commit) other e = e
-applied_current s (logged.Decided xid direction.Rollback) other e = e
-applied_current s (logged.Forgotten xid) other e = e
-applied_current s (logged.Base t ws) other e = e
-applied_current s (logged.Held xid t ws) other e = e
-applied_current s (logged.Known xid way) other e = e
+pub applied_logged : (s : State) (r : Record) → is_boot r ≡ false → (applied r s).logged_boot ≡ s.logged_boot
+applied_logged s (logged.Opened boot) other = absurd (cc other)
+applied_logged s (logged.Prepared xid t ws) other = refl
+applied_logged s (logged.Committed xid t ws) other = refl
+applied_logged s (logged.Completed xid direction.Commit) other = refl
+applied_logged s (logged.Completed xid direction.Rollback) other = refl
+applied_logged s (logged.Decided xid direction.Commit) other = refl
+applied_logged s (logged.Decided xid direction.Rollback) other = refl
+applied_logged s (logged.Forgotten xid) other = refl
+applied_logged s (logged.Base t ws) other = refl
+applied_logged s (logged.Held xid t ws) other = refl
+applied_logged s (logged.Known xid way) other = refl
 
--- it does the same whoever answers, and whatever is open
+pub applied_current : (s : State) (r : Record) → is_boot r ≡ false → s.logged_boot ≡ s.boot → (applied r s).logged_boot ≡ (applied r s).boot
+applied_current s r other e = applied_logged s r other ∙ e ∙ sym (ap (λ (t : State). t.boot) (applied_changes s r))
+
+-- it does the same whoever is connected and answers, and whatever is open
+
+abbrev pub with_rest : State → State → State
+with_rest t s = record s { sessions = t.sessions; associations = t.associations; standing = t.standing; open_records = t.open_records }
+
+pub applied_rest : (u s : State) (r : Record) → applied r (with_rest u s) ≡ with_rest u (applied r s)
+applied_rest u s (logged.Opened boot) = refl
+applied_rest u s (logged.Prepared xid t ws) = refl
+applied_rest u s (logged.Committed xid t ws) = refl
+applied_rest u s (logged.Completed xid direction.Commit) = refl
+applied_rest u s (logged.Completed xid direction.Rollback) = refl
+applied_rest u s (logged.Decided xid direction.Commit) = refl
+applied_rest u s (logged.Decided xid direction.Rollback) = refl
+applied_rest u s (logged.Forgotten xid) = refl
+applied_rest u s (logged.Base t ws) = refl
+applied_rest u s (logged.Held xid t ws) = refl
+applied_rest u s (logged.Known xid way) = refl
 
 abbrev pub beside : State → Standing → List Record → State
 beside s standing rs = record s { standing = standing; open_records = rs }
 
 pub applied_beside : (s : State) (r : Record) (p : Standing) (o : List Record) → applied r (beside s p o) ≡ beside (applied r s) p o
-applied_beside s (logged.Opened boot) p o = refl
-applied_beside s (logged.Prepared xid t ws) p o = refl
-applied_beside s (logged.Committed xid t ws) p o = refl
-applied_beside s (logged.Completed xid direction.Commit) p o = refl
-applied_beside s (logged.Completed xid direction.Rollback) p o = refl
-applied_beside s (logged.Decided xid direction.Commit) p o = refl
-applied_beside s (logged.Decided xid direction.Rollback) p o = refl
-applied_beside s (logged.Forgotten xid) p o = refl
-applied_beside s (logged.Base t ws) p o = refl
-applied_beside s (logged.Held xid t ws) p o = refl
-applied_beside s (logged.Known xid way) p o = refl
+applied_beside s r p o = applied_rest (beside s p o) s r ∙ sym (ap (λ (t : State). beside t p o) (applied_rest s s r))
 
 pub all_beside : (rs : List Record) (s : State) (p : Standing) (o : List Record) → applied_all rs (beside s p o) ≡ beside (applied_all rs s) p o
 all_beside [] s p o = refl

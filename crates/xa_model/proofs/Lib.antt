@@ -17,15 +17,6 @@ pub mod Soundness
 pub mod Times
 pub mod Histories
 pub mod Doubts
-pub mod Worked
-pub mod WorkedCalls
-pub mod WorkedVersions
-pub mod WorkedRefusals
-pub mod WorkedEarly
-pub mod WorkedBranches
-pub mod WorkedLimits
-pub mod WorkedTimeLimits
-pub mod WorkedKnownBranches
 pub mod Inserts
 pub mod LastWrites
 pub mod Folds
@@ -41,12 +32,7 @@ pub mod Members
 pub mod InOrder
 pub mod Keys
 pub mod LastOfKeys
-pub mod WorkedLog
-pub mod WorkedTurns
-pub mod WorkedTrims
-pub mod WorkedDevice
 pub mod WorkedGroups
-pub mod WorkedRecovery
 pub mod Splits
 pub mod Commits
 pub mod Applied
@@ -70,7 +56,6 @@ pub mod Trims
 pub mod LoggedEvents
 pub mod SoundTurns
 pub mod LoggedOrder
-pub mod WorkedLasting
 pub mod Newer
 pub mod Appended
 pub mod Booted
@@ -121,4 +106,3 @@ pub mod LowWaters
 pub mod WorkFloors
 pub mod TrimLaws
 pub mod ChangedWaters
-pub mod WorkedLowWaters

@@ -37,6 +37,7 @@ use Rattle.xa_model.specs.Invariants.Loggable.{IsRecoverable}
 use Rattle.xa_model.specs.Events.{begins_boot}
 use Rattle.xa_model.proofs.Rows.{passed}
 use Rattle.xa_model.proofs.Replies.{AllOf, unless_all, marked_all, cond_all}
+use Rattle.xa_model.proofs.AppliedAll.{applied_changes}
 use Rattle.xa_model.proofs.Moves.{core, GoesOn, Remain, Moves, remains, begins, gets, puts, as_it_is, all_remain, changed_remain, mapped_remain, left_remain}
 
 -- the state after the answer is a move away
@@ -146,17 +147,7 @@ applied_remain s (logged.Held xid t ws) = all_remain s.branches
 applied_remain s (logged.Known xid direction) = all_remain s.branches
 
 pub applied_core : (s : State) (r : Record) → core (applied r s) ≡ record (core s) { branches = (applied r s).branches }
-applied_core s (logged.Opened boot) = refl
-applied_core s (logged.Prepared xid t ws) = refl
-applied_core s (logged.Committed xid t ws) = refl
-applied_core s (logged.Completed xid direction.Commit) = refl
-applied_core s (logged.Completed xid direction.Rollback) = refl
-applied_core s (logged.Decided xid direction.Commit) = refl
-applied_core s (logged.Decided xid direction.Rollback) = refl
-applied_core s (logged.Forgotten xid) = refl
-applied_core s (logged.Base t ws) = refl
-applied_core s (logged.Held xid t ws) = refl
-applied_core s (logged.Known xid direction) = refl
+applied_core s r = ap core (applied_changes s r)
 
 applies : (s : State) (r : Record) → Moves (core s) (core (applied r s))
 applies s r = subst (Moves (core s)) (sym (applied_core s r)) (remains (applied r s).branches (applied_remain s r))

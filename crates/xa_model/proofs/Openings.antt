@@ -1,5 +1,5 @@
 -- The state of a manager that was opened on what records come to.
-use Rattle.std.proofs.Common.{◌≡◌, ℕ, ◌+◌, ◌<◌, ◌≤◌, Bool, true, false, cond, Ok, List, [], ◌∷◌, ◌++◌, length, refl, ap, sym, ◌∙◌, subst, arith, inl}
+use Rattle.std.proofs.Common.{◌≡◌, ℕ, ◌+◌, ◌<◌, ◌≤◌, Bool, true, false, cond, Ok, List, [], ◌∷◌, ◌++◌, length, refl, ap, sym, ◌∙◌, subst, arith}
 use Rattle.std.specs.Prelude.{map, is_some}
 use Rattle.std.specs.List.{AllByRecursion}
 use Rattle.std.proofs.lemmas.Bool.{not-true}
@@ -28,6 +28,8 @@ use Rattle.xa_model.proofs.Readings.{fold_is_durable}
 use Rattle.xa_model.proofs.Snapshots.{snapshot_folds}
 use Rattle.xa_model.proofs.Written.{IsWritten, by_key, log_written, snapshot_is_written}
 use Rattle.xa_model.proofs.Applied.{same_durable}
+use Rattle.xa_model.proofs.Parts.{unheld_sound}
+use Rattle.xa_model.proofs.Restarts.{with_none_open}
 use Rattle.xa_model.proofs.ByTime.{AreApart, AreWithin, all_by_time, count_by_time, by_time_descends}
 use Rattle.xa_model.proofs.Rebuilt.{all_map, by_name_same, wrote_same, are_apart, committed_same, prepared_same, none_committed}
 use Rattle.xa_model.proofs.Booted.{past_given, snapshot_given}
@@ -158,19 +160,9 @@ known d = counted (λ b. is_some (name_of b.phase)) (λ p. true) (λ c. refl) (�
 
 opening_sound : (d : Durable) (name : List ℕ) (log_bytes : ℕ) → IsDurable d → length d.prepared + length d.decided ≤ most_known
     → IsSound (opening d name log_bytes (d.boot + 1))
-opening_sound d name log_bytes h few = record {
-  descends = by_time_descends (timestamp_of (d.boot + 1) 0 + 1) (built d) (within d h) (apart d h);
-  distinct = λ xid. once xid d h;
-  numbered = λ n. omega arith;
-  active = λ n. omega arith;
-  own = λ n xid. omega arith;
-  connected = λ n none. refl;
-  bound = λ xid none. refl;
-  sessions = omega arith;
-  known = omega (arith, known d, few);
-  given = omega arith;
-  loose = λ xid. omega arith;
-}
+opening_sound d name log_bytes h few =
+    unheld_sound (opening d name log_bytes (d.boot + 1)) (by_time_descends (timestamp_of (d.boot + 1) 0 + 1) (built d) (within d h) (apart d h)) (λ xid. once xid d h)
+    (omega (arith, known d, few)) (omega arith)
 
 -- and may be logged
 
@@ -210,14 +202,8 @@ opening_loggable d name log_bytes h less = record {
 
 opening_recoverable : (d : Durable) (name : List ℕ) (log_bytes : ℕ) → IsKept d → d.boot < 4294967295 → length d.prepared + length d.decided ≤ most_known
     → IsRecoverable (opening d name log_bytes (d.boot + 1))
-opening_recoverable d name log_bytes h less few = record {
-  sound = opening_sound d name log_bytes h.form few;
-  loggable = opening_loggable d name log_bytes h less;
-  open_records = tt;
-  group = inl tt;
-  settled = λ up. refl;
-  current = λ up. refl;
-}
+opening_recoverable d name log_bytes h less few =
+    with_none_open (opening d name log_bytes (d.boot + 1)) (opening_sound d name log_bytes h.form few) (opening_loggable d name log_bytes h less) refl refl
 
 -- What lasts of it is what lasted
 

@@ -3,6 +3,7 @@ use Rattle.std.proofs.Common.{◌≡◌, ◌+◌, ℕ, ◌≤◌, Bool, false, L
 use Rattle.std.specs.Prelude.{is_some, map}
 use Rattle.xa_record.specs.declared.record.Record.{Record}
 use Rattle.xa_xid.specs.Triple.{Triple, xid_eq}
+use Rattle.xa_limits.specs.declared.TheConstants.{MOST_GIVEN}
 use Rattle.xa_model.specs.State.{State, Branch, Association, Decided, Read, Standing, known_in, count, change, name_of, is_known_as, is_active, owns, is_loose_with, known_of, holders_of, timestamp_of, is_working, is_at_work}
 use Rattle.xa_model.specs.Associations.{is_of_session}
 use Rattle.xa_model.specs.Invariants.Sound.{IsSound, Descends, named, most_known}
@@ -48,11 +49,12 @@ with_fewer_held s held h fewer = record {
   loose = λ xid. omega (arith, h.loose xid, fewer (is_loose_with xid));
 }
 
--- of the decisions it matters that no XID has two, and how many they are
-pub with_decided : (s : State) (ds : List Decided) → IsSound s → ((q : Triple) → named (record s { decided = ds }) q ≤ 1)
-    → known_in (record s { decided = ds }) ≤ most_known → IsSound (record s { decided = ds })
-with_decided s ds h distinct known = record {
-  descends = h.descends;
+-- the same branches and associations are sound also beside another boot, other decisions, and whatever else t has
+pub sound_within : (s t : State) → IsSound s → Descends (timestamp_of t.boot t.given + 1) s.branches
+    → ((q : Triple) → named (record s { decided = t.decided }) q ≤ 1) → known_in (record s { decided = t.decided }) ≤ most_known → t.given ≤ MOST_GIVEN
+    → IsSound (record t { sessions = s.sessions; associations = s.associations; branches = s.branches })
+sound_within s t h descends distinct known given = record {
+  descends = descends;
   distinct = distinct;
   numbered = h.numbered;
   active = h.active;
@@ -61,44 +63,44 @@ with_decided s ds h distinct known = record {
   bound = h.bound;
   sessions = h.sessions;
   known = known;
-  given = h.given;
+  given = given;
   loose = h.loose;
 }
+
+-- of the decisions it matters that no XID has two, and how many they are
+pub with_decided : (s : State) (ds : List Decided) → IsSound s → ((q : Triple) → named (record s { decided = ds }) q ≤ 1)
+    → known_in (record s { decided = ds }) ≤ most_known → IsSound (record s { decided = ds })
+with_decided s ds h distinct known = sound_within s (record s { decided = ds }) h h.descends distinct known h.given
 
 -- the answered reads, the log, whether anybody answers, and the moment are no part of what is sound
 pub sound_beside : (s : State) (reads : List Read) (logged_boot end : ℕ) (standing : Standing) (open_records : List Record) (moment : ℕ)
     → IsSound s
     → IsSound (record s { reads = reads; logged_boot = logged_boot; end = end; standing = standing; open_records = open_records; moment = moment })
-sound_beside s reads logged_boot end standing open_records moment h = record {
-  descends = h.descends;
-  distinct = h.distinct;
-  numbered = h.numbered;
-  active = h.active;
-  own = h.own;
-  connected = h.connected;
-  bound = h.bound;
-  sessions = h.sessions;
-  known = h.known;
-  given = h.given;
-  loose = h.loose;
-}
+sound_beside s reads logged_boot end standing open_records moment h =
+    sound_within s (record s { reads = reads; logged_boot = logged_boot; end = end; standing = standing; open_records = open_records; moment = moment })
+    h h.descends h.distinct h.known h.given
 
--- nor are the settings; and nobody need be connected
-pub left_sound : (s : State) (name : List ℕ) (log_bytes : ℕ) → IsSound s
-    → IsSound (record s { name = name; log_bytes = log_bytes; sessions = []; associations = [] })
-left_sound s name log_bytes h = record {
-  descends = h.descends;
-  distinct = h.distinct;
+-- without sessions it matters only which branches and decisions there are
+pub unheld_sound : (s : State) → Descends (timestamp_of s.boot s.given + 1) s.branches → ((q : Triple) → named s q ≤ 1) → known_in s ≤ most_known
+    → s.given ≤ MOST_GIVEN → IsSound (record s { sessions = []; associations = [] })
+unheld_sound s descends distinct known given = record {
+  descends = descends;
+  distinct = distinct;
   numbered = λ n. omega arith;
   active = λ n. omega arith;
   own = λ n xid. omega arith;
   connected = λ n none. refl;
   bound = λ xid none. refl;
   sessions = omega arith;
-  known = h.known;
-  given = h.given;
+  known = known;
+  given = given;
   loose = λ xid. omega arith;
 }
+
+-- the settings are no part of it either; and nobody need be connected
+pub left_sound : (s : State) (name : List ℕ) (log_bytes : ℕ) → IsSound s
+    → IsSound (record s { name = name; log_bytes = log_bytes; sessions = []; associations = [] })
+left_sound s name log_bytes h = unheld_sound (record s { name = name; log_bytes = log_bytes }) h.descends h.distinct h.known h.given
 
 -- a change of a branch that leaves its timestamp, its name, and whether it is at work
 pub record KeepsName (f : Branch → Branch) : Type 0 where

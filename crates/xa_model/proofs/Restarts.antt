@@ -3,7 +3,7 @@ use Rattle.std.proofs.Common.{◌≡◌, ℕ, ◌+◌, ◌<◌, ◌≤◌, ◌==
 use Rattle.std.specs.Prelude.{filter, filter_map, map, reverse, is_some, nat_lt, option_map, take, Contains, IfSome}
 use Rattle.xa_record.specs.declared.record.Record.{Record}
 use Rattle.xa_record.specs.declared.record.Record.TheVariants as logged
-use Rattle.xa_model.specs.State.{State, Session, Branch, Phase, Working, Prepared, Committed, is_known_as, name_of, timestamp_of, is_working}
+use Rattle.xa_model.specs.State.{State, Session, Branch, Phase, Working, Prepared, Committed, Up, is_known_as, name_of, timestamp_of, is_working}
 use Rattle.xa_codes.specs.declared.codes.TheConstants.{XAER_RMFAIL}
 use Rattle.xa_codes.specs.declared.detail.Detail.TheVariants as detail
 use Rattle.xa_model.specs.Answer.{answer, detailed, ok}
@@ -20,7 +20,7 @@ use Rattle.xa_model.proofs.Counts.{count_filter, count_map}
 use Rattle.xa_model.proofs.Order.{descends_below}
 use Rattle.xa_model.proofs.Applied.{committed_of, prepared_of, same_durable}
 use Rattle.xa_model.proofs.AppliedAll.{IsFirst, first_is, same_fates, if_imply, if_mapped}
-use Rattle.xa_model.proofs.Likeness.{like_group}
+use Rattle.xa_model.proofs.Likeness.{IsLike, like_group}
 use Rattle.xa_model.proofs.Parts.{sound_beside, left_sound}
 use Rattle.xa_model.proofs.Stopped.{down_sound, ended_sound, down_like, ended_like}
 use Rattle.xa_model.proofs.Recordable.{recordable, loggable, relogged, lasting_recordable}
@@ -98,38 +98,36 @@ reopened_sound s name log_bytes next h less =
 
 -- a manager that is down, or ended
 
-down_fails : (s : State) → IsRecoverable s → Fails s (down s)
-down_fails s h =
-    let sound = down_sound s s.open_records h.sound in
-    let follow : MayFollow (down s) s.open_records = like_group s (down s) s.open_records h.group (down_like s s.open_records) h.open_records in
+-- t's settings and sessions, with what s knows and these open records
+abbrev stopped : State → State → List Record → State
+stopped s t rs = record t { boot = s.boot; logged_boot = s.logged_boot; branches = s.branches; decided = s.decided; open_records = rs }
+
+stopped_loggable : (s t : State) (rs : List Record) → IsLoggable s → IsLoggable (stopped s t rs)
+stopped_loggable s t rs h = relogged s (stopped s t rs) h refl refl (recordable s h)
+
+stopped_fails : (s t : State) → IsRecoverable s → (t.standing ≡ Up → ⊥) → IsSound (stopped s t s.open_records) → IsLike s (stopped s t s.open_records)
+    → Fails s (stopped s t s.open_records)
+stopped_fails s t h never sound like =
+    let rs = s.open_records in
+    let follow : MayFollow (stopped s t rs) rs = like_group s (stopped s t rs) rs h.group like h.open_records in
     record {
       recoverable = record {
         sound = sound;
-        loggable = relogged s (down s) h.loggable refl refl (recordable s h.loggable);
+        loggable = stopped_loggable s t rs h.loggable;
         open_records = follow;
         group = h.group;
-        settled = λ up. absurd (cc up);
-        current = λ up. absurd (cc up);
+        settled = λ up. absurd (never up);
+        current = λ up. absurd (never up);
       };
-      fates = same_fates s (down s) s.open_records h.sound sound h.open_records follow refl;
+      fates = same_fates s (stopped s t rs) rs h.sound sound h.open_records follow refl;
     }
+
+down_fails : (s : State) → IsRecoverable s → Fails s (down s)
+down_fails s h = stopped_fails s (down s) h (λ up. cc up) (down_sound s s.open_records h.sound) (down_like s s.open_records)
 
 ended_fails : (s : State) (name : List ℕ) (log_bytes : ℕ) → IsRecoverable s → Fails s (refused_opening s name log_bytes)
 ended_fails s name log_bytes h =
-    let t = refused_opening s name log_bytes in
-    let sound = ended_sound s name log_bytes s.open_records h.sound in
-    let follow : MayFollow t s.open_records = like_group s t s.open_records h.group (ended_like s name log_bytes s.open_records) h.open_records in
-    record {
-      recoverable = record {
-        sound = sound;
-        loggable = relogged s t h.loggable refl refl (recordable s h.loggable);
-        open_records = follow;
-        group = h.group;
-        settled = λ up. absurd (cc up);
-        current = λ up. absurd (cc up);
-      };
-      fates = same_fates s t s.open_records h.sound sound h.open_records follow refl;
-    }
+    stopped_fails s (refused_opening s name log_bytes) h (λ up. cc up) (ended_sound s name log_bytes s.open_records h.sound) (ended_like s name log_bytes s.open_records)
 
 -- the next boot
 
@@ -144,48 +142,54 @@ none_follow s rs e = subst (λ (l : List Record). MayFollow s l) (sym e) tt
 pub none_grouped : (rs : List Record) → rs ≡ [] → AreOneGroup rs
 none_grouped rs e = subst AreOneGroup (sym e) (inl tt)
 
-pub booted_recoverable : (s : State) → IsRecoverable s → s.open_records ≡ [] → s.logged_boot < 4294967295 → IsRecoverable (restarted s (s.logged_boot + 1))
-booted_recoverable s h settled less = record {
-  sound = booted_sound s (s.logged_boot + 1) h.sound (omega (arith, h.loggable.boots));
-  loggable = booted_loggable s h.loggable less;
-  open_records = none_follow (restarted s (s.logged_boot + 1)) s.open_records settled;
+-- no record is open
+pub with_none_open : (s : State) → IsSound s → IsLoggable s → s.open_records ≡ [] → s.logged_boot ≡ s.boot → IsRecoverable s
+with_none_open s sound loggable settled current = record {
+  sound = sound;
+  loggable = loggable;
+  open_records = none_follow s s.open_records settled;
   group = none_grouped s.open_records settled;
   settled = λ up. settled;
-  current = λ up. refl;
+  current = λ up. current;
 }
+
+pub booted_recoverable : (s : State) → IsRecoverable s → s.open_records ≡ [] → s.logged_boot < 4294967295 → IsRecoverable (restarted s (s.logged_boot + 1))
+booted_recoverable s h settled less =
+    with_none_open (restarted s (s.logged_boot + 1)) (booted_sound s (s.logged_boot + 1) h.sound (omega (arith, h.loggable.boots))) (booted_loggable s h.loggable less)
+    settled refl
 
 pub reopened_recoverable : (s : State) (name : List ℕ) (log_bytes : ℕ) → IsRecoverable s → s.open_records ≡ [] → s.logged_boot < 4294967295
     → IsRecoverable (reopened s name log_bytes (s.logged_boot + 1))
 reopened_recoverable s name log_bytes h settled less =
-    let booted = booted_loggable s h.loggable less in record {
-      sound = reopened_sound s name log_bytes (s.logged_boot + 1) h.sound (omega (arith, h.loggable.boots));
-      loggable = relogged (restarted s (s.logged_boot + 1)) (reopened s name log_bytes (s.logged_boot + 1)) booted refl refl (recordable (restarted s (s.logged_boot + 1)) booted);
-      open_records = none_follow (reopened s name log_bytes (s.logged_boot + 1)) s.open_records settled;
-      group = none_grouped s.open_records settled;
-      settled = λ up. settled;
-      current = λ up. refl;
-    }
+    let t = reopened s name log_bytes (s.logged_boot + 1) in
+    let booted = booted_loggable s h.loggable less in
+    with_none_open t (reopened_sound s name log_bytes (s.logged_boot + 1) h.sound (omega (arith, h.loggable.boots)))
+    (relogged (restarted s (s.logged_boot + 1)) t booted refl refl (recordable (restarted s (s.logged_boot + 1)) booted)) settled refl
 
 -- its record was lost
 
 opened_last : (t : State) → t.logged_boot < 4294967295 → MayBeLast t (logged.Opened (t.logged_boot + 1))
 opened_last t less = record { may = omega arith; limits = (omega arith, omega (arith, less)); current = λ other. absurd (cc other) }
 
-pub lost_in_doubt : (s : State) → IsRecoverable s → s.logged_boot < 4294967295
-    → IsInDoubt s (logged.Opened (s.logged_boot + 1)) (record (down s) { open_records = logged.Opened (s.logged_boot + 1) ∷ [] })
-lost_in_doubt s h less =
-    let lost : State = record (down s) { open_records = logged.Opened (s.logged_boot + 1) ∷ [] } in record {
+stopped_in_doubt : (s t : State) → IsRecoverable s → s.logged_boot < 4294967295 → (t.standing ≡ Up → ⊥)
+    → IsSound (stopped s t (logged.Opened (s.logged_boot + 1) ∷ [])) → IsInDoubt s (logged.Opened (s.logged_boot + 1)) (stopped s t (logged.Opened (s.logged_boot + 1) ∷ []))
+stopped_in_doubt s t h less never sound =
+    let rs = logged.Opened (s.logged_boot + 1) ∷ [] in record {
       recoverable = record {
-        sound = down_sound s (logged.Opened (s.logged_boot + 1) ∷ []) h.sound;
-        loggable = relogged s lost h.loggable refl refl (recordable s h.loggable);
-        open_records = (opened_last lost less, tt);
+        sound = sound;
+        loggable = stopped_loggable s t rs h.loggable;
+        open_records = (opened_last (stopped s t rs) less, tt);
         group = inr refl;
-        settled = λ up. absurd (cc up);
-        current = λ up. absurd (cc up);
+        settled = λ up. absurd (never up);
+        current = λ up. absurd (never up);
       };
       lasts = refl;
       open_records = refl;
     }
+
+pub lost_in_doubt : (s : State) → IsRecoverable s → s.logged_boot < 4294967295
+    → IsInDoubt s (logged.Opened (s.logged_boot + 1)) (record (down s) { open_records = logged.Opened (s.logged_boot + 1) ∷ [] })
+lost_in_doubt s h less = stopped_in_doubt s (down s) h less (λ up. cc up) (down_sound s (logged.Opened (s.logged_boot + 1) ∷ []) h.sound)
 
 -- once the open record is settled
 
@@ -213,8 +217,7 @@ reopens_by : (s : State) (name : List ℕ) (log_bytes : ℕ) (c : Bool) → (nat
     → BootLasts s (cond c (Opens (logged.Opened (s.logged_boot + 1)) (reopen_became s name log_bytes (s.logged_boot + 1))) (Stops (ok (refused_opening s name log_bytes))))
 reopens_by s name log_bytes true e h settled =
     let first = (and_parts (nat_lt s.logged_boot 4294967295) (can_open s log_bytes (s.logged_boot + 1)) e).0 in
-    let less : s.logged_boot < 4294967295 = grind (arith, nat_tests) in
-    let lost : State = record (refused_opening s name log_bytes) { open_records = logged.Opened (s.logged_boot + 1) ∷ [] } in (
+    let less : s.logged_boot < 4294967295 = grind (arith, nat_tests) in (
       refl,
       record {
         recoverable = reopened_recoverable s name log_bytes h settled less;
@@ -224,18 +227,7 @@ reopens_by s name log_bytes true e h settled =
         settled = settled;
       },
       ended_fails s name log_bytes h,
-      record {
-        recoverable = record {
-          sound = ended_sound s name log_bytes (logged.Opened (s.logged_boot + 1) ∷ []) h.sound;
-          loggable = relogged s lost h.loggable refl refl (recordable s h.loggable);
-          open_records = (opened_last lost less, tt);
-          group = inr refl;
-          settled = λ up. absurd (cc up);
-          current = λ up. absurd (cc up);
-        };
-        lasts = refl;
-        open_records = refl;
-      },
+      stopped_in_doubt s (refused_opening s name log_bytes) h less (λ up. cc up) (ended_sound s name log_bytes (logged.Opened (s.logged_boot + 1) ∷ []) h.sound),
     )
 reopens_by s name log_bytes false e h settled = ended_fails s name log_bytes h
 

@@ -1,5 +1,5 @@
 -- The moment: nothing that is asked puts it back, and an opening that succeeds begins at 0.
-use Rattle.std.proofs.Common.{◌≡◌, ◌∙◌, ℕ, zero, suc, ℤ, ◌+◌, ◌≤◌, Bool, true, false, not, ◌&&◌, cond, List, [], ◌∷◌, Option, Some, None, refl, arith, nat_lt}
+use Rattle.std.proofs.Common.{◌≡◌, ◌∙◌, ℕ, zero, suc, ℤ, ◌+◌, ◌≤◌, Bool, true, false, not, ◌&&◌, cond, List, [], ◌∷◌, Option, Some, None, refl, ap, arith, nat_lt}
 use Rattle.std.specs.Prelude.{IfSome, is_none, is_some}
 use Rattle.std.specs.List.{list_any}
 use Rattle.std.proofs.lemmas.Bool.Decides.{nat_tests}
@@ -37,7 +37,7 @@ use Rattle.xa_model.specs.Trimming.{trim_refusal, trim_became, trim_turn}
 use Rattle.xa_model.specs.Fold.{is_empty}
 use Rattle.xa_model.specs.Laws.Time.{MomentsRise, OpensAtZero}
 use Rattle.xa_model.proofs.Rows.{passed}
-use Rattle.xa_model.proofs.AppliedAll.{if_imply, if_mapped, if_some}
+use Rattle.xa_model.proofs.AppliedAll.{applied_changes, if_imply, if_mapped, if_some}
 use Rattle.xa_model.proofs.Restarts.{found_boots}
 use Rattle.xa_model.proofs.Replies.{AllOf, AllOfReading, taken_all, asked_all, joins_all, unless_all, marked_all, cond_all}
 
@@ -72,17 +72,7 @@ unless_turns None s t h = h refl
 unless_turns (Some reply) s t h = itself s
 
 applied_moment : (s : State) (r : Record) → (applied r s).moment ≡ s.moment
-applied_moment s (logged.Opened boot) = refl
-applied_moment s (logged.Prepared xid t ws) = refl
-applied_moment s (logged.Committed xid t ws) = refl
-applied_moment s (logged.Completed xid direction.Commit) = refl
-applied_moment s (logged.Completed xid direction.Rollback) = refl
-applied_moment s (logged.Decided xid direction.Commit) = refl
-applied_moment s (logged.Decided xid direction.Rollback) = refl
-applied_moment s (logged.Forgotten xid) = refl
-applied_moment s (logged.Base t ws) = refl
-applied_moment s (logged.Held xid t ws) = refl
-applied_moment s (logged.Known xid direction) = refl
+applied_moment s r = ap (λ (t : State). t.moment) (applied_changes s r)
 
 applied_rises : (s : State) (r : Record) → s.moment ≤ (applied r s).moment
 applied_rises s r = let same = applied_moment s r in omega (arith, same)

@@ -13,7 +13,7 @@ use Rattle.xa_model.specs.Invariants.Sound.{IsSound}
 use Rattle.xa_model.specs.Invariants.MayLog.{MayLog}
 use Rattle.xa_model.specs.Invariants.Loggable.{MayFollow}
 use Rattle.xa_model.specs.Invariants.Room.{HasRoom, HasRoomWith, HasRoomAnyway}
-use Rattle.xa_model.proofs.AppliedAll.{applied_beside, beside, if_imply, if_mapped}
+use Rattle.xa_model.proofs.AppliedAll.{applied_beside, applied_changes, beside, if_imply, if_mapped}
 use Rattle.xa_model.proofs.AppliedDecisions.{applied_lasts, applied_sound}
 use Rattle.xa_model.proofs.Rooms.{lasting_room}
 
@@ -30,17 +30,7 @@ stopped_with (r ∷ rs) s standing o h = (
 )
 
 applied_bytes : (s : State) (r : Record) → (applied r s).log_bytes ≡ s.log_bytes
-applied_bytes s (logged.Opened boot) = refl
-applied_bytes s (logged.Prepared xid t ws) = refl
-applied_bytes s (logged.Committed xid t ws) = refl
-applied_bytes s (logged.Completed xid direction.Commit) = refl
-applied_bytes s (logged.Completed xid direction.Rollback) = refl
-applied_bytes s (logged.Decided xid direction.Commit) = refl
-applied_bytes s (logged.Decided xid direction.Rollback) = refl
-applied_bytes s (logged.Forgotten xid) = refl
-applied_bytes s (logged.Base t ws) = refl
-applied_bytes s (logged.Held xid t ws) = refl
-applied_bytes s (logged.Known xid d) = refl
+applied_bytes s r = ap (λ (t : State). t.log_bytes) (applied_changes s r)
 
 sized : (r : Record) (m n : ℕ) → m ≡ n → m + size_of r ≡ n + size_of r
 sized r m n e = ap (λ k. k + size_of r) e

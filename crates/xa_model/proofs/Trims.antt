@@ -22,8 +22,9 @@ use Rattle.xa_model.specs.Laws.Logging.{Fails, BeginsWhatLasts, TrimLasts}
 use Rattle.xa_model.specs.Restarting.{can_open}
 use Rattle.xa_model.specs.Trimming.{trim_refusal, trimmed, trim_became, trim_turn}
 use Rattle.xa_model.proofs.Order.{descends_below}
+use Rattle.xa_model.proofs.Parts.{sound_within}
 use Rattle.xa_model.proofs.Recordable.{recordable, loggable, raised}
-use Rattle.xa_model.proofs.Restarts.{next_above, none_follow, none_grouped, lost_in_doubt}
+use Rattle.xa_model.proofs.Restarts.{next_above, with_none_open, lost_in_doubt}
 use Rattle.xa_model.proofs.Rows.{passed, below}
 
 -- where it isn't refused
@@ -42,19 +43,10 @@ may_trim s e =
     }
 
 trimmed_sound : (s : State) (next : ℕ) → IsSound s → s.boot < next → IsSound (trimmed s next)
-trimmed_sound s next h less = record {
-  descends = descends_below (timestamp_of s.boot s.given + 1) (timestamp_of next 0 + 1) s.branches (next_above s.boot s.given next h.given less) h.descends;
-  distinct = h.distinct;
-  numbered = h.numbered;
-  active = h.active;
-  own = h.own;
-  connected = h.connected;
-  bound = h.bound;
-  sessions = h.sessions;
-  known = h.known;
-  given = omega arith;
-  loose = h.loose;
-}
+trimmed_sound s next h less =
+    sound_within s (trimmed s next) h
+    (descends_below (timestamp_of s.boot s.given + 1) (timestamp_of next 0 + 1) s.branches (next_above s.boot s.given next h.given less) h.descends)
+    h.distinct h.known (omega arith)
 
 trimmed_loggable : (s : State) → IsLoggable s → s.logged_boot < 4294967295 → IsLoggable (trimmed s (s.logged_boot + 1))
 trimmed_loggable s h less =
@@ -62,14 +54,9 @@ trimmed_loggable s h less =
     (raised s.logged_boot (s.logged_boot + 1) s.branches (omega arith) (recordable s h))
 
 pub trimmed_recoverable : (s : State) → IsRecoverable s → s.open_records ≡ [] → s.logged_boot < 4294967295 → IsRecoverable (trimmed s (s.logged_boot + 1))
-trimmed_recoverable s h settled less = record {
-  sound = trimmed_sound s (s.logged_boot + 1) h.sound (omega (arith, h.loggable.boots));
-  loggable = trimmed_loggable s h.loggable less;
-  open_records = none_follow (trimmed s (s.logged_boot + 1)) s.open_records settled;
-  group = none_grouped s.open_records settled;
-  settled = λ up. settled;
-  current = λ up. refl;
-}
+trimmed_recoverable s h settled less =
+    with_none_open (trimmed s (s.logged_boot + 1)) (trimmed_sound s (s.logged_boot + 1) h.sound (omega (arith, h.loggable.boots))) (trimmed_loggable s h.loggable less)
+    settled refl
 
 pub fails_itself : (s : State) → IsRecoverable s → Fails s s
 fails_itself s h = record { recoverable = h; fates = refl }

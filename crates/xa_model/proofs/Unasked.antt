@@ -25,7 +25,7 @@ use Rattle.xa_model.specs.Laws.Restarts.{asks, comes, goes, restart_entries, Res
 use Rattle.xa_model.specs.Step.{asked, is_up, opened_of, context_of}
 use Rattle.xa_model.specs.Turn.{Turn, Now, Stops, Opens, going_on, taken, unless_now}
 use Rattle.xa_model.specs.declared.event.Event.TheVariants as event
-use Rattle.xa_model.proofs.AppliedAll.{if_imply}
+use Rattle.xa_model.proofs.AppliedAll.{applied_changes, applied_rest, if_imply}
 use Rattle.xa_model.proofs.Further.{quiet_turn, passing_none}
 use Rattle.xa_model.proofs.Counts.{count_less}
 use Rattle.xa_model.proofs.Leaving.{none_counted}
@@ -106,30 +106,10 @@ boots : (s : State) (x : Option Appending) → count (is_of_session 1) s.associa
 boots s x free = boots_by s x (s.logged_boot + 1) (nat_lt s.logged_boot MOST_BOOTS) free
 
 applied_among : (xs : List Session) (s : State) (r : Record) → applied r (among xs s) ≡ among xs (applied r s)
-applied_among xs s (logged.Opened boot) = refl
-applied_among xs s (logged.Prepared xid t ws) = refl
-applied_among xs s (logged.Committed xid t ws) = refl
-applied_among xs s (logged.Completed xid direction.Commit) = refl
-applied_among xs s (logged.Completed xid direction.Rollback) = refl
-applied_among xs s (logged.Decided xid direction.Commit) = refl
-applied_among xs s (logged.Decided xid direction.Rollback) = refl
-applied_among xs s (logged.Forgotten xid) = refl
-applied_among xs s (logged.Base t ws) = refl
-applied_among xs s (logged.Held xid t ws) = refl
-applied_among xs s (logged.Known xid direction) = refl
+applied_among xs s r = applied_rest (among xs s) s r ∙ sym (ap (among xs) (applied_rest s s r))
 
 applied_held : (s : State) (r : Record) → (applied r s).associations ≡ s.associations
-applied_held s (logged.Opened boot) = refl
-applied_held s (logged.Prepared xid t ws) = refl
-applied_held s (logged.Committed xid t ws) = refl
-applied_held s (logged.Completed xid direction.Commit) = refl
-applied_held s (logged.Completed xid direction.Rollback) = refl
-applied_held s (logged.Decided xid direction.Commit) = refl
-applied_held s (logged.Decided xid direction.Rollback) = refl
-applied_held s (logged.Forgotten xid) = refl
-applied_held s (logged.Base t ws) = refl
-applied_held s (logged.Held xid t ws) = refl
-applied_held s (logged.Known xid direction) = refl
+applied_held s r = ap (λ (t : State). t.associations) (applied_changes s r)
 
 first_among : (k : ℕ) (rs : List Record) (xs : List Session) (s : State) → with_first k rs (among xs s) ≡ option_map (among xs) (with_first k rs s)
 first_among zero rs xs s = refl

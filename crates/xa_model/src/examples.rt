@@ -11,13 +11,13 @@ ghost use Rattle.xa_model.specs.Worked.Groups.{RefusedWhileDown, FatesOfGroup, W
 ghost use Rattle.xa_model.specs.Worked.Groups.{CompletionsRefused, GroupReopened, LostPromises, JudgedTogether, WhichJoin};
 ghost use Rattle.xa_model.specs.Worked.Recovery.{Recovered, PreparedWithoutWrites, NextBoot, LostAndFound, LostAndGone};
 ghost use Rattle.xa_model.specs.Worked.Recovery.{Heuristics, Scans, JustRoom, NoRoom, Refusals, PreparedAgain};
-ghost use Rattle.xa_model.specs.Worked.{ReadBack, BusyUntilCommitted, FlagsRefused};
 ghost use Rattle.xa_model.specs.Worked.Calls.{ComesAndGoes, Migration, OwnBeforeLoose, LooseEnds, BrokenConnection};
 ghost use Rattle.xa_model.specs.Worked.Calls.{SuspendedAndBroken, NumbersAgain, Opening, Marks, FirstMark};
 ghost use Rattle.xa_model.specs.Worked.Versions.{LateWrite, LateDelete, BlindWrite, BusyBelow, BusyInDoubt};
+ghost use Rattle.xa_model.specs.Worked.Versions.{ReadBack, BusyUntilCommitted};
 ghost use Rattle.xa_model.specs.Worked.Versions.{SharedBranch, NotBusyAbove, Deleted, DeletedAfterwards, ReadOver};
 ghost use Rattle.xa_model.specs.Worked.Refusals.{EarlyRefused, CloseRefused, StartRefused, JoinRefused, ResumeRefused};
-ghost use Rattle.xa_model.specs.Worked.Refusals.{SuspendRefused, EndRefused};
+ghost use Rattle.xa_model.specs.Worked.Refusals.{FlagsRefused, SuspendRefused, EndRefused};
 ghost use Rattle.xa_model.specs.Worked.Early.{NotConnected, NotOpened, IsDown, FlagsOfEach, CountsOfEach};
 ghost use Rattle.xa_model.specs.Worked.Branches.{OnePhaseRefused, TwoPhaseRefused, RollbackRefused, PrepareRefused};
 ghost use Rattle.xa_model.specs.Worked.Branches.{DoomRefused, RecordsRefused};

@@ -4,9 +4,9 @@ use Rattle.xa_codes.specs.declared.codes.TheConstants.{XAER_PROTO, XAER_NOTA, XA
 use Rattle.xa_codes.specs.declared.direction.Direction.TheVariants as direction
 use Rattle.xa_model.specs.Answer.{plain}
 use Rattle.xa_model.specs.Worked.{done, number}
-use Rattle.xa_model.specs.Worked.Scripts.{Replied, new_manager, xid_a, time, connects, session, begins, resumes}
-use Rattle.xa_model.specs.Worked.Scripts.{suspends, migrates, ends, commits, completes, prepares, rolls_back, dooms}
-use Rattle.xa_model.specs.Worked.Scripts.{decides, forgets, gets, puts, deletes}
+use Rattle.xa_model.specs.Worked.Scripts.{Replied, new_manager, xid_a, time, connects, session, two_sessions, begins}
+use Rattle.xa_model.specs.Worked.Scripts.{resumes, suspends, migrates, ends, commits, completes, prepares, rolls_back}
+use Rattle.xa_model.specs.Worked.Scripts.{dooms, decides, forgets, gets, puts, deletes}
 use Rattle.xa_model.specs.Worked.Refusals.{in_doubt, was_committed, was_rolled_back, settled}
 
 -- no commit in one phase with an association left, active, suspended or nobody's, nor of a branch that isn't at work; a
@@ -14,8 +14,7 @@ use Rattle.xa_model.specs.Worked.Refusals.{in_doubt, was_committed, was_rolled_b
 abbrev pub OnePhaseRefused : Type 0
 OnePhaseRefused =
     Replied settled (
-    session 1
-    ++ session 2
+    two_sessions
     ++ commits 1 xid_a (plain XAER_NOTA)
     ∷ begins 1 xid_a (time 4)
     ∷ commits 2 xid_a (plain XAER_PROTO)
@@ -54,8 +53,7 @@ TwoPhaseRefused =
 abbrev pub RollbackRefused : Type 0
 RollbackRefused =
     Replied settled (
-    session 1
-    ++ session 2
+    two_sessions
     ++ rolls_back 1 xid_a (plain XAER_NOTA)
     ∷ begins 1 xid_a (time 4)
     ∷ rolls_back 1 xid_a (plain XAER_PROTO)
@@ -124,8 +122,7 @@ DoomRefused =
 abbrev pub RecordsRefused : Type 0
 RecordsRefused =
     Replied new_manager (
-    session 1
-    ++ session 2
+    two_sessions
     ++ gets 1 (plain XAER_PROTO)
     ∷ puts 1 0x76 (plain XAER_PROTO)
     ∷ deletes 1 (plain XAER_PROTO)

@@ -7,9 +7,10 @@ use Rattle.xa_codes.specs.declared.flags.TheConstants.{TMNOFLAGS}
 use Rattle.xa_frame.specs.declared.request.Request.TheVariants.{Open}
 use Rattle.xa_model.specs.Answer.{plain, detailed}
 use Rattle.xa_model.specs.Worked.{done, number}
-use Rattle.xa_model.specs.Worked.Scripts.{Replied, new_manager, xid_a, xid_b, xid_c, time, not_there, connects, hangs_up}
-use Rattle.xa_model.specs.Worked.Scripts.{asks_by, opens, closes, session, begins, joins, resumes, suspends, migrates}
-use Rattle.xa_model.specs.Worked.Scripts.{ends, fails, commits, rolls_back, dooms, gets, puts}
+use Rattle.xa_model.specs.Worked.Scripts.{Replied, new_manager, xid_a, xid_b, xid_c, time, not_there, connects}
+use Rattle.xa_model.specs.Worked.Scripts.{hangs_up, asks_by, opens, closes, session, two_sessions, begins, joins}
+use Rattle.xa_model.specs.Worked.Scripts.{resumes, suspends, migrates, ends, fails, commits, rolls_back, dooms, gets}
+use Rattle.xa_model.specs.Worked.Scripts.{puts}
 
 -- Associations
 
@@ -21,8 +22,7 @@ ComesAndGoes = Replied new_manager (session 1 ++ closes 1 done ∷ hangs_up 1 �
 abbrev pub Migration : Type 0
 Migration =
     Replied new_manager (
-    session 1
-    ++ session 2
+    two_sessions
     ++ session 3
     ++ begins 1 xid_a (time 1)
     ∷ migrates 1 xid_a done
@@ -39,8 +39,7 @@ Migration =
 abbrev pub OwnBeforeLoose : Type 0
 OwnBeforeLoose =
     Replied new_manager (
-    session 1
-    ++ session 2
+    two_sessions
     ++ begins 1 xid_a (time 1)
     ∷ joins 2 xid_a (time 1)
     ∷ migrates 2 xid_a done
@@ -57,8 +56,7 @@ OwnBeforeLoose =
 abbrev pub LooseEnds : Type 0
 LooseEnds =
     Replied new_manager (
-    session 1
-    ++ session 2
+    two_sessions
     ++ begins 1 xid_a (time 1)
     ∷ migrates 1 xid_a done
     ∷ ends 2 xid_a done
@@ -70,8 +68,7 @@ LooseEnds =
 abbrev pub BrokenConnection : Type 0
 BrokenConnection =
     Replied new_manager (
-    session 1
-    ++ session 2
+    two_sessions
     ++ begins 1 xid_b (time 1)
     ∷ ends 1 xid_b done
     ∷ begins 1 xid_a (time 2)
@@ -87,8 +84,7 @@ BrokenConnection =
 abbrev pub SuspendedAndBroken : Type 0
 SuspendedAndBroken =
     Replied new_manager (
-    session 1
-    ++ session 2
+    two_sessions
     ++ begins 1 xid_a (time 1)
     ∷ suspends 1 xid_a done
     ∷ begins 1 xid_b (time 2)
@@ -105,8 +101,7 @@ SuspendedAndBroken =
 abbrev pub NumbersAgain : Type 0
 NumbersAgain =
     Replied new_manager (
-    session 1
-    ++ session 2
+    two_sessions
     ++ session 3
     ++ hangs_up 2
     ∷ hangs_up 2
@@ -139,8 +134,7 @@ Opening =
 abbrev pub Marks : Type 0
 Marks =
     Replied new_manager (
-    session 1
-    ++ session 2
+    two_sessions
     ++ begins 1 xid_a (time 1)
     ∷ dooms 2 xid_a done
     ∷ puts 1 0x76 (plain XA_RBOTHER)
@@ -158,8 +152,7 @@ Marks =
 abbrev pub FirstMark : Type 0
 FirstMark =
     Replied new_manager (
-    session 1
-    ++ session 2
+    two_sessions
     ++ begins 1 xid_a (time 1)
     ∷ fails 1 xid_a (plain XA_RBROLLBACK)
     ∷ dooms 2 xid_a done

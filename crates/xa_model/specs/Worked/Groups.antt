@@ -27,8 +27,8 @@ use Rattle.xa_model.specs.Worked.Device.{down_with}
 use Rattle.xa_model.specs.Worked.Log.{xid_1, xid_2, put_1, write}
 use Rattle.xa_model.specs.Worked.Recovery.{lists}
 use Rattle.xa_model.specs.Worked.Scripts.{Replied, new_manager, xid_a, xid_b, xid_c, time, found, not_there, kept}
-use Rattle.xa_model.specs.Worked.Scripts.{refused, lost, with_outcome, session, begins, ends, prepares, commits}
-use Rattle.xa_model.specs.Worked.Scripts.{completes, rolls_back, gets, puts, restarts}
+use Rattle.xa_model.specs.Worked.Scripts.{refused, lost, with_outcome, session, begins, writes, prepares, commits}
+use Rattle.xa_model.specs.Worked.Scripts.{completes, rolls_back, gets, restarts}
 use Rattle.xa_model.specs.Worked.Turns.{Takes, asking, preparing, restarting, reopening}
 use Rattle.xa_model.specs.Worked.Turns.{idle, in_doubt, held, nothing_held}
 use Rattle.xa_model.specs.Worked.Turns.{prepared_1, record_of, no_device}
@@ -41,16 +41,10 @@ together appending e = with_outcome (Joined appending) e
 abbrev pub three : List Entry
 three =
     session 1
-    ++ begins 1 xid_a (time 1)
-    ∷ puts 1 0x61 done
-    ∷ ends 1 xid_a done
-    ∷ begins 1 xid_b (time 2)
-    ∷ puts 1 0x62 done
-    ∷ ends 1 xid_b done
-    ∷ begins 1 xid_c (time 3)
-    ∷ puts 1 0x63 done
-    ∷ ends 1 xid_c done
-    ∷ []
+    ++ writes 1 xid_a 1 0x61
+    ++ writes 1 xid_b 2 0x62
+    ++ writes 1 xid_c 3 0x63
+    ++ []
 
 -- Of three that are kept each is answered, and acts, as by itself.
 abbrev pub GroupKept : Type 0

@@ -14,8 +14,8 @@ use Rattle.xa_model.specs.Answer.{plain, carrying}
 use Rattle.xa_model.specs.Worked.{done}
 use Rattle.xa_model.specs.Worked.Log.{xid_1}
 use Rattle.xa_model.specs.Worked.Scripts.{Replied, new_manager, xid_a, xid_b, xid_c, time, kept, hangs_up, session}
-use Rattle.xa_model.specs.Worked.Scripts.{begins, joins, suspends, migrates, ends, fails, prepares, decides, forgets}
-use Rattle.xa_model.specs.Worked.Scripts.{dooms, puts, restarts, branches}
+use Rattle.xa_model.specs.Worked.Scripts.{two_sessions, begins, writes, joins, suspends, migrates, ends, fails}
+use Rattle.xa_model.specs.Worked.Scripts.{prepares, decides, forgets, dooms, restarts, branches}
 use Rattle.xa_model.specs.Worked.Turns.{Takes, asking, idle, marked_idle, in_doubt, without_branch}
 
 -- the n-th timestamp of the first boot
@@ -43,8 +43,7 @@ tells known = carrying (body.Branches known)
 abbrev pub TellsHolders : Type 0
 TellsHolders =
     Replied new_manager (
-    session 1
-    ++ session 2
+    two_sessions
     ++ session 3
     ++ branches 1 256 None (tells [])
     ∷ begins 1 xid_b (time 1)
@@ -90,18 +89,12 @@ TellsLasting =
     let c = left xid_c state.Prepared XA_OK (stamp 3) in
     Replied new_manager (
     session 1
-    ++ begins 1 xid_a (time 1)
-    ∷ puts 1 0x76 done
-    ∷ ends 1 xid_a done
-    ∷ kept (prepares 1 xid_a done)
-    ∷ begins 1 xid_b (time 2)
-    ∷ puts 1 0x77 done
-    ∷ ends 1 xid_b done
-    ∷ kept (prepares 1 xid_b done)
-    ∷ begins 1 xid_c (time 3)
-    ∷ puts 1 0x78 done
-    ∷ ends 1 xid_c done
-    ∷ kept (prepares 1 xid_c done)
+    ++ writes 1 xid_a 1 0x76
+    ++ kept (prepares 1 xid_a done)
+    ∷ writes 1 xid_b 2 0x77
+    ++ kept (prepares 1 xid_b done)
+    ∷ writes 1 xid_c 3 0x78
+    ++ kept (prepares 1 xid_c done)
     ∷ branches 1 1 None (tells (left xid_a state.Prepared XA_OK (stamp 1) ∷ []))
     ∷ kept (decides 1 direction.Commit xid_a done)
     ∷ kept (decides 1 direction.Rollback xid_b done)

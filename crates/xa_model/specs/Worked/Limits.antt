@@ -11,8 +11,9 @@ use Rattle.xa_model.specs.State.{new_work, new_branch, new_session}
 use Rattle.xa_model.specs.Associations.{as_opened}
 use Rattle.xa_model.specs.Answer.{plain, detailed}
 use Rattle.xa_model.specs.Worked.{byte, done, number}
-use Rattle.xa_model.specs.Worked.Scripts.{Replied, new_manager, xid_a, xid_b, time, connects, hangs_up, asks_by, session}
-use Rattle.xa_model.specs.Worked.Scripts.{begins, joins, resumes, suspends, migrates, ends, commits}
+use Rattle.xa_model.specs.Worked.Scripts.{Replied, new_manager, xid_a, xid_b, time, connects, hangs_up, asks_by}
+use Rattle.xa_model.specs.Worked.Scripts.{session, two_sessions, begins, joins, resumes, suspends, migrates, ends}
+use Rattle.xa_model.specs.Worked.Scripts.{commits}
 use Rattle.xa_model.specs.Worked.Refusals.{settled}
 
 abbrev pub at_limit : Reply
@@ -44,8 +45,7 @@ branches_to n = map (λ k. new_branch (4294967296 + (n - k)) (formatted k) (new_
 abbrev pub ManyBranches : Type 0
 ManyBranches =
     Replied (record new_manager { given = 4095; branches = branches_to 4093; decided = settled.decided }) (
-    session 1
-    ++ session 2
+    two_sessions
     ++ begins 1 xid_a (time 4096)
     ∷ begins 2 xid_b at_limit
     ∷ begins 2 xid_a (plain XAER_DUPID)
@@ -86,8 +86,7 @@ loose = record { xid = xid_a; holder = Loose }
 abbrev pub ManyLoose : Type 0
 ManyLoose =
     Replied (record new_manager { given = 1; branches = having []; associations = replicate 63 loose }) (
-    session 1
-    ++ session 2
+    two_sessions
     ++ joins 1 xid_a (time 1)
     ∷ migrates 1 xid_a done
     ∷ joins 2 xid_a (time 1)

@@ -13,8 +13,9 @@ use Rattle.xa_model.specs.Recovering.{listing}
 use Rattle.xa_model.specs.Worked.{byte, done, number}
 use Rattle.xa_model.specs.Worked.Log.{xid_1}
 use Rattle.xa_model.specs.Worked.Scripts.{Replied, new_manager, xid_a, xid_b, xid_c, time, found, not_there, kept}
-use Rattle.xa_model.specs.Worked.Scripts.{refused, lost, asks_by, session, begins, ends, prepares, commits, completes}
-use Rattle.xa_model.specs.Worked.Scripts.{rolls_back, decides, forgets, gets, puts, recovers, restarts}
+use Rattle.xa_model.specs.Worked.Scripts.{refused, lost, asks_by, session, two_sessions, begins, writes, ends, prepares}
+use Rattle.xa_model.specs.Worked.Scripts.{commits, completes, rolls_back, decides, forgets, gets, puts, recovers}
+use Rattle.xa_model.specs.Worked.Scripts.{restarts}
 
 -- session 1 puts 76 at 6b for 1:aa:bb, and leaves it
 abbrev pub written : List Entry
@@ -106,12 +107,9 @@ Heuristics =
 -- 1:aa: and 1:bb: are prepared, each with a write of its own key
 abbrev pub two_in_doubt : List Entry
 two_in_doubt =
-    session 1
-    ++ session 2
-    ++ begins 1 xid_a (time 1)
-    ∷ puts 1 0x76 done
-    ∷ ends 1 xid_a done
-    ∷ begins 1 xid_b (time 2)
+    two_sessions
+    ++ writes 1 xid_a 1 0x76
+    ++ begins 1 xid_b (time 2)
     ∷ asks_by 1 (Put (byte 0x6c) (byte 0x76)) done
     ∷ ends 1 xid_b done
     ∷ kept (prepares 1 xid_a done)
@@ -155,10 +153,8 @@ Refusals =
     ∷ refused (rolls_back 1 xid_1 (detailed XAER_RMERR detail.Device))
     ∷ refused (completes 1 xid_1 (detailed XA_RETRY detail.Device))
     ∷ kept (completes 1 xid_1 done)
-    ∷ begins 1 xid_a (time 2)
-    ∷ puts 1 0x77 done
-    ∷ ends 1 xid_a done
-    ∷ refused (commits 1 xid_a (detailed XAER_RMERR detail.Device))
+    ∷ writes 1 xid_a 2 0x77
+    ++ refused (commits 1 xid_a (detailed XAER_RMERR detail.Device))
     ∷ commits 1 xid_a (plain XAER_NOTA)
     ∷ [])
 

@@ -4,7 +4,7 @@ use Rattle.xa_codes.specs.declared.codes.TheConstants.{XAER_ASYNC, XAER_PROTO, X
 use Rattle.xa_codes.specs.declared.codes.TheConstants.{XA_RBROLLBACK, XA_RBOTHER}
 use Rattle.xa_codes.specs.declared.direction.Direction.TheVariants as direction
 use Rattle.xa_codes.specs.declared.flags.TheConstants.{TMASYNC, TMJOIN, TMRESUME, TMSUCCESS, TMFAIL, TMSUSPEND}
-use Rattle.xa_codes.specs.declared.flags.TheConstants.{TMMIGRATE, TMONEPHASE, TMNOWAIT}
+use Rattle.xa_codes.specs.declared.flags.TheConstants.{TMMIGRATE, TMONEPHASE, TMNOWAIT, TMNOFLAGS}
 use Rattle.xa_xid.specs.Triple.{Triple}
 use Rattle.xa_frame.specs.declared.request.Request.TheVariants.{Open, Close, Start, End, Prepare, Commit, Rollback}
 use Rattle.xa_frame.specs.declared.request.Request.TheVariants.{Forget, Recover}
@@ -12,8 +12,8 @@ use Rattle.xa_model.specs.State.{State, Prepared}
 use Rattle.xa_model.specs.Answer.{plain}
 use Rattle.xa_model.specs.Worked.{xarm, xid, done, number}
 use Rattle.xa_model.specs.Worked.Scripts.{Replied, new_manager, xid_a, xid_b, time, connects, asks_by, opens, closes}
-use Rattle.xa_model.specs.Worked.Scripts.{session, begins, joins, resumes, suspends, migrates, ends, fails, rolls_back}
-use Rattle.xa_model.specs.Worked.Scripts.{dooms, gets}
+use Rattle.xa_model.specs.Worked.Scripts.{session, two_sessions, begins, joins, resumes, suspends, migrates, ends}
+use Rattle.xa_model.specs.Worked.Scripts.{fails, rolls_back, dooms, gets}
 
 abbrev pub in_doubt : Triple
 in_doubt = xid 0xdd []
@@ -63,6 +63,18 @@ EarlyRefused =
     ∷ asks_by 1 (Recover TMASYNC 1) (plain XAER_INVAL)
     ∷ [])
 
+-- flags that a call may not have
+abbrev pub FlagsRefused : Type 0
+FlagsRefused =
+    Replied new_manager (
+    session 1
+    ++ asks_by 1 (Start (TMJOIN + TMRESUME) xid_a) (plain XAER_INVAL)
+    ∷ asks_by 1 (Start TMASYNC xid_a) (plain XAER_ASYNC)
+    ∷ asks_by 1 (End TMNOFLAGS xid_a) (plain XAER_INVAL)
+    ∷ asks_by 1 (End (TMSUCCESS + TMMIGRATE) xid_a) (plain XAER_INVAL)
+    ∷ asks_by 1 (Recover TMASYNC 1) (plain XAER_INVAL)
+    ∷ [])
+
 -- The association table
 
 -- no close with an association of the session's own, active or suspended; one of nobody's doesn't count
@@ -84,8 +96,7 @@ CloseRefused =
 abbrev pub StartRefused : Type 0
 StartRefused =
     Replied settled (
-    session 1
-    ++ session 2
+    two_sessions
     ++ begins 1 xid_a (time 4)
     ∷ begins 1 xid_b (plain XAER_PROTO)
     ∷ begins 1 xid_a (plain XAER_PROTO)
@@ -101,8 +112,7 @@ StartRefused =
 abbrev pub JoinRefused : Type 0
 JoinRefused =
     Replied settled (
-    session 1
-    ++ session 2
+    two_sessions
     ++ begins 1 xid_a (time 4)
     ∷ joins 1 xid_a (plain XAER_PROTO)
     ∷ joins 1 xid_b (plain XAER_PROTO)
@@ -123,8 +133,7 @@ JoinRefused =
 abbrev pub ResumeRefused : Type 0
 ResumeRefused =
     Replied settled (
-    session 1
-    ++ session 2
+    two_sessions
     ++ resumes 1 xid_a (plain XAER_NOTA)
     ∷ begins 1 xid_a (time 4)
     ∷ resumes 1 xid_a (plain XAER_PROTO)
@@ -151,8 +160,7 @@ ResumeRefused =
 abbrev pub SuspendRefused : Type 0
 SuspendRefused =
     Replied settled (
-    session 1
-    ++ session 2
+    two_sessions
     ++ suspends 1 xid_a (plain XAER_NOTA)
     ∷ begins 1 xid_a (time 4)
     ∷ suspends 1 xid_b (plain XAER_NOTA)
@@ -178,8 +186,7 @@ SuspendRefused =
 abbrev pub EndRefused : Type 0
 EndRefused =
     Replied settled (
-    session 1
-    ++ session 2
+    two_sessions
     ++ ends 1 xid_a (plain XAER_NOTA)
     ∷ fails 1 xid_a (plain XAER_NOTA)
     ∷ begins 1 xid_a (time 4)

@@ -1,5 +1,5 @@
 -- How worked rows of several sessions are written: each call beside its reply.
-use Rattle.std.specs.Prelude.{ℕ, ◌≡◌, ◌+◌, Option, Some, List, [], ◌∷◌, map}
+use Rattle.std.specs.Prelude.{ℕ, ◌≡◌, ◌+◌, Option, Some, List, [], ◌∷◌, ◌++◌, map}
 use Rattle.xa_codes.specs.declared.flags.TheConstants.{TMNOFLAGS, TMJOIN, TMRESUME, TMSUCCESS, TMFAIL, TMSUSPEND}
 use Rattle.xa_codes.specs.declared.flags.TheConstants.{TMMIGRATE, TMONEPHASE}
 use Rattle.xa_codes.specs.declared.direction.Direction.{Direction}
@@ -91,6 +91,9 @@ closes n reply = asks_by n (Close TMNOFLAGS) reply
 abbrev pub session : ℕ → List Entry
 session n = connects (number n) ∷ opens n done ∷ []
 
+abbrev pub two_sessions : List Entry
+two_sessions = session 1 ++ session 2
+
 -- What session n asks of the branch with an XID
 
 abbrev pub begins : ℕ → Triple → Reply → Entry
@@ -169,3 +172,13 @@ puts n b reply = asks_by n (Put (byte 0x6b) (byte b)) reply
 
 abbrev pub deletes : ℕ → Reply → Entry
 deletes n reply = asks_by n (Delete (byte 0x6b)) reply
+
+-- Branches
+
+-- it begins the branch with the t-th timestamp, puts this there, and ends its work
+abbrev pub writes : ℕ → Triple → ℕ → ℕ → List Entry
+writes n x t b = begins n x (time t) ∷ puts n b done ∷ ends n x done ∷ []
+
+-- each of two sessions is at work for a branch, the first for the earlier one
+abbrev pub two_branches : List Entry
+two_branches = two_sessions ++ begins 1 xid_a (time 1) ∷ begins 2 xid_b (time 2) ∷ []

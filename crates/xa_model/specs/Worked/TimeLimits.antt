@@ -13,16 +13,15 @@ use Rattle.xa_model.specs.TimeLimits.{with_limit}
 use Rattle.xa_model.specs.Worked.{xarm, done, number}
 use Rattle.xa_model.specs.Worked.Log.{xid_1}
 use Rattle.xa_model.specs.Worked.Scripts.{Replied, new_manager, xid_a, xid_b, xid_c, time, kept, connects, hangs_up}
-use Rattle.xa_model.specs.Worked.Scripts.{opens, closes, session, begins, ends, prepares, commits, completes, rolls_back}
-use Rattle.xa_model.specs.Worked.Scripts.{dooms, puts, restarts, limits, ticks}
+use Rattle.xa_model.specs.Worked.Scripts.{opens, closes, session, two_sessions, begins, writes, ends, prepares, commits}
+use Rattle.xa_model.specs.Worked.Scripts.{completes, rolls_back, dooms, puts, restarts, limits, ticks}
 use Rattle.xa_model.specs.Worked.Turns.{Takes, asking, restarting, reopening, with_branch, in_doubt, held, booted}
 
 -- a branch that is as old as its limit is marked, and can only be rolled back; one that is prepared isn't
 abbrev pub TimedOut : Type 0
 TimedOut =
     Replied new_manager (
-    session 1
-    ++ session 2
+    two_sessions
     ++ limits 1 10 done
     ∷ begins 1 xid_a (time 1)
     ∷ ticks 2 9 (number 0)
@@ -31,10 +30,8 @@ TimedOut =
     ∷ ends 1 xid_a (plain XA_RBTIMEOUT)
     ∷ rolls_back 1 xid_a (plain XA_RBTIMEOUT)
     ∷ ticks 2 9 (plain XAER_INVAL)
-    ∷ begins 1 xid_b (time 2)
-    ∷ puts 1 0x76 done
-    ∷ ends 1 xid_b done
-    ∷ kept (prepares 1 xid_b done)
+    ∷ writes 1 xid_b 2 0x76
+    ++ kept (prepares 1 xid_b done)
     ∷ ticks 2 100 (number 0)
     ∷ kept (completes 1 xid_b done)
     ∷ [])
@@ -44,8 +41,7 @@ TimedOut =
 abbrev pub AgeFromStart : Type 0
 AgeFromStart =
     Replied new_manager (
-    session 1
-    ++ session 2
+    two_sessions
     ++ ticks 1 5 (number 0)
     ∷ begins 2 xid_c (time 1)
     ∷ limits 1 10 done
@@ -70,8 +66,7 @@ AgeFromStart =
 abbrev pub MarkedByTime : Type 0
 MarkedByTime =
     Replied new_manager (
-    session 1
-    ++ session 2
+    two_sessions
     ++ limits 1 10 done
     ∷ limits 2 5 done
     ∷ begins 2 xid_b (time 1)
@@ -119,8 +114,7 @@ NoTimeDown =
 abbrev pub LimitLasts : Type 0
 LimitLasts =
     Replied new_manager (
-    session 1
-    ++ session 2
+    two_sessions
     ++ limits 1 10 done
     ∷ ticks 2 20 (number 0)
     ∷ closes 1 done

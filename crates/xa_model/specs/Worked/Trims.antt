@@ -11,9 +11,9 @@ use Rattle.xa_model.specs.Turn.{taken}
 use Rattle.xa_model.specs.Restarting.{fates}
 use Rattle.xa_model.specs.Trimming.{trim_turn}
 use Rattle.xa_model.specs.Worked.{done, number}
-use Rattle.xa_model.specs.Worked.Scripts.{Replied, new_manager, xid_a, xid_b, time, found, not_there, kept, refused, lost}
-use Rattle.xa_model.specs.Worked.Scripts.{session, begins, suspends, resumes, ends, prepares, commits, completes}
-use Rattle.xa_model.specs.Worked.Scripts.{restarts, trims, limits, ticks, gets, puts}
+use Rattle.xa_model.specs.Worked.Scripts.{Replied, new_manager, xid_a, xid_b, time, found, not_there, kept, refused}
+use Rattle.xa_model.specs.Worked.Scripts.{lost, session, two_sessions, begins, writes, suspends, resumes, ends}
+use Rattle.xa_model.specs.Worked.Scripts.{prepares, commits, completes, restarts, trims, limits, ticks, gets, puts}
 use Rattle.xa_model.specs.Worked.Turns.{Takes, record_of, restarting, with_branch, idle, in_doubt, without_branch}
 use Rattle.xa_model.specs.Worked.Turns.{held, booted, no_device}
 use Rattle.xa_model.specs.Worked.Device.{down_with}
@@ -69,8 +69,7 @@ TrimDevice =
 abbrev pub WorksOver : Type 0
 WorksOver =
     Replied new_manager (
-    session 1
-    ++ session 2
+    two_sessions
     ++ begins 1 xid_a (time 1)
     ∷ puts 1 0x76 done
     ∷ kept (trims 2 (number 49))
@@ -92,8 +91,7 @@ WorksOver =
 abbrev pub CountsOn : Type 0
 CountsOn =
     Replied new_manager (
-    session 1
-    ++ session 2
+    two_sessions
     ++ begins 1 xid_a (time 1)
     ∷ limits 2 10 done
     ∷ begins 2 xid_b (time 2)
@@ -111,10 +109,8 @@ abbrev pub PreparedOver : Type 0
 PreparedOver =
     Replied new_manager (
     session 1
-    ++ begins 1 xid_a (time 1)
-    ∷ puts 1 0x76 done
-    ∷ ends 1 xid_a done
-    ∷ kept (prepares 1 xid_a done)
+    ++ writes 1 xid_a 1 0x76
+    ++ kept (prepares 1 xid_a done)
     ∷ kept (trims 1 (number 109))
     ∷ refused (trims 1 (detailed XAER_RMERR detail.Device))
     ∷ lost (trims 1 no_device)

@@ -5,20 +5,42 @@ use Rattle.xa_codes.specs.declared.detail.Detail.TheVariants as detail
 use Rattle.xa_frame.specs.declared.body.Body.TheVariants as body
 use Rattle.xa_frame.specs.declared.request.Request.TheVariants.{Put}
 use Rattle.xa_model.specs.Answer.{plain, detailed, carrying}
-use Rattle.xa_model.specs.Worked.{byte, done}
+use Rattle.xa_model.specs.Worked.{byte, xid, done}
 use Rattle.xa_model.specs.Worked.Scripts.{Replied, new_manager, xid_a, xid_b, xid_c, time, found, not_there, kept}
-use Rattle.xa_model.specs.Worked.Scripts.{hangs_up, asks_by, session, begins, joins, ends, commits, prepares, rolls_back}
-use Rattle.xa_model.specs.Worked.Scripts.{gets, puts, deletes}
+use Rattle.xa_model.specs.Worked.Scripts.{hangs_up, asks_by, session, two_sessions, two_branches, begins, writes, joins}
+use Rattle.xa_model.specs.Worked.Scripts.{ends, commits, prepares, rolls_back, gets, puts, deletes}
+
+-- a write is read back
+abbrev pub ReadBack : Type 0
+ReadBack =
+    Replied new_manager (
+    session 1
+    ++ writes 1 (xid 0xaa (byte 0xbb)) 1 0x76
+    ++ kept (commits 1 (xid 0xaa (byte 0xbb)) done)
+    ∷ begins 1 (xid 0xab []) (time 2)
+    ∷ gets 1 (found 0x76)
+    ∷ [])
+
+-- a version is busy until its branch is committed, and a later branch reads it then
+abbrev pub BusyUntilCommitted : Type 0
+BusyUntilCommitted =
+    Replied new_manager (
+    session 1
+    ++ writes 1 xid_a 1 0x76
+    ++ begins 1 xid_b (time 2)
+    ∷ gets 1 (detailed XA_RETRY detail.Busy)
+    ∷ ends 1 xid_b done
+    ∷ kept (commits 1 xid_a done)
+    ∷ begins 1 xid_c (time 3)
+    ∷ gets 1 (found 0x76)
+    ∷ [])
 
 -- a write that a later branch should have read comes too late: its branch is marked, and can only be rolled back
 abbrev pub LateWrite : Type 0
 LateWrite =
     Replied new_manager (
-    session 1
-    ++ session 2
-    ++ begins 1 xid_a (time 1)
-    ∷ begins 2 xid_b (time 2)
-    ∷ gets 2 not_there
+    two_branches
+    ++ gets 2 not_there
     ∷ puts 1 0x76 (detailed XA_RBTRANSIENT detail.Late)
     ∷ gets 1 (plain XA_RBTRANSIENT)
     ∷ ends 1 xid_a (plain XA_RBTRANSIENT)
@@ -30,11 +52,8 @@ LateWrite =
 abbrev pub LateDelete : Type 0
 LateDelete =
     Replied new_manager (
-    session 1
-    ++ session 2
-    ++ begins 1 xid_a (time 1)
-    ∷ begins 2 xid_b (time 2)
-    ∷ gets 2 not_there
+    two_branches
+    ++ gets 2 not_there
     ∷ ends 2 xid_b done
     ∷ rolls_back 2 xid_b done
     ∷ deletes 1 (detailed XA_RBTRANSIENT detail.Late)
@@ -47,14 +66,11 @@ LateDelete =
 abbrev pub BlindWrite : Type 0
 BlindWrite =
     Replied new_manager (
-    session 1
-    ++ session 2
+    two_sessions
     ++ session 3
     ++ begins 1 xid_a (time 1)
-    ∷ begins 2 xid_b (time 2)
-    ∷ puts 2 0x32 done
-    ∷ ends 2 xid_b done
-    ∷ kept (commits 2 xid_b done)
+    ∷ writes 2 xid_b 2 0x32
+    ++ kept (commits 2 xid_b done)
     ∷ puts 1 0x31 done
     ∷ ends 1 xid_a done
     ∷ kept (commits 1 xid_a done)
@@ -66,11 +82,8 @@ BlindWrite =
 abbrev pub BusyBelow : Type 0
 BusyBelow =
     Replied new_manager (
-    session 1
-    ++ session 2
-    ++ begins 1 xid_a (time 1)
-    ∷ begins 2 xid_b (time 2)
-    ∷ puts 1 0x76 done
+    two_branches
+    ++ puts 1 0x76 done
     ∷ gets 2 (detailed XA_RETRY detail.Busy)
     ∷ ends 1 xid_a done
     ∷ gets 2 (detailed XA_RETRY detail.Busy)
@@ -83,10 +96,8 @@ abbrev pub BusyInDoubt : Type 0
 BusyInDoubt =
     Replied new_manager (
     session 1
-    ++ begins 1 xid_b (time 1)
-    ∷ puts 1 0x76 done
-    ∷ ends 1 xid_b done
-    ∷ kept (prepares 1 xid_b done)
+    ++ writes 1 xid_b 1 0x76
+    ++ kept (prepares 1 xid_b done)
     ∷ begins 1 xid_a (time 2)
     ∷ gets 1 (detailed XA_RETRY detail.Busy)
     ∷ [])
@@ -95,8 +106,7 @@ BusyInDoubt =
 abbrev pub SharedBranch : Type 0
 SharedBranch =
     Replied new_manager (
-    session 1
-    ++ session 2
+    two_sessions
     ++ begins 1 xid_a (time 1)
     ∷ puts 1 0x31 done
     ∷ joins 2 xid_a (time 1)
@@ -109,11 +119,8 @@ SharedBranch =
 abbrev pub NotBusyAbove : Type 0
 NotBusyAbove =
     Replied new_manager (
-    session 1
-    ++ session 2
-    ++ begins 1 xid_a (time 1)
-    ∷ begins 2 xid_b (time 2)
-    ∷ puts 2 0x76 done
+    two_branches
+    ++ puts 2 0x76 done
     ∷ gets 1 not_there
     ∷ [])
 
@@ -134,10 +141,8 @@ abbrev pub DeletedAfterwards : Type 0
 DeletedAfterwards =
     Replied new_manager (
     session 1
-    ++ begins 1 xid_a (time 1)
-    ∷ puts 1 0x76 done
-    ∷ ends 1 xid_a done
-    ∷ kept (commits 1 xid_a done)
+    ++ writes 1 xid_a 1 0x76
+    ++ kept (commits 1 xid_a done)
     ∷ begins 1 xid_b (time 2)
     ∷ gets 1 (found 0x76)
     ∷ deletes 1 done
@@ -151,12 +156,9 @@ DeletedAfterwards =
 abbrev pub ReadOver : Type 0
 ReadOver =
     Replied new_manager (
-    session 1
-    ++ session 2
-    ++ begins 1 xid_a (time 1)
-    ∷ puts 1 0x76 done
-    ∷ ends 1 xid_a done
-    ∷ hangs_up 1
+    two_sessions
+    ++ writes 1 xid_a 1 0x76
+    ++ hangs_up 1
     ∷ rolls_back 2 xid_a done
     ∷ begins 2 xid_b (time 2)
     ∷ gets 2 not_there

@@ -1,20 +1,20 @@
-use Rattle.xa_model.proofs.WorkedTrims.{trimmed, trim_limits, trim_device, works_over, counts_on, prepared_over}
+use Rattle.std.proofs.Common.{refl}
 use Rattle.xa_model.proofs.examples.worked_trims.Goals as goal
 
 pub returns-clause-trimmed : goal.returns-clause-trimmed
-returns-clause-trimmed c = trimmed
+returns-clause-trimmed c = (refl, refl, refl, refl, refl, refl, refl)
 
 pub returns-clause-limits : goal.returns-clause-limits
-returns-clause-limits c = trim_limits
+returns-clause-limits c = (refl, refl, refl, refl, refl)
 
 pub returns-clause-device : goal.returns-clause-device
-returns-clause-device c = trim_device
+returns-clause-device c = (refl, refl, refl, refl, refl, refl, refl)
 
 pub returns-clause-works : goal.returns-clause-works
-returns-clause-works c = works_over
+returns-clause-works c = refl
 
 pub returns-clause-counts : goal.returns-clause-counts
-returns-clause-counts c = counts_on
+returns-clause-counts c = refl
 
 pub returns-clause-prepared : goal.returns-clause-prepared
-returns-clause-prepared c = prepared_over
+returns-clause-prepared c = refl
