@@ -1,12 +1,13 @@
 -- What the tables' facts say of a state.
 use Rattle.std.proofs.Common.{◌≡◌, ℕ, nat_lt, Bool, true, false, not, ◌&&◌, ◌||◌, List, [], ◌∷◌, length, Option, Some, None, refl, ap, sym, ◌∙◌, arith}
+use Rattle.std.specs.Prelude.{is_some}
 use Rattle.std.specs.List.{list_any}
 use Rattle.std.specs.BTreeMap.{is_at}
 use Rattle.std.proofs.lemmas.Bool.Decides.{nat_tests}
 use Rattle.xa_xid.specs.Triple.{Triple, xid_cmp, xid_eq}
 use Rattle.xa_xid.proofs.Same.{xid_eq_itself}
 use Rattle.xa_model.proofs.Xids.{cmp_is_eq}
-use Rattle.xa_model.specs.State.{State, Association, is_own, owns, suspends, is_with}
+use Rattle.xa_model.specs.State.{State, Association, active_of, is_own, owns, suspends, is_with}
 use Rattle.xa_model.specs.Associations.{is_of_session}
 use Rattle.xa_model.specs.Invariants.Sound.{IsSound}
 use Rattle.xa_assoc.specs.declared.seat.Seat.{Seat}
@@ -20,6 +21,13 @@ suspends_is m s n xid sound st =
     ap (λ (b : Bool). b && not (is_with xid (active_at m n))) (st.own n xid)
     ∙ ap (λ (o : Option Triple). list_any (owns n xid) s.associations && not (is_with xid o)) (st.active n)
     ∙ sym (suspended_is n xid s.associations (sound.active n) (sound.own n xid))
+
+-- of whether the session is at work, and whether it has suspended its work for the XID, comes the same as of the state
+pub same_refusal : {A : Type 0} (f : Bool → Bool → A) (m : Sessions) (s : State) (n : ℕ) (xid : Triple) (works has : Bool) → IsSound s → SessionsStandFor m s
+    → works ≡ is_some (active_at m n) → has ≡ suspends_at m n xid → f works has ≡ f (is_some (active_of s.associations n)) (list_any (suspends n xid) s.associations)
+same_refusal f m s n xid works has sound st e g =
+    ap (λ (b : Bool). f b has) (e ∙ ap (λ (o : Option Triple). is_some o) (st.active n))
+    ∙ ap (λ (b : Bool). f (is_some (active_of s.associations n)) b) (g ∙ suspends_is m s n xid sound st)
 
 -- any association of the session's own
 

@@ -1,22 +1,17 @@
-use Rattle.std.proofs.Common.{◌≡◌, Bool, Option, ap, sym, ◌∙◌, rules}
+use Rattle.std.proofs.Common.{◌≡◌, Bool, ap, sym, ◌∙◌, rules}
 use Rattle.std.specs.Prelude.{is_some}
 use Rattle.std.specs.List.{list_any}
-use Rattle.xa_xid.specs.Triple.{Triple}
 use Rattle.xa_model.specs.State.{known_as, active_of, suspends}
 use Rattle.xa_model.specs.Associations.{resume_refusal}
 use Rattle.xa_assoc.specs.Seats.{active_at}
-use Rattle.xa_assoc.proofs.Facts.{suspends_is}
+use Rattle.xa_assoc.proofs.Facts.{same_refusal}
 use Rattle.xa_assoc.proofs.sessions.Sessions.resume_refusal.Goals as goal
 
 pub returns-clause-value : goal.returns-clause-value
 returns-clause-value c = λ s sound st unknown loose.
-    let m = c.args.self.now in
     let n = c.args.session in
     let xid = c.args.xid.now in
-    let copied : c.is_some.result ≡ is_some (active_at m n) = search rules in
-    let working : c.is_some.result ≡ is_some (active_of s.associations n) = copied ∙ ap (λ (o : Option Triple). is_some o) (st.active n) in
-    let suspended : c.has_suspended-has_suspended.result ≡ list_any (suspends n xid) s.associations = c.has_suspended-has_suspended.ensures ∙ suspends_is m s n xid sound st in
+    let copied : c.is_some.result ≡ is_some (active_at c.args.self.now n) = search rules in
     c.resume_refusal.ensures.value (known_as s xid) unknown
-    ∙ ap (λ (b : Bool). resume_refusal b (known_as s xid) c.has_suspended-has_suspended.result c.args.has_loose) working
-    ∙ ap (λ (b : Bool). resume_refusal (is_some (active_of s.associations n)) (known_as s xid) b c.args.has_loose) suspended
+    ∙ same_refusal (λ (works has : Bool). resume_refusal works (known_as s xid) has c.args.has_loose) c.args.self.now s n xid c.is_some.result c.has_suspended-has_suspended.result sound st copied c.has_suspended-has_suspended.ensures
     ∙ ap (λ (b : Bool). resume_refusal (is_some (active_of s.associations n)) (known_as s xid) (list_any (suspends n xid) s.associations) b) (sym loose)
