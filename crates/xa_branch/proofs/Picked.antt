@@ -55,7 +55,7 @@ pub record IsPicked {V : Type 0} (part : Lasting → Option V) (all rest : List 
 tie_back : (x y : Triple) → xid_eq x y ≡ false → xid_eq y x ≡ false
 tie_back x y e = flipped y x ∙ e
 
-pub cmp_flipped : (x y : Triple) → is_eq (xid_cmp x y) ≡ is_eq (xid_cmp y x)
+cmp_flipped : (x y : Triple) → is_eq (xid_cmp x y) ≡ is_eq (xid_cmp y x)
 cmp_flipped x y = cmp_is_eq x y ∙ (flipped x y ∙ sym (cmp_is_eq y x))
 
 less_apart : (x y : Triple) → xid_cmp x y ≡ Less → xid_eq x y ≡ false
@@ -87,7 +87,7 @@ not_behind : (x : Triple) (es : List (Triple × Lasting)) → Each (λ k. xid_cm
 not_behind x [] less = refl
 not_behind x (e ∷ es) less = rw (cmp_is_eq x e.0, less_apart x e.0 less.0) (not_behind x es less.1)
 
-pub picked_more : {V : Type 0} (part : Lasting → Option V) (all rest : List (Triple × Lasting)) (e : Triple × Lasting) (old new : BTreeMap Triple V) → ((q : Triple) → get xid_cmp new q ≡ (if is_eq (xid_cmp q e.0) then part e.1 else get xid_cmp old q)) → IsOrdered xid_cmp new
+picked_more : {V : Type 0} (part : Lasting → Option V) (all rest : List (Triple × Lasting)) (e : Triple × Lasting) (old new : BTreeMap Triple V) → ((q : Triple) → get xid_cmp new q ≡ (if is_eq (xid_cmp q e.0) then part e.1 else get xid_cmp old q)) → IsOrdered xid_cmp new
     → IsPicked part all (e ∷ rest) old → IsPicked part all rest new
 picked_more part all rest e old new set ordered h =
     let less = sorted_head xid_cmp e.0 (keys_of rest) h.sorted in
@@ -107,13 +107,31 @@ picked_more part all rest e old new set ordered h =
     by q false t none before = before
 
 -- where nothing is picked, nothing is added
-pub kept_as : {V : Type 0} (part : Lasting → Option V) (q x : Triple) (l : Lasting) (old : BTreeMap Triple V) (rest all : List (Triple × Lasting)) → part l ≡ None → get xid_cmp old q ≡ unless (at q ((x, l) ∷ rest)) (option_and_then part (at q all))
+kept_as : {V : Type 0} (part : Lasting → Option V) (q x : Triple) (l : Lasting) (old : BTreeMap Triple V) (rest all : List (Triple × Lasting)) → part l ≡ None → get xid_cmp old q ≡ unless (at q ((x, l) ∷ rest)) (option_and_then part (at q all))
     → get xid_cmp old q ≡ (if is_eq (xid_cmp q x) then part l else get xid_cmp old q)
 kept_as part q x l old rest all none before = by (is_eq (xid_cmp q x)) before
   where
     by : (c : Bool) → get xid_cmp old q ≡ unless (cond c (Some l) (at q rest)) (option_and_then part (at q all)) → get xid_cmp old q ≡ (if c then part l else get xid_cmp old q)
     by true e = e ∙ sym none
     by false e = refl
+
+-- the next is passed over
+pub picked_over : {V : Type 0} (part : Lasting → Option V) (all met rest : List (Triple × Lasting)) (x : Triple) (l : Lasting) (old : BTreeMap Triple V) → part l ≡ None → met ≡ (x, l) ∷ rest → IsPicked part all met old
+    → IsPicked part all rest old
+picked_over part all met rest x l old none next h =
+    let before : IsPicked part all ((x, l) ∷ rest) old = subst (λ (es : List (Triple × Lasting)). IsPicked part all es old) next h in
+    picked_more part all rest (x, l) old old (λ q. kept_as part q x l old rest all none (before.picked q)) before.ordered before
+
+-- or picked, by a copy of its XID
+pub picked_next : {V : Type 0} (part : Lasting → Option V) (all met rest : List (Triple × Lasting)) (x : Triple) (l : Lasting) {y : Triple} (v : V) (old new : BTreeMap Triple V) → part l ≡ Some v → met ≡ (x, l) ∷ rest → y ≡ x
+    → ((q : Triple) → get xid_cmp new q ≡ (if is_eq (xid_cmp y q) then Some v else get xid_cmp old q)) → IsOrdered xid_cmp new → IsPicked part all met old → IsPicked part all rest new
+picked_next {V} part all met rest x l v old new some next copied set ordered h =
+    picked_more part all rest (x, l) old new
+    (λ q. set q
+    ∙ (ap (λ (z : Triple). if is_eq (xid_cmp z q) then Some v else get xid_cmp old q) copied
+    ∙ (ap (λ (b : Bool). if b then Some v else get xid_cmp old q) (cmp_flipped x q)
+    ∙ ap (λ (o : Option V). if is_eq (xid_cmp q x) then o else get xid_cmp old q) (sym some))))
+    ordered (subst (λ (es : List (Triple × Lasting)). IsPicked part all es old) next h)
 
 -- and behind the last
 

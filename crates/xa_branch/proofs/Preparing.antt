@@ -29,6 +29,7 @@ use Rattle.xa_branch.proofs.Beginning.{prepared_known as prepared_are_known}
 use Rattle.xa_branch.proofs.Finding.{found_turned, found_fixed}
 use Rattle.xa_branch.proofs.Listing.{flipped}
 use Rattle.xa_branch.proofs.Looks.{IsWorking, Seen, Nowhere, There, Doubtful, Done, seen, works, idle}
+use Rattle.xa_branch.proofs.Rooms.{with_rooms}
 use Rattle.xa_branch.proofs.Timed.{times_change}
 
 -- the branches after it
@@ -163,21 +164,11 @@ pub room_made : (m : Branches) (lasting : BTreeMap Triple Lasting) (xids : List 
 room_made m lasting xids s xid w apart st e adds =
     let works : working_known s xid ≡ Some w = sym (st.working xid) ∙ e in
     let is : IsWorking s xid w = works_of s xid w works in
-    record {
-      boot = st.boot;
-      given = st.given;
-      moment = st.moment;
-      working = st.working;
-      times = st.times;
-      due = st.due;
-      lasting = λ q. adds.at q ∙ rw (cmp_is_eq xid q, st.lasting q) (prepared_lasting s xid q w (lasting_with xids s q) (xid_eq xid q) refl is);
-      known =
-          let nor : lasting_at m xid ≡ None = st.lasting xid ∙ with_apart xid xid xids s (xid_eq_itself xid) apart ∙ nor_lasting s xid w works in
-          let more = rw nor at adds.number in
-          omega (arith, more, twice s xid xids w is, st.known);
-      prepared = st.prepared;
-      completed = st.completed;
-    }
+    let nor : lasting_at m xid ≡ None = st.lasting xid ∙ with_apart xid xid xids s (xid_eq_itself xid) apart ∙ nor_lasting s xid w works in
+    let more = rw nor at adds.number in
+    with_rooms m lasting xids (xid ∷ xids) s
+    (λ q. adds.at q ∙ rw (cmp_is_eq xid q, st.lasting q) (prepared_lasting s xid q w (lasting_with xids s q) (xid_eq xid q) refl is))
+    (omega (arith, more, twice s xid xids w is, st.known)) st
 
 unmoved_by : (s : State) (xid q : Triple) (xids : List Triple) (c : Bool) → xid_eq xid q ≡ c → IsApart xid xids → after_of s xid ≡ s.branches → lasting_with xids s q ≡ cond c (lasting_known (prepared s xid) q) (lasting_with xids s q)
 unmoved_by s xid q xids true e apart same =
@@ -187,18 +178,8 @@ unmoved_by s xid q xids false e apart same = refl
 pub no_room_made : (m : Branches) (xids : List Triple) (s : State) (xid : Triple) → IsApart xid xids → HaveRooms xids m s → working_at m xid ≡ None → HaveRooms (xid ∷ xids) m s
 no_room_made m xids s xid apart st e =
     let none : working_known s xid ≡ None = sym (st.working xid) ∙ e in
-    record {
-      boot = st.boot;
-      given = st.given;
-      moment = st.moment;
-      working = st.working;
-      times = st.times;
-      due = st.due;
-      lasting = λ q. st.lasting q ∙ unmoved_by s xid q xids (xid_eq xid q) refl apart (there_none s xid none);
-      known = omega (arith, st.known, once_of s xid xids none);
-      prepared = st.prepared;
-      completed = st.completed;
-    }
+    with_rooms m m.lasting xids (xid ∷ xids) s (λ q. st.lasting q ∙ unmoved_by s xid q xids (xid_eq xid q) refl apart (there_none s xid none))
+    (omega (arith, st.known, once_of s xid xids none)) st
 
 -- the branch is prepared
 
@@ -244,35 +225,16 @@ pub given_back : (m : Branches) (lasting : BTreeMap Triple Lasting) (xids : List
 given_back m lasting xids s xid w apart st e takes =
     let works : working_known s xid ≡ Some w = sym (st.working xid) ∙ e in
     let is : IsWorking s xid w = works_of s xid w works in
-    record {
-      boot = st.boot;
-      given = st.given;
-      moment = st.moment;
-      working = st.working;
-      times = st.times;
-      due = st.due;
-      lasting = λ q. takes.at q ∙ rw (cmp_is_eq xid q, st.lasting q) (unprepared_lasting s xid q xids (xid_eq xid q) refl apart (nor_lasting s xid w works));
-      known =
-          let itself : xid_eq xid xid ≡ true = xid_eq_itself xid in
-          let there : lasting_at m xid ≡ Some (lasts.Prepared is.branch.timestamp) = st.lasting xid ∙ rw (itself, here s xid w is, is.phase) refl in
-          let less = rw there at takes.number in
-          omega (arith, less, twice s xid xids w is, st.known);
-      prepared = st.prepared;
-      completed = st.completed;
-    }
+    let itself : xid_eq xid xid ≡ true = xid_eq_itself xid in
+    let there : lasting_at m xid ≡ Some (lasts.Prepared is.branch.timestamp) = st.lasting xid ∙ rw (itself, here s xid w is, is.phase) refl in
+    let less = rw there at takes.number in
+    with_rooms m lasting (xid ∷ xids) xids s
+    (λ q. takes.at q ∙ rw (cmp_is_eq xid q, st.lasting q) (unprepared_lasting s xid q xids (xid_eq xid q) refl apart (nor_lasting s xid w works)))
+    (omega (arith, less, twice s xid xids w is, st.known)) st
 
 pub nothing_back : (m : Branches) (xids : List Triple) (s : State) (xid : Triple) → IsApart xid xids → HaveRooms (xid ∷ xids) m s → working_at m xid ≡ None → HaveRooms xids m s
 nothing_back m xids s xid apart st e =
     let none : working_known s xid ≡ None = sym (st.working xid) ∙ e in
-    record {
-      boot = st.boot;
-      given = st.given;
-      moment = st.moment;
-      working = st.working;
-      times = st.times;
-      due = st.due;
-      lasting = λ q. st.lasting q ∙ sym (unmoved_by s xid q xids (xid_eq xid q) refl apart (there_none s xid none));
-      known = omega (arith, st.known, once_of s xid xids none);
-      prepared = st.prepared;
-      completed = st.completed;
-    }
+    with_rooms m m.lasting (xid ∷ xids) xids s
+    (λ q. st.lasting q ∙ sym (unmoved_by s xid q xids (xid_eq xid q) refl apart (there_none s xid none)))
+    (omega (arith, st.known, once_of s xid xids none)) st

@@ -9,7 +9,7 @@ use Rattle.xa_model.specs.State.{State, Branch, Decided, known_in, known_of, is_
 use Rattle.xa_model.specs.Phases.{as_prepared, prepared}
 use Rattle.xa_branch.specs.declared.branches.Branches.{Branches}
 use Rattle.xa_branch.specs.declared.lasting.Lasting.{Lasting}
-use Rattle.xa_branch.specs.Branches.{BranchesStandFor, lasting_among, lasting_known}
+use Rattle.xa_branch.specs.Branches.{BranchesStandFor, lasting_among, lasting_at, lasting_known, number_of}
 use Rattle.xa_branch.specs.Room.{HaveRooms, IsApart, kept_twice, lasting_with}
 
 -- a room stands among the others wherever it was made
@@ -36,20 +36,28 @@ twice_moved : (xid : Triple) (before after : List Triple) (s : State) → kept_t
 twice_moved xid [] after s = refl
 twice_moved xid (x ∷ before) after s = let same = twice_moved xid before after s in omega (arith, same)
 
-moved : (m : Branches) (xids others : List Triple) (s : State) → ((q : Triple) → lasting_with others s q ≡ lasting_with xids s q)
-    → kept_twice others s ≡ kept_twice xids s → HaveRooms others m s → HaveRooms xids m s
-moved m xids others s lasting twice st = record {
+-- other rooms, where what lasts is kept with those
+pub with_rooms : (m : Branches) (lasting : BTreeMap Triple Lasting) (xids others : List Triple) (s : State)
+    → ((q : Triple) → lasting_at (record m { lasting = lasting }) q ≡ lasting_with others s q)
+    → number_of (record m { lasting = lasting }) ≡ known_in s + kept_twice others s → HaveRooms xids m s
+    → HaveRooms others (record m { lasting = lasting }) s
+with_rooms m lasting xids others s kept known st = record {
   boot = st.boot;
   given = st.given;
   moment = st.moment;
   working = st.working;
-  lasting = λ q. st.lasting q ∙ lasting q;
+  lasting = kept;
   times = st.times;
   due = st.due;
-  known = st.known ∙ ap (λ (n : ℕ). known_in s + n) twice;
+  known = known;
   prepared = st.prepared;
   completed = st.completed;
 }
+
+moved : (m : Branches) (xids others : List Triple) (s : State) → ((q : Triple) → lasting_with others s q ≡ lasting_with xids s q)
+    → kept_twice others s ≡ kept_twice xids s → HaveRooms others m s → HaveRooms xids m s
+moved m xids others s lasting twice st =
+    with_rooms m m.lasting others xids s (λ q. st.lasting q ∙ lasting q) (st.known ∙ ap (λ (n : ℕ). known_in s + n) twice) st
 
 pub to_front : (m : Branches) (before after : List Triple) (s : State) (xid : Triple) → IsApart xid (before ++ after)
     → HaveRooms (before ++ xid ∷ after) m s → HaveRooms (xid ∷ (before ++ after)) m s
@@ -96,18 +104,7 @@ no_rooms_left m s st = record {
 -- its lasting ones may be kept otherwise
 pub rooms_kept : (m : Branches) (lasting : BTreeMap Triple Lasting) (xids : List Triple) (s : State) → lasting.entries ≡ m.lasting.entries
     → HaveRooms xids m s → HaveRooms xids (record m { lasting = lasting }) s
-rooms_kept m lasting xids s same st = record {
-  boot = st.boot;
-  given = st.given;
-  moment = st.moment;
-  working = st.working;
-  times = st.times;
-  due = st.due;
-  lasting = λ q. rw same (st.lasting q);
-  known = rw same st.known;
-  prepared = st.prepared;
-  completed = st.completed;
-}
+rooms_kept m lasting xids s same st = with_rooms m lasting xids xids s (λ q. rw same (st.lasting q)) (rw same st.known) st
 
 -- they say nothing of the rest of the state
 
