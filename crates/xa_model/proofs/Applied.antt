@@ -97,23 +97,23 @@ among s xid b h found =
     }
 
 -- what a branch is made into takes its place
+part_place : {P : Type 0} (time : P → ℕ) (part_of : Branch → Option P) → ((x : Branch) (y : P) → part_of x ≡ Some y → time y ≡ x.timestamp)
+    → (s : State) (xid : Triple) (b : Branch) (k : IsAmong s xid b) (c : P) → time c ≡ b.timestamp
+    → insert (λ x y. nat_lt (time x) (time y)) c (parts part_of k.here.back ++ parts part_of k.here.front) ≡ parts part_of k.here.back ++ c ∷ parts part_of k.here.front
+part_place {P} time part_of timed s xid b k c same =
+    insert_between (λ x y. nat_lt (time x) (time y)) c (parts part_of k.here.back) (parts part_of k.here.front)
+    (parts_all (λ (d : Branch). d.timestamp < b.timestamp) (λ (d : P). nat_lt (time d) (time c) ≡ true) part_of
+    (λ x y made below. let as_made = timed x y made in less_is (time y) (time c) (omega (arith, as_made, same, below))) k.here.back k.below)
+    (parts_all (λ (d : Branch). b.timestamp < d.timestamp) (λ (d : P). nat_lt (time d) (time c) ≡ false) part_of
+    (λ x y made above. let as_made = timed x y made in more_not (time y) (time c) (omega (arith, as_made, same, above))) k.here.front k.above)
+
 committed_place : (s : State) (xid : Triple) (b : Branch) (k : IsAmong s xid b) (c : CommittedBranch) → c.timestamp ≡ b.timestamp
     → insert commits_before c (parts committed_of k.here.back ++ parts committed_of k.here.front) ≡ parts committed_of k.here.back ++ c ∷ parts committed_of k.here.front
-committed_place s xid b k c same =
-    insert_between commits_before c (parts committed_of k.here.back) (parts committed_of k.here.front)
-    (parts_all (λ (d : Branch). d.timestamp < b.timestamp) (λ (d : CommittedBranch). commits_before d c ≡ true) committed_of
-    (λ x y made below. let time = committed_time x x.phase y made in less_is y.timestamp c.timestamp (omega (arith, time, same, below))) k.here.back k.below)
-    (parts_all (λ (d : Branch). b.timestamp < d.timestamp) (λ (d : CommittedBranch). commits_before d c ≡ false) committed_of
-    (λ x y made above. let time = committed_time x x.phase y made in more_not y.timestamp c.timestamp (omega (arith, time, same, above))) k.here.front k.above)
+committed_place s xid b k c same = part_place (λ (d : CommittedBranch). d.timestamp) committed_of (λ x y made. committed_time x x.phase y made) s xid b k c same
 
 prepared_place : (s : State) (xid : Triple) (b : Branch) (k : IsAmong s xid b) (c : PreparedBranch) → c.timestamp ≡ b.timestamp
     → insert prepares_before c (parts prepared_of k.here.back ++ parts prepared_of k.here.front) ≡ parts prepared_of k.here.back ++ c ∷ parts prepared_of k.here.front
-prepared_place s xid b k c same =
-    insert_between prepares_before c (parts prepared_of k.here.back) (parts prepared_of k.here.front)
-    (parts_all (λ (d : Branch). d.timestamp < b.timestamp) (λ (d : PreparedBranch). prepares_before d c ≡ true) prepared_of
-    (λ x y made below. let time = prepared_time x x.phase y made in less_is y.timestamp c.timestamp (omega (arith, time, same, below))) k.here.back k.below)
-    (parts_all (λ (d : Branch). b.timestamp < d.timestamp) (λ (d : PreparedBranch). prepares_before d c ≡ false) prepared_of
-    (λ x y made above. let time = prepared_time x x.phase y made in more_not y.timestamp c.timestamp (omega (arith, time, same, above))) k.here.front k.above)
+prepared_place s xid b k c same = part_place (λ (d : PreparedBranch). d.timestamp) prepared_of (λ x y made. prepared_time x x.phase y made) s xid b k c same
 
 -- one more is committed, of whom nothing was
 committed_more : (s : State) (xid : Triple) (b : Branch) → IsSound s → (k : IsAmong s xid b) → committed_of b ≡ None

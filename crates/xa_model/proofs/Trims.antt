@@ -97,22 +97,19 @@ module _ (T : Turn → Type 0) (s : State) (n : ℕ) where
   pub trim_asked : T (Now (answer (plain XAER_RMFAIL) s)) → (s.standing ≡ Up → T (respond s (event.Call n Trim))) → T (respond s (event.Call n Trim))
   trim_asked refused row = trim_of s.standing refl refused row
 
--- an event that begins no boot is no restart
-pub restarts_none : (e : Event) → begins_boot e ≡ false → is_restart e ≡ false
-restarts_none event.Connect other = refl
-restarts_none (event.Hangup n) other = refl
-restarts_none (event.Call n request) other = asks_none request other
+-- an event that begins no boot is no restart, and no trim
+no_boot : (e : Event) → begins_boot e ≡ false → (is_restart e ≡ false) × (is_trim e ≡ false)
+no_boot event.Connect other = (refl, refl)
+no_boot (event.Hangup n) other = (refl, refl)
+no_boot (event.Call n request) other = asks_none request other
   where
-    asks_none : (request : Request) → asks_boot request ≡ false → asks_restart request ≡ false
+    asks_none : (request : Request) → asks_boot request ≡ false → (asks_restart request ≡ false) × (asks_trim request ≡ false)
     asks_none Restart other = absurd (cc other)
-    asks_none request other = refl
-
--- nor a trim
-pub trims_none : (e : Event) → begins_boot e ≡ false → is_trim e ≡ false
-trims_none event.Connect other = refl
-trims_none (event.Hangup n) other = refl
-trims_none (event.Call n request) other = asks_none request other
-  where
-    asks_none : (request : Request) → asks_boot request ≡ false → asks_trim request ≡ false
     asks_none Trim other = absurd (cc other)
-    asks_none request other = refl
+    asks_none request other = (refl, refl)
+
+pub restarts_none : (e : Event) → begins_boot e ≡ false → is_restart e ≡ false
+restarts_none e other = (no_boot e other).0
+
+pub trims_none : (e : Event) → begins_boot e ≡ false → is_trim e ≡ false
+trims_none e other = (no_boot e other).1

@@ -7,7 +7,7 @@ use Rattle.xa_model.specs.Worked.{done, number}
 use Rattle.xa_model.specs.Worked.Scripts.{Replied, new_manager, xid_a, time, connects, session, two_sessions, begins}
 use Rattle.xa_model.specs.Worked.Scripts.{resumes, suspends, migrates, ends, commits, completes, prepares, rolls_back}
 use Rattle.xa_model.specs.Worked.Scripts.{dooms, decides, forgets, gets, puts, deletes}
-use Rattle.xa_model.specs.Worked.Refusals.{in_doubt, was_committed, was_rolled_back, settled}
+use Rattle.xa_model.specs.Worked.Refusals.{in_doubt, was_committed, was_rolled_back, settled, of_settled}
 
 -- no commit in one phase with an association left, active, suspended or nobody's, nor of a branch that isn't at work; a
 -- marked one is rolled back and gone
@@ -27,10 +27,7 @@ OnePhaseRefused =
     ∷ ends 2 xid_a (plain XA_RBOTHER)
     ∷ commits 2 xid_a (plain XA_RBOTHER)
     ∷ commits 2 xid_a (plain XAER_NOTA)
-    ∷ commits 1 in_doubt (plain XAER_PROTO)
-    ∷ commits 1 was_committed (plain XAER_PROTO)
-    ∷ commits 1 was_rolled_back (plain XAER_PROTO)
-    ∷ [])
+    ∷ of_settled (commits 1) (plain XAER_PROTO))
 
 -- no commit in two phases of a branch that wasn't prepared; what the operator did is answered
 abbrev pub TwoPhaseRefused : Type 0
@@ -107,10 +104,8 @@ DoomRefused =
     ∷ session 1
     ++ connects (number 2)
     ∷ dooms 2 xid_a (plain XAER_NOTA)
-    ∷ dooms 2 in_doubt (plain XAER_PROTO)
-    ∷ dooms 2 was_committed (plain XAER_PROTO)
-    ∷ dooms 2 was_rolled_back (plain XAER_PROTO)
-    ∷ begins 1 xid_a (time 4)
+    ∷ of_settled (dooms 2) (plain XAER_PROTO)
+    ++ begins 1 xid_a (time 4)
     ∷ dooms 2 xid_a done
     ∷ dooms 2 xid_a done
     ∷ ends 1 xid_a (plain XA_RBOTHER)

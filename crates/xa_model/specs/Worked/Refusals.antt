@@ -1,15 +1,17 @@
 -- Worked rows: each refusal before the row of a call, and each of a row of the association table, and what it leaves.
-use Rattle.std.specs.Prelude.{◌+◌, [], ◌∷◌, ◌++◌}
+use Rattle.std.specs.Prelude.{◌+◌, List, [], ◌∷◌, ◌++◌}
 use Rattle.xa_codes.specs.declared.codes.TheConstants.{XAER_ASYNC, XAER_PROTO, XAER_INVAL, XAER_NOTA, XAER_DUPID}
 use Rattle.xa_codes.specs.declared.codes.TheConstants.{XA_RBROLLBACK, XA_RBOTHER}
 use Rattle.xa_codes.specs.declared.direction.Direction.TheVariants as direction
 use Rattle.xa_codes.specs.declared.flags.TheConstants.{TMASYNC, TMJOIN, TMRESUME, TMSUCCESS, TMFAIL, TMSUSPEND}
 use Rattle.xa_codes.specs.declared.flags.TheConstants.{TMMIGRATE, TMONEPHASE, TMNOWAIT, TMNOFLAGS}
 use Rattle.xa_xid.specs.Triple.{Triple}
+use Rattle.xa_frame.specs.declared.reply.Reply.{Reply}
 use Rattle.xa_frame.specs.declared.request.Request.TheVariants.{Open, Close, Start, End, Prepare, Commit, Rollback}
 use Rattle.xa_frame.specs.declared.request.Request.TheVariants.{Forget, Recover}
 use Rattle.xa_model.specs.State.{State, Prepared}
 use Rattle.xa_model.specs.Answer.{plain}
+use Rattle.xa_model.specs.History.{Entry}
 use Rattle.xa_model.specs.Worked.{xarm, xid, done, number}
 use Rattle.xa_model.specs.Worked.Scripts.{Replied, new_manager, xid_a, xid_b, time, connects, asks_by, opens, closes}
 use Rattle.xa_model.specs.Worked.Scripts.{session, two_sessions, begins, joins, resumes, suspends, migrates, ends}
@@ -33,6 +35,10 @@ settled = record new_manager {
       record { xid = was_committed; direction = direction.Commit }
       ∷ record { xid = was_rolled_back; direction = direction.Rollback } ∷ [];
 }
+
+-- what is asked of these three, each with this reply
+abbrev pub of_settled : (Triple → Reply → Entry) → Reply → List Entry
+of_settled asked reply = asked in_doubt reply ∷ asked was_committed reply ∷ asked was_rolled_back reply ∷ []
 
 -- Before the row
 
@@ -101,10 +107,8 @@ StartRefused =
     ∷ begins 1 xid_b (plain XAER_PROTO)
     ∷ begins 1 xid_a (plain XAER_PROTO)
     ∷ begins 2 xid_a (plain XAER_DUPID)
-    ∷ begins 2 in_doubt (plain XAER_DUPID)
-    ∷ begins 2 was_committed (plain XAER_DUPID)
-    ∷ begins 2 was_rolled_back (plain XAER_DUPID)
-    ∷ begins 2 xid_b (time 5)
+    ∷ of_settled (begins 2) (plain XAER_DUPID)
+    ++ begins 2 xid_b (time 5)
     ∷ [])
 
 -- no join at work, nor where the session has suspended its work for the branch, nor of a branch that isn't at work; one
@@ -119,10 +123,8 @@ JoinRefused =
     ∷ suspends 1 xid_a done
     ∷ joins 1 xid_a (plain XAER_PROTO)
     ∷ joins 2 xid_b (plain XAER_NOTA)
-    ∷ joins 2 in_doubt (plain XAER_PROTO)
-    ∷ joins 2 was_committed (plain XAER_PROTO)
-    ∷ joins 2 was_rolled_back (plain XAER_PROTO)
-    ∷ dooms 2 xid_a done
+    ∷ of_settled (joins 2) (plain XAER_PROTO)
+    ++ dooms 2 xid_a done
     ∷ joins 1 xid_a (plain XAER_PROTO)
     ∷ joins 2 xid_a (plain XA_RBOTHER)
     ∷ closes 2 done
@@ -141,9 +143,8 @@ ResumeRefused =
     ∷ resumes 2 xid_a (plain XAER_PROTO)
     ∷ suspends 1 xid_a done
     ∷ resumes 2 xid_a (plain XAER_PROTO)
-    ∷ resumes 2 in_doubt (plain XAER_PROTO)
-    ∷ resumes 2 was_committed (plain XAER_PROTO)
-    ∷ dooms 2 xid_a done
+    ∷ of_settled (resumes 2) (plain XAER_PROTO)
+    ++ dooms 2 xid_a done
     ∷ resumes 2 xid_a (plain XAER_PROTO)
     ∷ resumes 1 xid_a (plain XA_RBOTHER)
     ∷ resumes 1 xid_a (plain XAER_PROTO)
@@ -165,9 +166,8 @@ SuspendRefused =
     ∷ begins 1 xid_a (time 4)
     ∷ suspends 1 xid_b (plain XAER_NOTA)
     ∷ suspends 2 xid_a (plain XAER_PROTO)
-    ∷ suspends 1 in_doubt (plain XAER_PROTO)
-    ∷ suspends 1 was_committed (plain XAER_PROTO)
-    ∷ suspends 1 xid_a done
+    ∷ of_settled (suspends 1) (plain XAER_PROTO)
+    ++ suspends 1 xid_a done
     ∷ suspends 1 xid_a (plain XAER_PROTO)
     ∷ migrates 1 xid_a (plain XAER_PROTO)
     ∷ resumes 1 xid_a (time 4)
