@@ -33,11 +33,10 @@ loop-preserved c =
     l.known.items c.push.new.self.items c.in-Some.first (c.args.count - l.counter) (c.args.count - (l.counter + 1)) t c.in_ok-push.ensures.items (omega arith)
     ∙ rw (c.next_working.ensures.same, c.next_lasting.ensures.same) l.invariant
 
-pub returns-clause-few : goal.returns-clause-few
-returns-clause-few c =
-    let total = all_after (option_copied c.args.after) c.args.self.now in
-    let all = take c.args.count total in
-    let whole : c.loop.known.items ≡ all =
+-- what the loop leaves
+all_taken : (c : goal.Left-loop) → c.loop.known.items ≡ take c.args.count (all_after (option_copied c.args.after) c.args.self.now)
+all_taken c =
+    let all = take c.args.count (all_after (option_copied c.args.after) c.args.self.now) in
     elim c.loop-test.branch [
       | else-loop-test w ↦ merged_enough c.args.count c.loop.counter c.loop.known.items _ all w.loop-test.false c.loop.invariant
       | then-loop-test+in_default w ↦
@@ -45,19 +44,11 @@ returns-clause-few c =
           c.loop.known.items all (c.args.count - c.loop.counter)
           (record { end_one = λ e. ap (map told_working) (w.next_working.ensures.end e); end_other = λ e. ap (map told_lasting) (w.next_lasting.ensures.end e); taken = w.in_default.ensures })
           (rw (w.next_working.ensures.same, w.next_lasting.ensures.same) c.loop.invariant)
-    ] in
-    few_taken c.loop.known.items total c.args.count whole
+    ]
+
+pub returns-clause-few : goal.returns-clause-few
+returns-clause-few c = few_taken c.loop.known.items (all_after (option_copied c.args.after) c.args.self.now) c.args.count (all_taken c)
 
 pub returns-clause-known : goal.returns-clause-known
 returns-clause-known c = λ s h st.
-    let all = take c.args.count (all_after (option_copied c.args.after) c.args.self.now) in
-    let whole : c.loop.known.items ≡ all =
-    elim c.loop-test.branch [
-      | else-loop-test w ↦ merged_enough c.args.count c.loop.counter c.loop.known.items _ all w.loop-test.false c.loop.invariant
-      | then-loop-test+in_default w ↦
-          merged_all w.next_working.new.next w.next_lasting.new.next w.take_first.new.one w.take_first.new.other (map told_working w.next_working.new.others) (map told_lasting w.next_lasting.new.others)
-          c.loop.known.items all (c.args.count - c.loop.counter)
-          (record { end_one = λ e. ap (map told_working) (w.next_working.ensures.end e); end_other = λ e. ap (map told_lasting) (w.next_lasting.ensures.end e); taken = w.in_default.ensures })
-          (rw (w.next_working.ensures.same, w.next_lasting.ensures.same) c.loop.invariant)
-    ] in
-    whole ∙ known_same c.args.self.now s (option_copied c.args.after) c.args.count h st c.range-working.ensures.ordered c.range-lasting.ensures.ordered
+    all_taken c ∙ known_same c.args.self.now s (option_copied c.args.after) c.args.count h st c.range-working.ensures.ordered c.range-lasting.ensures.ordered
