@@ -1,4 +1,4 @@
-ghost use Rattle.std.specs.Prelude.{◌≡◌, ℕ, ◌+◌, ◌<◌, length, Err, IfNone, MatchOption};
+ghost use Rattle.std.specs.Prelude.{◌≡◌, ℕ, ◌+◌, ◌<◌, ◌^◌, length, Err, IfNone, MatchOption};
 ghost use Rattle.xa_frame.specs.Limits.{IsRequest, IsReply};
 ghost use Rattle.xa_manager.specs.Answered.{connect_reply, wanted_memory};
 ghost use Rattle.xa_model.specs.declared.event.Event.{Event};
@@ -7,12 +7,12 @@ ghost use Rattle.xa_room.specs.Gone.{WasGone};
 ghost use Rattle.xa_room.specs.Share.{Records};
 ghost use Rattle.xa_room.specs.Status.{IsTold};
 
-use crate::copies::two_copies;
+use crate::call::Call;
 use crate::counted::Counted;
 use crate::manages::Manages;
 use crate::receipt::Receipt;
 use crate::room::Room;
-use crate::share::Share;
+use crate::share::{Share, bound, raise};
 use crate::start::Start;
 use crate::taking::take;
 use std::alloc::Global;
@@ -21,7 +21,6 @@ use std::sync::ledger::{Blank, Book, Ledger};
 use std::sync::{Mutex, Wait};
 use xa_assoc::ConnectFault;
 use xa_frame::{Reply, Request, Status};
-use xa_manager::memory_reply;
 
 /// A room behind the one lock, which many threads share. Each call is one call of the room. It is recorded by the
 /// caller's share, whose count so tells how many of the entries are the caller's.
@@ -40,9 +39,11 @@ impl<M: Manages, S: Start, L: Ledger> Desk<M, S, L> {
         ensures { (result.1.parts ≡ L.parts) × (result.1.count ≡ length room.entries) }
     {
         let alloc = room.allocator();
-        let (counted, share) = Counted::open(room, blank);
-        let lock = Mutex::new(counted);
-        (Desk { lock, alloc }, share)
+        let (mut book, mut mark) = blank.open::<L>();
+        let count = room.entries().len() as u64;
+        book.add(&mut mark, count);
+        let lock = Mutex::new(Counted { room, book });
+        (Desk { lock, alloc }, Share { mark, count })
     }
 
     /// Answers a request of a session, by a share that is lent. Without a receipt memory was wanted.
@@ -59,12 +60,16 @@ impl<M: Manages, S: Start, L: Ledger> Desk<M, S, L> {
             (λ r. (r.reply ≡ result.0) × Records share.old share.new (Event.Call session request) r) }
         ensures limits { IsReply result.0 }
     {
-        request.hold();
         // made before the lock is taken, so that it is held no longer than the call takes
-        let Some((first, second)) = two_copies(self.alloc, &request) else {
-            return (memory_reply(&request), None);
+        let call = match Call::new(self.alloc, session, request) {
+            Ok(call) => call,
+            Err(reply) => return (reply, None),
         };
-        take(rt, &self.lock).call(share, session, request, first, second)
+        let mut guard = take(rt, &self.lock);
+        let Counted { room, book } = &mut *guard;
+        let (reply, receipt) = room.call_copied(call);
+        raise(book, share, &receipt);
+        (reply, receipt)
     }
 
     /// Connects a session, by a share that is lent. Without a receipt memory was wanted.
@@ -77,7 +82,11 @@ impl<M: Manages, S: Start, L: Ledger> Desk<M, S, L> {
             ((result.0 ≡ Err ConnectFault.Memory) × (share.new ≡ share.old))
             (λ r. (r.reply ≡ placed r.place (connect_reply result.0)) × Records share.old share.new Event.Connect r) }
     {
-        take(rt, &self.lock).connect(share)
+        let mut guard = take(rt, &self.lock);
+        let Counted { room, book } = &mut *guard;
+        let (session, receipt) = room.connect();
+        raise(book, share, &receipt);
+        (session, receipt)
     }
 
     /// Hangs a session up, by a share that is lent. Without a receipt a room's manager had no such session.
@@ -87,7 +96,11 @@ impl<M: Manages, S: Start, L: Ledger> Desk<M, S, L> {
             (λ r. Records share.old share.new (Event.Hangup session) r) }
         ensures gone { IfNone result (WasGone M.Manages S.start session) }
     {
-        take(rt, &self.lock).hangup(share, session)
+        let mut guard = take(rt, &self.lock);
+        let Counted { room, book } = &mut *guard;
+        let receipt = room.hangup(session);
+        raise(book, share, &receipt);
+        receipt
     }
 
     /// As `call_by`, by a share that is handed over and given back.
@@ -145,21 +158,31 @@ impl<M: Manages, S: Start, L: Ledger> Desk<M, S, L> {
     pub fn status<R: Wait>(&self, rt: &R) -> Status
         ensures { IsTold M.Manages S.start result }
     {
-        take(rt, &self.lock).status()
+        let guard = take(rt, &self.lock);
+        let room = &guard.room;
+        let _entries = room.entries();
+        room.status()
     }
 
-    /// One share of two.
+    /// One share of two. The book knows that their counts add up to a `u64`.
     pub fn merge<R: Wait>(&self, rt: &R, one: Share<L>, other: Share<L>) -> Share<L>
-        ensures { (result.parts ≡ one.parts + other.parts) × (result.count ≡ one.count + other.count) }
+        ensures share { (result.parts ≡ one.parts + other.parts) × (result.count ≡ one.count + other.count) }
+        ensures fits { result.count < 2 ^ 64 }
     {
-        take(rt, &self.lock).merge(one, other)
+        let (mut one, mut other) = (one, other);
+        let mut guard = take(rt, &self.lock);
+        let counted = &mut *guard;
+        let _total = counted.room.entries().len();
+        bound(&mut counted.book, &mut one, &mut other);
+        one.merge(other)
     }
 
     /// The room, and the ledger's book, whose total is the number of the room's entries.
     pub fn into_room(self) -> (Room<M, S>, Book<L>)
         ensures { result.1.total ≡ length result.0.entries }
     {
-        self.lock.into_inner().parts()
+        let Counted { room, book } = self.lock.into_inner();
+        (room, book)
     }
 }
 

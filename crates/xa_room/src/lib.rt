@@ -7,7 +7,7 @@
 //! - `room`: `Room`, which asks its manager and notes each event; `start`: `Start`, where its history begins
 //! - `manages`: `Manages`, what a room asks of a manager; `manager`: that the manager over a log does it
 //! - `entry`: `Entry`, one event of the history; `receipt`: `Receipt`, what whoever asked is given of it
-//! - `notes`: room for entries, and an entry more; `copies`, `spare`, `replies`: the copies of a request and of a reply
+//! - `notes`: room for entries, and an entry more; `call`, `spare`, `replies`: the copies of a request and of a reply
 //!   that the entry and the receipt take, and a reply's place
 //! - `door`: a room as the door of a connection
 //!
@@ -22,8 +22,8 @@
 #![tactic(auto)]
 
 mod auditing;
+mod call;
 mod comparing;
-mod copies;
 mod counted;
 mod desk;
 mod door;

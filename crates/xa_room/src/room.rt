@@ -1,16 +1,16 @@
 ghost use Rattle.std.specs.Prelude.{◌≡◌, ℕ, ◌+◌, [], length, IfOk, IfNone, Err, MatchOption, true, false};
 ghost use Rattle.xa_assoc.specs.Refusals.{is_memory};
-ghost use Rattle.xa_frame.specs.Limits.{Holds, IsRequest, IsReply};
+ghost use Rattle.xa_frame.specs.Limits.{IsRequest, IsReply};
 ghost use Rattle.xa_manager.specs.Answered.{connect_reply, wanted_memory};
 ghost use Rattle.xa_model.specs.State.{State};
-ghost use Rattle.xa_model.specs.Events.{HaveHappened};
+ghost use Rattle.xa_model.specs.Events.{HaveHappened, IsAsked};
 ghost use Rattle.xa_room.specs.Book.{AreNumbered, placed, plain_entries};
 ghost use Rattle.xa_room.specs.Gone.{WasGone};
 ghost use Rattle.xa_room.specs.Upholds.{IsLegal, IsCounted, Adds, Leaves};
 ghost use Rattle.xa_room.specs.Promises.{Promises};
 ghost use Rattle.xa_room.specs.Status.{Tells};
 
-use crate::copies::two_copies;
+use crate::call::Call;
 use crate::entry::Entry;
 use crate::manages::Manages;
 use crate::notes::{make_ready, make_room, note};
@@ -86,30 +86,26 @@ impl<M: Manages, S: Start> Room<M, S> {
             (λ r. (r.reply ≡ result.0) × Adds M.Manages self.old self.new (Event.Call session request) r.reply r) }
         ensures limits { IsReply result.0 }
     {
-        request.hold();
-        let Some((first, second)) = two_copies(self.alloc, &request) else {
-            return (memory_reply(&request), None);
-        };
-        self.call_copied(session, request, first, second)
+        match Call::new(self.alloc, session, request) {
+            Ok(call) => self.call_copied(call),
+            Err(reply) => (reply, None),
+        }
     }
 
-    /// As `call`, by two copies of the request that were made before: the entry takes one, and the receipt the other.
-    pub(crate) fn call_copied(
-        &mut self,
-        session: u64,
-        request: Request,
-        first: Request,
-        second: Request,
-    ) -> (Reply, Option<Receipt>)
-        requires limits { IsRequest request }
-        requires held { Holds request }
-        requires first { first ≡ request }
-        requires second { second ≡ request }
-        ensures recorded { MatchOption result.1
-            ((result.0 ≡ wanted_memory (Event.Call session request)) × Leaves M.stands self.old self.new)
-            (λ r. (r.reply ≡ result.0) × Adds M.Manages self.old self.new (Event.Call session request) r.reply r) }
+    /// As `call`, by copies of the request that were made before.
+    pub(crate) fn call_copied(&mut self, call: Call) -> (Reply, Option<Receipt>)
+        requires { IsAsked call.request }
+        ensures recorded { let event = Event.Call call.session call.request in MatchOption result.1
+            ((result.0 ≡ wanted_memory event) × Leaves M.stands self.old self.new)
+            (λ r. (r.reply ≡ result.0) × Adds M.Manages self.old self.new event r.reply r) }
         ensures limits { IsReply result.0 }
     {
+        let Call {
+            session,
+            request,
+            first,
+            second,
+        } = call;
         let count = self.manager.connected() as usize + 1;
         if !make_ready(&mut self.history, count, &mut self.kept, &mut self.given) {
             return (memory_reply(&request), None);

@@ -1,5 +1,6 @@
-ghost use Rattle.std.specs.Prelude.{◌≡◌, ℕ, ◌+◌, ◌<◌, ◌≤◌, ◌^◌};
+ghost use Rattle.std.specs.Prelude.{◌≡◌, ℕ, ◌+◌, ◌<◌, ◌≤◌, ◌^◌, IfSome, MatchOption};
 
+use crate::receipt::Receipt;
 use std::fmt;
 use std::marker::Model;
 use std::sync::ledger;
@@ -82,4 +83,30 @@ pub fn agree<L: Ledger>(book: &mut Book<L>, share: &mut Share<L>)
     ensures agrees { share.new.count ≡ book.new.total }
 {
     book.audit(&mut share.mark);
+}
+
+/// The counts of both add up to no more than the book's total. Changes nothing, and takes no memory.
+pub(crate) fn bound<L: Ledger>(book: &mut Book<L>, one: &mut Share<L>, other: &mut Share<L>)
+    ensures same { (book.new.total ≡ book.old.total) × (one.new ≡ one.old) × (other.new ≡ other.old) }
+    ensures bound { one.new.count + other.new.count ≤ book.new.total }
+{
+    one.mark.transfer(&mut other.mark, one.count);
+    book.audit(&mut other.mark);
+    other.mark.transfer(&mut one.mark, one.count);
+}
+
+/// Records the event of a receipt, where there is one, by the share.
+pub(crate) fn raise<L: Ledger>(book: &mut Book<L>, share: &mut Share<L>, receipt: &Option<Receipt>)
+    requires { IfSome receipt.now (λ r. r.place ≡ book.old.total + 1) }
+    ensures { MatchOption receipt.now
+        ((book.new.total ≡ book.old.total) × (share.new ≡ share.old))
+        (λ r. (book.new.total ≡ r.place) × (share.new ≡ record share.old { count = share.old.count + 1 })
+        × (share.new.count ≤ r.place)) }
+{
+    if let Some(receipt) = receipt {
+        book.audit(&mut share.mark);
+        prove!(share.count < receipt.place);
+        book.add(&mut share.mark, 1);
+        share.count += 1;
+    }
 }

@@ -53,8 +53,14 @@ impl Spare {
             Body::Number(number) => Body::Number(*number),
             Body::Value(value) => Body::Value(self.copied_value(alloc, value)),
             Body::Absent => Body::Absent,
-            Body::Xids(xids) => Body::Xids(self.copied_xids(alloc, xids)),
-            Body::Branches(branches) => Body::Branches(self.copied_branches(alloc, branches)),
+            Body::Xids(xids) => {
+                let xids = copied_list(alloc, &mut self.list, xids.as_slice());
+                Body::Xids(Xids::new(xids))
+            }
+            Body::Branches(branches) => {
+                let branches = copied_list(alloc, &mut self.known, branches.as_slice());
+                Body::Branches(KnownBranches::new(branches))
+            }
             Body::Status(status) => Body::Status(*status),
         };
         Reply {
@@ -77,52 +83,40 @@ impl Spare {
         let _ = bytes.extend_from_slice(value.as_slice());
         Bytes::new(bytes)
     }
+}
 
-    fn copied_xids(&mut self, alloc: Global, xids: &Xids) -> Xids
-        requires room { HasRoom self.old }
-        requires few { length xids.now ≤ MOST_XIDS }
-        ensures { result ≡ xids.now }
-    {
-        let mut list = match Vec::with_capacity(alloc, xids.as_slice().len()) {
-            Ok(list) => list,
-            Err(_) => mem::replace(&mut self.list, Vec::new(alloc)),
-        };
-        copy_into(&mut list, xids.as_slice());
-        Xids::new(list)
-    }
+// What is copied without memory.
+trait Copied {
+    ghost use Rattle.std.specs.Prelude.{◌≡◌};
 
-    fn copied_branches(&mut self, alloc: Global, branches: &KnownBranches) -> KnownBranches
-        requires room { HasRoom self.old }
-        requires few { length branches.now ≤ MOST_XIDS }
-        ensures { result ≡ branches.now }
-    {
-        let mut known = match Vec::with_capacity(alloc, branches.as_slice().len()) {
-            Ok(known) => known,
-            Err(_) => mem::replace(&mut self.known, Vec::new(alloc)),
-        };
-        copy_branches(&mut known, branches.as_slice());
-        KnownBranches::new(known)
+    fn copied(&self) -> Self
+        ensures { result ≡ self.now };
+}
+
+impl Copied for Xid {
+    fn copied(&self) -> Xid {
+        self.copied()
     }
 }
 
-// Copies XIDs into a list that has room for them.
-fn copy_into(list: &mut Vec<Xid>, xids: &[Xid])
-    requires empty { list.old.items ≡ [] }
-    requires room { length xids.now ≤ vec_capacity list.old }
-    ensures { list.new.items ≡ xids.now }
-{
-    for xid in xids {
-        list.push_reserved(xid.copied());
+impl Copied for KnownBranch {
+    fn copied(&self) -> KnownBranch {
+        self.copied()
     }
 }
 
-// The same of known branches.
-fn copy_branches(list: &mut Vec<KnownBranch>, branches: &[KnownBranch])
-    requires empty { list.old.items ≡ [] }
-    requires room { length branches.now ≤ vec_capacity list.old }
-    ensures { list.new.items ≡ branches.now }
+// A copy in memory of its own length where there is some, else in the spare list.
+fn copied_list<T: Copied + Drop>(alloc: Global, spare: &mut Vec<T>, items: &[T]) -> Vec<T>
+    requires empty { spare.old.items ≡ [] }
+    requires room { length items.now ≤ vec_capacity spare.old }
+    ensures { result.items ≡ items.now }
 {
-    for branch in branches {
-        list.push_reserved(branch.copied());
+    let mut list = match Vec::with_capacity(alloc, items.len()) {
+        Ok(list) => list,
+        Err(_) => mem::replace(spare, Vec::new(alloc)),
+    };
+    for item in items {
+        list.push_reserved(item.copied());
     }
+    list
 }
