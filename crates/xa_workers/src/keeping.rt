@@ -1,17 +1,7 @@
-ghost use Rattle.std.specs.Prelude.{◌≡◌, ◌+◌, ◌<◌, ◌^◌, vec_len};
-ghost use Rattle.xa_workers.specs.Reports.{Keeps, KeepsAll};
+ghost use Rattle.std.specs.Prelude.{◌≡◌, ◌+◌, vec_len};
+ghost use Rattle.xa_workers.specs.Reports.{KeepsAll};
 
 use xa_room::Receipt;
-
-/// Keeps a receipt behind the others, or counts it where there is no memory.
-pub(crate) fn keep(receipts: &mut Vec<Receipt>, dropped: &mut u64, receipt: Receipt)
-    requires { vec_len receipts.old + dropped.old + 1 < 2 ^ 64 }
-    ensures { Keeps receipts.old.items receipts.new.items dropped.old dropped.new receipt }
-{
-    if receipts.push(receipt).is_err() {
-        *dropped += 1;
-    }
-}
 
 /// Appends the others, or says how many there are where there is no memory.
 pub(crate) fn keep_all(receipts: &mut Vec<Receipt>, others: Vec<Receipt>) -> u64

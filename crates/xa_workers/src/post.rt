@@ -53,7 +53,12 @@ impl<'a, M: Manages, S: Start, L: Ledger, G: Gate, R: Clock + Wait> Post<'a, M, 
         ensures calls { self.new.calls ≡ 0 }
     {
         self.calls = 0;
-        self.report.connect(self.rt, self.desk)
+        let report = &mut self.report;
+        let (session, receipt) = self.desk.connect_by(self.rt, &mut report.share);
+        if let Some(receipt) = receipt {
+            report.keep(receipt);
+        }
+        session
     }
 
     /// What was recorded from here.
@@ -85,7 +90,13 @@ impl<M: Manages, S: Start, L: Ledger, G: Gate, R: Clock + Wait> Door for Post<'_
         self.calls = self.calls.saturating_add(1);
         let number = self.calls;
         self.gate.enter(session, number);
-        let reply = self.report.call(self.rt, self.desk, session, request);
+        let report = &mut self.report;
+        let (reply, receipt) = self
+            .desk
+            .call_by(self.rt, &mut report.share, session, request);
+        if let Some(receipt) = receipt {
+            report.keep(receipt);
+        }
         self.gate.leave(session, number);
         reply
     }
@@ -98,7 +109,10 @@ impl<M: Manages, S: Start, L: Ledger, G: Gate, R: Clock + Wait> Door for Post<'_
     }
 
     fn hangup(&mut self, session: u64) {
-        self.report.hangup(self.rt, self.desk, session);
+        let report = &mut self.report;
+        if let Some(receipt) = self.desk.hangup_by(self.rt, &mut report.share, session) {
+            report.keep(receipt);
+        }
     }
 }
 

@@ -1,12 +1,10 @@
-ghost use Rattle.std.specs.Prelude.{◌≡◌, ◌+◌, ◌≤◌, [], vec_len};
+ghost use Rattle.std.specs.Prelude.{◌≡◌, ◌+◌, ◌<◌, ◌≤◌, [], vec_len};
 
-use crate::keeping::{keep, keep_all};
+use crate::keeping::keep_all;
 use std::alloc::Global;
 use std::fmt;
 use std::sync::Wait;
 use std::sync::ledger::Ledger;
-use xa_assoc::ConnectFault;
-use xa_frame::{Reply, Request};
 use xa_room::{Desk, Manages, Receipt, Share, Start};
 
 /// What was recorded by a share since its report began: the receipts of its connects, calls and hang-ups in their
@@ -20,9 +18,7 @@ pub struct Report<L: Ledger> {
 }
 
 impl<L: Ledger> Report<L> {
-    ghost use Rattle.xa_frame.specs.Limits.{IsRequest, IsReply};
-    ghost use Rattle.xa_room.specs.Gone.{WasGone};
-    ghost use Rattle.xa_workers.specs.Reports.{told, Calls, Connects, HangsUp, Joins};
+    ghost use Rattle.xa_workers.specs.Reports.{told, Joins, Keeps};
 
     /// A report that begins.
     pub fn new(alloc: Global, share: Share<L>) -> Report<L>
@@ -35,78 +31,15 @@ impl<L: Ledger> Report<L> {
         }
     }
 
-    /// Connects a session at the desk.
-    pub fn connect<M: Manages, S: Start, R: Wait>(
-        &mut self,
-        rt: &R,
-        desk: &Desk<M, S, L>,
-    ) -> Result<u64, ConnectFault>
-        ensures { Connects self.old result self.new }
+    /// Keeps the receipt of an event that the share recorded behind the others, or counts it where there is no memory.
+    pub(crate) fn keep(&mut self, receipt: Receipt)
+        requires { (told self.old < self.old.share.count) × (self.old.share.count ≤ receipt.place) }
+        ensures share { self.new.share ≡ self.old.share }
+        ensures kept { Keeps self.old.receipts.items self.new.receipts.items self.old.dropped self.new.dropped receipt }
     {
-        let Report {
-            share,
-            receipts,
-            dropped,
-        } = self;
-        let (session, receipt) = desk.connect_by(rt, share);
-        match receipt {
-            Some(receipt) => {
-                let _count = share.count();
-                keep(receipts, dropped, receipt);
-            }
-            None => {}
-        }
-        session
-    }
-
-    /// Answers a session's request at the desk.
-    pub fn call<M: Manages, S: Start, R: Wait>(
-        &mut self,
-        rt: &R,
-        desk: &Desk<M, S, L>,
-        session: u64,
-        request: Request,
-    ) -> Reply
-        requires { IsRequest request }
-        ensures called { Calls session self.old request result self.new }
-        ensures limits { IsReply result }
-    {
-        let Report {
-            share,
-            receipts,
-            dropped,
-        } = self;
-        let (reply, receipt) = desk.call_by(rt, share, session, request);
-        match receipt {
-            Some(receipt) => {
-                let _count = share.count();
-                keep(receipts, dropped, receipt);
-            }
-            None => {}
-        }
-        reply
-    }
-
-    /// Hangs a session up at the desk.
-    pub fn hangup<M: Manages, S: Start, R: Wait>(
-        &mut self,
-        rt: &R,
-        desk: &Desk<M, S, L>,
-        session: u64,
-    )
-        ensures { HangsUp (WasGone M.Manages S.start) session self.old self.new }
-    {
-        let Report {
-            share,
-            receipts,
-            dropped,
-        } = self;
-        match desk.hangup_by(rt, share, session) {
-            Some(receipt) => {
-                let _count = share.count();
-                keep(receipts, dropped, receipt);
-            }
-            None => {}
+        prove!(self.dropped < receipt.place);
+        if self.receipts.push(receipt).is_err() {
+            self.dropped += 1;
         }
     }
 
@@ -133,7 +66,6 @@ impl<L: Ledger> Report<L> {
             dropped: lost,
         } = other;
         let share = desk.merge(rt, share, more);
-        let _count = share.count();
         let missing = keep_all(&mut receipts, others);
         Report {
             share,
