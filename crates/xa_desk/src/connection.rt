@@ -14,7 +14,7 @@ use std::alloc::{AllocError, Global};
 use std::io::{Read, Write};
 use xa_bytes::{number_of, put_u32};
 use xa_codes::{Detail, XAER_RMFAIL};
-use xa_frame::{Body, FrameFault, Question, Reply, decode_question, one_reply, put_reply};
+use xa_frame::{Body, FrameFault, Question, Reply, decode_question, put_reply};
 use xa_limits::MOST_CONTENT;
 use xa_output::write_text;
 
@@ -78,7 +78,6 @@ pub fn make_frame(bytes: &mut Vec<u8>, reply: &Reply) -> Result<(), AllocError>
     requires { IsReply reply.now }
     ensures { OnOk result (bytes.new.items ≡ reply_frame reply.now) }
 {
-    one_reply();
     bytes.clear();
     put_u32(bytes, 0)?;
     put_reply(bytes, reply)?;

@@ -2,7 +2,8 @@ use Rattle.std.proofs.Common.{◌≡◌, ◌≤◌, ◌+◌, ◌-◌, ◌∙◌,
 use Rattle.std.proofs.lemmas.List.{length-append}
 use Rattle.std.specs.Int.{to_be_bytes, w32}
 use Rattle.xa_limits.specs.declared.TheConstants.{MOST_CONTENT}
-use Rattle.xa_frame.specs.Spelling.{SpellsReply, bytes_of_reply}
+use Rattle.xa_frame.specs.Spelling.{bytes_of_reply}
+use Rattle.xa_frame.proofs.Replies.{reply_short}
 use Rattle.xa_desk.proofs.connection.make_frame.Goals as goal
 
 -- four bytes, and no more than a content has
@@ -15,9 +16,8 @@ fits n items front content is whole four short =
 pub overflow_cast-count : goal.overflow_cast-count
 overflow_cast-count c =
     let r = c.args.reply.now in
-    let spells : SpellsReply (bytes_of_reply r) r = record { limits = c.requires; holds = c.in_ok-put_reply.ensures.holds; bytes_are = refl } in
     let front : c.put_u32.new.out.items ≡ to_be_bytes w32 0 =
     c.in_ok-put_u32.ensures ∙ ap (λ (xs : List ℕ). xs ++ to_be_bytes w32 0) c.clear.ensures.items in
     fits c.len.result c.put_reply.new.out.items (to_be_bytes w32 0) (bytes_of_reply r) (c.len.ensures ∙ c.put_reply.new.out.ok.0)
     (c.in_ok-put_reply.ensures.bytes ∙ ap (λ (xs : List ℕ). xs ++ bytes_of_reply r) front) refl
-    (c.one_reply.ensures.short (bytes_of_reply r) r spells)
+    (reply_short r c.requires c.in_ok-put_reply.ensures.holds)
