@@ -3,6 +3,7 @@ use Rattle.std.proofs.Common.{◌≡◌, ℕ, ◌+◌, ◌^◌, ◌<◌, ◌≤�
 use Rattle.std.specs.Int.{w32, to_be_bytes}
 use Rattle.std.proofs.lemmas.List.{drop_at, drop-drop, take-append-drop, length-append, length-take, length-take-le}
 use Rattle.xa_bytes.specs.Numbers.{number_at, AreBytes, ReadsBack}
+use Rattle.xa_bytes.proofs.Digits.{reads_back, wide32}
 use Rattle.xa_limits.specs.declared.TheConstants.{MOST_CONTENT}
 use Rattle.xa_desk.specs.Serving.{IsCut, IsShort}
 use Rattle.xa_connection.specs.Fronts.{BeginsWhole, BeginsTooLong}
@@ -12,9 +13,13 @@ pub record Reads (bytes : List ℕ) (count : ℕ) (rest : List ℕ) : Type 0 whe
   pub parts : bytes ≡ to_be_bytes w32 count ++ rest
   pub fits : count < 2 ^ 32
 
-pub reads : ReadsBack w32 (2 ^ 32) → (bytes : List ℕ) (count : ℕ) (rest : List ℕ) → AreBytes bytes → number_at w32 bytes ≡ Some (count, rest)
+-- what is read is spelled there, and what is spelled is read
+pub law : ReadsBack w32 (2 ^ 32)
+law = reads_back w32 (2 ^ 32) wide32
+
+pub reads : (bytes : List ℕ) (count : ℕ) (rest : List ℕ) → AreBytes bytes → number_at w32 bytes ≡ Some (count, rest)
     → Reads bytes count rest
-reads law bytes count rest are e = let p = law.found bytes count rest are e in record { parts = p.0; fits = p.1 }
+reads bytes count rest are e = let p = law.found bytes count rest are e in record { parts = p.0; fits = p.1 }
 
 pub whole : (bytes : List ℕ) (count : ℕ) (rest : List ℕ) → Reads bytes count rest → count ≤ MOST_CONTENT → count ≤ length rest → BeginsWhole bytes count
 whole bytes count rest r short fits =

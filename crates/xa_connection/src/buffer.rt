@@ -77,7 +77,8 @@ impl Buffer {
         ensures { self.new ≡ drop count self.old }
     {
         if count >= self.len() {
-            self.clear();
+            self.bytes.clear();
+            self.taken = 0;
             return;
         }
         self.taken += count;
@@ -85,13 +86,6 @@ impl Buffer {
             remove_front(&mut self.bytes, self.taken);
             self.taken = 0;
         }
-    }
-
-    fn clear(&mut self)
-        ensures { self.new ≡ [] }
-    {
-        self.bytes.clear();
-        self.taken = 0;
     }
 }
 

@@ -1,7 +1,7 @@
 ghost use Rattle.std.specs.Prelude.{◌≡◌, ◌↔◌, [], drop, IfOk, IfErr, OnErr, IsSome, IsTrue};
 ghost use Rattle.xa_frame.specs.Limits.{IsReply};
 ghost use Rattle.xa_frame.specs.Questions.{IsQuestion, SpellsQuestion};
-ghost use Rattle.xa_connection.specs.Calls.{Asks, Feeds, Holds, IsAsked, IsPut, IsRefused, Replies, Turns, new_connection, room_of};
+ghost use Rattle.xa_connection.specs.Calls.{Asks, Feeds, IsAsked, IsPut, IsRefused, Replies, Turns, new_connection, room_of};
 ghost use Rattle.xa_connection.specs.Fronts.{IsInsideFrame, IsShortFront};
 
 use crate::answering::Answering;
@@ -107,7 +107,8 @@ impl Connection {
         }
     }
 
-    /// Replies to what is at the front: a frame is taken, and after a length that is too great the connection is to end.
+    /// Replies to what is at the front: a frame is taken, and after a length that is too great the connection is to end. So it
+    /// is where there is no memory for the reply.
     pub fn reply(&mut self, front: Front, reply: &Reply) -> Answering
         requires front { IsShortFront front }
         requires limits { IsReply reply.now }
@@ -118,14 +119,6 @@ impl Connection {
             Front::TooLong => self.end = Some(Served::TooLong),
             Front::Whole(count) => self.input.take(4 + count),
         }
-        self.hold(reply)
-    }
-
-    // Makes a reply what is to be sent, or is to end where there is no memory for it.
-    fn hold(&mut self, reply: &Reply) -> Answering
-        requires { IsReply reply.now }
-        ensures { Holds self.old reply.now result self.new }
-    {
         if self.output.hold(reply).is_ok() {
             return Answering::Answered;
         }

@@ -2,7 +2,7 @@ ghost use Rattle.std.specs.Prelude.{◌≡◌};
 ghost use Rattle.xa_connection.specs.Fronts.{IsFront};
 ghost use Rattle.xa_desk.specs.Serving.{IsCut};
 
-use xa_bytes::{one_number, take_u32};
+use xa_bytes::take_u32;
 use xa_limits::MOST_CONTENT;
 
 /// What is at the front of some bytes.
@@ -21,7 +21,6 @@ pub fn front_of(bytes: &[u8]) -> Front
     ensures front { IsFront bytes.now result }
     ensures cut { IsCut bytes.now → result ≡ Front.Cut }
 {
-    one_number();
     let Some((count, rest)) = take_u32(bytes) else {
         return Front::Cut;
     };
