@@ -29,7 +29,7 @@ use Rattle.xa_script.specs.declared.log_file.LogFile.TheVariants.{Current, Other
 
 -- what a read gives of a disk
 abbrev pub seen : MemDisk → List ℕ
-seen disk = disk.bytes.items
+seen disk = disk.bytes
 
 -- the premises that a manager's contracts have on its disks
 abbrev pub MemoryIsTrusted : Type 0
