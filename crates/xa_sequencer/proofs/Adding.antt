@@ -1,21 +1,24 @@
 -- An entry more, or none.
 use Rattle.std.proofs.Common.{◌≡◌, ℕ, ◌+◌, ◌≤◌, ◌∙◌, inl, Bool, true, false, List, [], ◌∷◌, ◌++◌, length, refl, sym, ap, subst, arith, length-append, append_assoc, append-nil}
-use Rattle.std.specs.Prelude.{MatchBool, MatchResult, Result, Ok, Err}
+use Rattle.std.specs.Prelude.{MatchBool, MatchResult, Result, Ok, Err, pos}
 use Rattle.xa_assoc.specs.declared.fault.ConnectFault.{ConnectFault}
 use Rattle.xa_assoc.specs.Refusals.{is_memory}
 use Rattle.xa_frame.specs.declared.reply.Reply.{Reply}
 use Rattle.xa_manager.specs.Answered.{connect_reply}
 use Rattle.xa_manager.specs.Counted.{RiseBy}
 use Rattle.xa_manager.specs.Promises.{IsReached, ReachedPromises}
+use Rattle.xa_model.specs.Answer.{plain}
 use Rattle.xa_model.specs.State.{State}
 use Rattle.xa_model.specs.Events.{IsEvent}
 use Rattle.xa_model.specs.declared.event.Event.{Event}
-use Rattle.xa_room.proofs.Longer.{kept_noted, not_memory}
+use Rattle.xa_model.specs.declared.event.Event.TheVariants.{Connect, Hangup}
+use Rattle.xa_room.proofs.Longer.{connect_place, kept_noted, not_memory, one_more}
 use Rattle.xa_room.specs.Book.{entry_of, placed, plain_entries, unplaced}
-use Rattle.xa_room.specs.Manages.{Acts, Stays, StepsTo}
+use Rattle.xa_room.specs.Manages.{Stays, StepsTo}
 use Rattle.xa_room.specs.Upholds.{Upholds}
 use Rattle.xa_room.specs.declared.entry.Entry.{Entry}
 use Rattle.xa_room.specs.declared.manages.Manages.{Ghosts}
+use Rattle.xa_sequencer.specs.GroupCommits.{ActsAs}
 use Rattle.xa_sequencer.specs.Numbers.{Adds, Leaves}
 use Rattle.xa_sequencer.specs.Stands.{AllPromise, GoesOn, GoesOnTwice, HasHistory, Numbered, Stands, most_numbers}
 
@@ -25,7 +28,7 @@ was_memory A B false e h = absurd (cc e)
 
 -- the entry of a reply with its number, as a room notes it
 noted : {M : Type 0} (m : Ghosts M) (start : State → Type 0) (base : ℕ × ℕ) (old new : Numbered M) (event : Event) (said reply : Reply)
-    → Acts m.stands m.trusts m.told m.has_called m.crashes m.failures old.now event said new.now
+    → ActsAs m old.now event said new.now
     → is_memory said.detail ≡ false → said.place ≡ 0 → IsEvent event
     → reply ≡ placed (old.count + 1) said → new.count ≡ old.count + 1 → new.count + m.sessions new.now ≤ most_numbers
     → GoesOn m start base old (entry_of reply.place event (m.told new.now) reply ∷ []) new
@@ -42,7 +45,7 @@ noted m start base old new event said reply acts served zero is_event is more ro
 
 -- an event that found its memory
 pub added : {M : Type 0} (m : Ghosts M) (start : State → Type 0) (base : ℕ × ℕ) (old new : Numbered M) (event : Event) (said reply : Reply)
-    → Acts m.stands m.trusts m.told m.has_called m.crashes m.failures old.now event said new.now
+    → ActsAs m old.now event said new.now
     → is_memory said.detail ≡ false → said.place ≡ 0 → IsEvent event
     → reply ≡ placed (old.count + 1) said → new.count ≡ old.count + 1 → new.count + m.sessions new.now ≤ most_numbers
     → Adds m start base old event reply new
@@ -57,6 +60,24 @@ added m start base old new event said reply acts served zero is_event is more ro
       crash = acts.crash served;
       counted = not_memory _ _ _ served acts.counted;
     }
+
+-- a connect that found its memory
+pub connected : {M : Type 0} (m : Ghosts M) (start : State → Type 0) (base : ℕ × ℕ) (now new : M) (count : ℕ) (result : Result ℕ ConnectFault)
+    → ActsAs m now Connect (connect_reply result) new → is_memory (connect_reply result).detail ≡ false
+    → MatchResult result (λ _. m.sessions new ≡ m.sessions now + 1) (λ _. m.sessions new ≡ m.sessions now)
+    → count + m.sessions now + 2 ≤ most_numbers
+    → Adds m start base (record { now = now; count = count }) Connect (placed (count + 1) (connect_reply result)) (record { now = new; count = count + 1 })
+connected m start base now new count result acts found sessions left =
+    added m start base (record { now = now; count = count }) (record { now = new; count = count + 1 }) Connect (connect_reply result) (placed (count + 1) (connect_reply result))
+    acts found (connect_place result) tt refl refl (omega (arith, left, one_more result (m.sessions now) (m.sessions new) sessions))
+
+-- a hang-up of a connected session
+pub hung_up : {M : Type 0} (m : Ghosts M) (start : State → Type 0) (base : ℕ × ℕ) (now new : M) (count session : ℕ)
+    → ActsAs m now (Hangup session) (plain (pos 0)) new → m.sessions new + 1 ≡ m.sessions now → HasHistory m start base (record { now = now; count = count })
+    → Adds m start base (record { now = now; count = count }) (Hangup session) (placed (count + 1) (plain (pos 0))) (record { now = new; count = count + 1 })
+hung_up m start base now new count session acts sessions h =
+    added m start base (record { now = now; count = count }) (record { now = new; count = count + 1 }) (Hangup session) (plain (pos 0)) (placed (count + 1) (plain (pos 0)))
+    acts refl refl tt refl refl (omega (arith, h.1.upholds.reserved, h.1.count_is, sessions))
 
 rises_no_more : (n : ℕ) (a b c : ℕ × ℕ) → RiseBy n a b → RiseBy 0 b c → RiseBy n a c
 rises_no_more n a b c p q = λ first second.
@@ -82,7 +103,7 @@ stayed m start base now then entries cap kept stays counts fewer = record {
 
 -- an event that wanted memory
 pub left_out : {M : Type 0} (m : Ghosts M) (start : State → Type 0) (base : ℕ × ℕ) (old new : Numbered M) (event : Event) (said : Reply)
-    → Acts m.stands m.trusts m.told m.has_called m.crashes m.failures old.now event said new.now
+    → ActsAs m old.now event said new.now
     → is_memory said.detail ≡ true → new.count ≡ old.count → m.sessions new.now ≤ m.sessions old.now
     → Leaves m start base old event said new
 left_out m start base old new event said acts wanted same fewer =

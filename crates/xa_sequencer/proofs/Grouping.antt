@@ -1,5 +1,5 @@
 -- Entries more: those of calls that were asked together.
-use Rattle.std.proofs.Common.{◌≡◌, ℕ, ◌+◌, ◌≤◌, ◌<◌, ◌⊎◌, ◌∙◌, inl, inr, List, [], ◌∷◌, ◌++◌, length, map, None, refl, sym, ap, subst, arith, length-append, append-nil, Option, Some}
+use Rattle.std.proofs.Common.{◌≡◌, ℕ, ◌+◌, ◌≤◌, ◌<◌, ◌⊎◌, ◌∙◌, inl, inr, List, [], ◌∷◌, ◌++◌, length, take, drop, map, None, refl, sym, ap, subst, arith, length-append, append-nil, Option, Some}
 use Rattle.std.specs.List.{AllByRecursion}
 use Rattle.std.proofs.lemmas.List.Elements.{All-from_recursion, All-get_or}
 use Rattle.xa_frame.specs.declared.reply.Reply.{Reply}
@@ -22,10 +22,12 @@ use Rattle.xa_room.specs.Together.{ActsTogether, AreUnplaced, IsToldOf, event_at
 use Rattle.xa_room.specs.Upholds.{Upholds}
 use Rattle.xa_room.specs.declared.entry.Entry.{Entry}
 use Rattle.xa_room.specs.declared.manages.Manages.{Ghosts}
+use Rattle.xa_sequencer.specs.GroupCommits.{AnswersAs, ArePending, KeepsPending, pending_count}
 use Rattle.xa_sequencer.specs.Stands.{GoesOn, HasHistory, Numbered, Stands, most_numbers}
 use Rattle.xa_sequencer.specs.Together.{AddsTogether, ArePlaced, CalledTogether, Rests, entries_for, entry_for, placed_from}
 use Rattle.xa_sequencer.proofs.Adding.{has_more, stayed}
 use Rattle.xa_sequencer.proofs.Few.{few}
+use Rattle.xa_sequencer.proofs.Placing.{whole}
 
 -- ---- histories behind one another
 
@@ -63,9 +65,15 @@ premise_before trusts es more (inr h) = inr (no_boot_before es more h)
 
 -- ---- replies with their places
 
-pub length_placed : (k : ℕ) (rs : List (ℕ × Reply)) → length (placed_from k rs) ≡ length rs
+length_placed : (k : ℕ) (rs : List (ℕ × Reply)) → length (placed_from k rs) ≡ length rs
 length_placed k [] = refl
 length_placed k (r ∷ rs) = omega (arith, length_placed (k + 1) rs)
+
+-- a vector whose replies were all placed
+pub placed_whole : (n k : ℕ) (rs before then : List (ℕ × Reply)) → then ≡ placed_from k before → before ≡ rs → length rs ≤ n → take n (then ++ drop (length then) rs) ≡ placed_from k rs
+placed_whole n k rs before then is same le =
+    let placed = is ∙ ap (placed_from k) same in
+    whole n rs then (ap length placed ∙ length_placed k rs) le ∙ placed
 
 are_placed : (k : ℕ) (rs : List (ℕ × Reply)) → ArePlaced k (placed_from k rs)
 are_placed k [] = tt
@@ -235,23 +243,33 @@ module _ {M : Type 0} (m : Ghosts M) (start : State → Type 0) (base : ℕ × �
   }
 
   -- there are no more replies than calls
-  pub no_more : (old then : M) (calls : List Asked) (replies : List (ℕ × Reply)) → room.AnswersTogether m.stands m.has_called m.crashes_together m.failures old calls replies then
-      → AreOnce replies → length replies ≤ length calls
+  no_more : (old then : M) (calls : List Asked) (replies : List (ℕ × Reply)) → AnswersAs m old calls replies then → AreOnce replies → length replies ≤ length calls
   no_more old then calls [] acts once = omega arith
   no_more old then calls (r ∷ rs) acts once = few (length calls) (r ∷ rs) once (all_within calls (r ∷ rs) acts.1.told)
 
-  pub all_told : (old then : M) (calls : List Asked) (replies : List (ℕ × Reply)) → room.AnswersTogether m.stands m.has_called m.crashes_together m.failures old calls replies then
-      → AllByRecursion (IsToldOf calls) replies
+  pub all_told : (old then : M) (calls : List Asked) (replies : List (ℕ × Reply)) → AnswersAs m old calls replies then → AllByRecursion (IsToldOf calls) replies
   all_told old then calls [] acts = tt
   all_told old then calls (r ∷ rs) acts = acts.1.told
 
-  pub called_together : (old new : Numbered M) (calls : List Asked) (replies : List (ℕ × Reply))
-      → room.AnswersTogether m.stands m.has_called m.crashes_together m.failures old.now calls replies new.now
+  together : (old new : Numbered M) (calls : List Asked) (replies : List (ℕ × Reply)) → AnswersAs m old.now calls replies new.now
       → AllByRecursion (λ c. IsAsked c.request) calls
       → new.count ≡ old.count + length replies → m.sessions new.now ≡ m.sessions old.now → new.count + m.sessions new.now ≤ most_numbers
       → CalledTogether m start base old calls (placed_from old.count replies) new
-  called_together old new calls [] acts asked more sessions room = rests old new acts (omega (arith, more)) sessions
-  called_together old new calls (r ∷ rs) acts asked more sessions room = (acts.0, adds old new calls r rs acts.0 acts.1 asked more room)
+  together old new calls [] acts asked more sessions room = rests old new acts (omega (arith, more)) sessions
+  together old new calls (r ∷ rs) acts asked more sessions room = (acts.0, adds old new calls r rs acts.0 acts.1 asked more room)
+
+  -- numbers are left for the replies to the pending calls
+  pub have_numbers : (has : M → Type 0) (p : Option (List Asked)) (now then : M) (count : ℕ) (calls : List Asked) (replies : List (ℕ × Reply)) → KeepsPending m has p now count
+      → p ≡ Some calls → AnswersAs m now calls replies then → AreOnce replies → count + m.sessions now + length replies ≤ most_numbers
+  have_numbers has p now then count calls replies kept are acts once = omega (arith, kept.reserved, ap pending_count are, no_more now then calls replies acts once)
+
+  -- they were called together
+  pub called_together : (has : M → Type 0) (p : Option (List Asked)) (now then : M) (count more : ℕ) (calls : List Asked) (replies : List (ℕ × Reply)) → KeepsPending m has p now count
+      → p ≡ Some calls → AnswersAs m now calls replies then → AreOnce replies → more ≡ length replies → m.sessions then ≡ m.sessions now
+      → CalledTogether m start base (record { now = now; count = count }) calls (placed_from count replies) (record { now = then; count = count + more })
+  called_together has p now then count more calls replies kept are acts once as_many sessions =
+      together (record { now = now; count = count }) (record { now = then; count = count + more }) calls replies acts (subst ArePending are kept.asked) (omega (arith, as_many)) sessions
+      (omega (arith, as_many, sessions, have_numbers has p now then count calls replies kept are acts once))
 
   -- it stands for a history still
   pub has_history : (old new : Numbered M) (calls : List Asked) (replies : List (ℕ × Reply)) → CalledTogether m start base old calls replies new

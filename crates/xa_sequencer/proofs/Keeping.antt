@@ -2,25 +2,26 @@
 use Rattle.std.proofs.Common.{◌≡◌, ℕ, ◌+◌, ◌≤◌, List, Option, None, Some, sym, ap, subst, arith}
 use Rattle.xa_manager.specs.declared.together.Asked.{Asked}
 use Rattle.xa_model.specs.State.{State}
+use Rattle.xa_room.specs.declared.entry.Entry.{Entry}
 use Rattle.xa_room.specs.declared.manages.Manages.{Ghosts}
 use Rattle.xa_sequencer.specs.GroupCommits.{ArePending, KeepsPending, pending_count}
-use Rattle.xa_sequencer.specs.Stands.{HasHistory, Numbered, most_numbers}
+use Rattle.xa_sequencer.specs.Stands.{GoesOn, HasHistory, Numbered, most_numbers}
+use Rattle.xa_sequencer.proofs.Adding.{has_more}
 
 module _ {M : Type 0} (m : Ghosts M) (has : M → Type 0) (start : State → Type 0) (base : ℕ × ℕ) where
+  -- its history, and that, with these calls pending
+  abbrev pub Keeps : Option (List Asked) → Numbered M → Type 0
+  Keeps p c = HasHistory m start base c × KeepsPending m has p c.now c.count
+
   -- with none pending
-  pub keeps_none : (p : Option (List Asked)) (c : Numbered M) → has c.now → p ≡ None → HasHistory m start base c → KeepsPending m has p c.now c.count
-  keeps_none None c group e h = record { group = group; asked = tt; reserved = omega (arith, h.1.upholds.reserved, h.1.count_is) }
-  keeps_none (Some calls) c group e h = absurd (cc e)
+  pub keeps_alone : (p : Option (List Asked)) (c : Numbered M) → has c.now → p ≡ None → HasHistory m start base c → Keeps p c
+  keeps_alone None c group e h = (h, record { group = group; asked = tt; reserved = omega (arith, h.1.upholds.reserved, h.1.count_is) })
+  keeps_alone (Some calls) c group e h = absurd (cc e)
 
-  -- its history, and that
-  pub keeps_alone : (p : Option (List Asked)) (c : Numbered M) → has c.now → p ≡ None → HasHistory m start base c → HasHistory m start base c × KeepsPending m has p c.now c.count
-  keeps_alone p c group e h = (h, keeps_none p c group e h)
-
--- the same group, behind so many entries more
-pub keeps_more : {M : Type 0} (m : Ghosts M) (has : M → Type 0) (p p' : Option (List Asked)) (old new : M) (count more : ℕ) → has new → p' ≡ p → m.sessions new ≡ m.sessions old → count + more + m.sessions old + pending_count p ≤ most_numbers
-    → KeepsPending m has p old count → KeepsPending m has p' new (count + more)
-keeps_more m has p p' old new count more group same sessions room k = record {
-  group = group;
-  asked = subst ArePending (sym same) k.asked;
-  reserved = omega (arith, room, sessions, ap pending_count same);
-}
+  -- behind more entries, with the same calls pending
+  pub keeps_on : (p p' : Option (List Asked)) (old new : Numbered M) (more : List Entry) → GoesOn m start base old more new → has new.now → p' ≡ p
+      → new.count + m.sessions new.now + pending_count p ≤ most_numbers → Keeps p old → Keeps p' new
+  keeps_on p p' old new more goes group same room (history, k) = (
+    has_more m start base old new more goes history,
+    record { group = group; asked = subst ArePending (sym same) k.asked; reserved = omega (arith, room, ap pending_count same) },
+  )

@@ -1,4 +1,4 @@
-ghost use Rattle.std.specs.Prelude.{◌≡◌, ◌+◌, ◌<◌, None, is_none, IfErr, IfOk, MatchBool};
+ghost use Rattle.std.specs.Prelude.{◌≡◌, ◌≢◌, ◌+◌, ◌<◌, None, is_none, IfErr, IfOk, OnErr, MatchBool};
 ghost use Rattle.xa_frame.specs.Limits.{IsReply, IsRequest};
 ghost use Rattle.xa_sequencer.specs.Associates.{AssociatedBy, EndedBy};
 ghost use Rattle.xa_sequencer.specs.Shared.{CalledBy, ConnectedBy, IsTold, LeftBy};
@@ -108,31 +108,11 @@ impl<M: GroupCommits, S: Start, L: Ledger> Booked<M, S, L> {
         session
     }
 
-    pub(crate) fn call(&mut self, share: &mut Share<L>, session: u64, request: Request) -> Reply
-        requires settled { M.pending self.old.now ≡ None }
-        requires share { 0 < share.old.parts }
-        requires limits { IsRequest request }
-        ensures called { CalledBy M.manages S.start S.base session (share.old.parts, share.old.amount) request result
-            (share.new.parts, share.new.amount) }
-        ensures limits { IsReply result }
-    {
-        let Booked {
-            sequencer,
-            book,
-            ..
-        } = self;
-        sequencer.promises();
-        book.audit(share);
-        let reply = sequencer.call(session, request);
-        if is_memory(&reply) {
-            return reply;
-        }
-        book.add(share, 1);
-        reply
-    }
-
-    /// Answers a call of a session's work while a group is pending. Any other request is given back.
-    pub(crate) fn work(
+    /// Answers a request of a session.
+    ///
+    /// # Errors
+    /// Gives a request back that is to wait until the pending group is finished.
+    pub(crate) fn call(
         &mut self,
         share: &mut Share<L>,
         session: u64,
@@ -145,6 +125,7 @@ impl<M: GroupCommits, S: Start, L: Ledger> Booked<M, S, L> {
         ensures limits { IfOk result IsReply }
         ensures back { IfErr result (λ given. (given ≡ request) × (share.new.parts ≡ share.old.parts)
             × (share.new.amount ≡ share.old.amount)) }
+        ensures answers { OnErr result (M.pending self.old.now ≢ None) }
     {
         let Booked {
             sequencer,
@@ -153,37 +134,12 @@ impl<M: GroupCommits, S: Start, L: Ledger> Booked<M, S, L> {
         } = self;
         sequencer.promises();
         book.audit(share);
-        let reply = sequencer.work(session, request)?;
+        let reply = sequencer.call(session, request)?;
         if is_memory(&reply) {
             return Ok(reply);
         }
         book.add(share, 1);
         Ok(reply)
-    }
-
-    /// Answers a request of a session.
-    ///
-    /// # Errors
-    /// Gives a request back that is to wait until the pending group is finished.
-    pub(crate) fn ask(
-        &mut self,
-        share: &mut Share<L>,
-        session: u64,
-        request: Request,
-    ) -> Result<Reply, Request>
-        requires share { 0 < share.old.parts }
-        requires limits { IsRequest request }
-        ensures called { IfOk result (λ reply. CalledBy M.manages S.start S.base session
-            (share.old.parts, share.old.amount) request reply (share.new.parts, share.new.amount)) }
-        ensures limits { IfOk result IsReply }
-        ensures back { IfErr result (λ given. (given ≡ request) × (share.new.parts ≡ share.old.parts)
-            × (share.new.amount ≡ share.old.amount)) }
-    {
-        if self.is_settled() {
-            Ok(self.call(share, session, request))
-        } else {
-            self.work(share, session, request)
-        }
     }
 
     /// A tray for the answers to a thread's posted calls.

@@ -41,14 +41,21 @@ pub trait GroupCommits {
             (λ _. manages.sessions self.new ≡ manages.sessions self.old) }
         ensures pending { pending self.new ≡ None };
 
-    fn call(&mut self, session: u64, request: Request) -> Reply
-        requires settled { pending self.old ≡ None }
+    /// Answers a request of a session: while a group is pending, a call of its work on a branch that is none of the group's.
+    ///
+    /// # Errors
+    /// Gives any other request back then: it is to wait until the group is finished.
+    fn call(&mut self, session: u64, request: Request) -> Result<Reply, Request>
         requires asked { IsAsked request }
-        ensures acts { ActsAs manages self.old (Event.Call session request) result self.new }
-        ensures limits { IsReply result }
-        ensures place { result.place ≡ 0 }
+        requires group { has_its_group self.old }
+        ensures acts { IfOk result (λ reply. ActsAs manages self.old (Event.Call session request) reply self.new) }
+        ensures limits { IfOk result IsReply }
+        ensures place { IfOk result (λ reply. reply.place ≡ 0) }
+        ensures back { IfErr result (λ given. (given ≡ request) × (self.new ≡ self.old)) }
+        ensures answers { OnErr result (pending self.old ≢ None) }
         ensures sessions { manages.sessions self.new ≡ manages.sessions self.old }
-        ensures pending { pending self.new ≡ None };
+        ensures pending { pending self.new ≡ pending self.old }
+        ensures group { has_its_group self.new };
 
     fn hangup(&mut self, session: u64)
         requires { pending self.old ≡ None }
@@ -73,21 +80,6 @@ pub trait GroupCommits {
 
     /// What makes the sync of the pending group.
     fn syncer(&self) -> Syncer;
-
-    /// Answers a call of a session's work on a branch that is none of the pending group's.
-    ///
-    /// # Errors
-    /// Gives any other request back: it is to wait until the group is finished.
-    fn work(&mut self, session: u64, request: Request) -> Result<Reply, Request>
-        requires asked { IsAsked request }
-        requires group { has_its_group self.old }
-        ensures acts { IfOk result (λ reply. ActsAs manages self.old (Event.Call session request) reply self.new) }
-        ensures limits { IfOk result IsReply }
-        ensures place { IfOk result (λ reply. reply.place ≡ 0) }
-        ensures back { IfErr result (λ given. (given ≡ request) × (self.new ≡ self.old)) }
-        ensures sessions { manages.sessions self.new ≡ manages.sessions self.old }
-        ensures pending { pending self.new ≡ pending self.old }
-        ensures group { has_its_group self.new };
 
     /// Answers the pending group's calls, by the answer of its sync: gives the replies in the order in which they were
     /// answered, each with the place of its call among those that were asked, and the calls back. Of a call that has no

@@ -41,8 +41,12 @@ impl<D: Disk> GroupCommits for GroupManager<D> {
         self.manager.connect()
     }
 
-    fn call(&mut self, session: u64, request: Request) -> Reply {
-        self.manager.call(session, request)
+    fn call(&mut self, session: u64, request: Request) -> Result<Reply, Request> {
+        let GroupManager { manager, pending } = self;
+        match pending {
+            Some(group) => manager.work(group, session, request),
+            None => Ok(manager.call(session, request)),
+        }
     }
 
     fn hangup(&mut self, session: u64) {
@@ -56,14 +60,6 @@ impl<D: Disk> GroupCommits for GroupManager<D> {
 
     fn syncer(&self) -> Syncer {
         self.manager.syncer()
-    }
-
-    fn work(&mut self, session: u64, request: Request) -> Result<Reply, Request> {
-        let GroupManager { manager, pending } = self;
-        match pending {
-            Some(group) => manager.work(group, session, request),
-            None => Err(request),
-        }
     }
 
     fn finish_group(

@@ -95,7 +95,7 @@ impl<'a, M: GroupCommits, S: Start, L: Ledger, R: Wait> Handle<'a, M, S, L, R> {
         ensures back { IfErr result (λ given. (given ≡ request) × (self.new.share.parts ≡ self.old.share.parts)
             × (self.new.share.amount ≡ self.old.share.amount)) }
     {
-        let reply = held.booked.ask(&mut self.share, session, request)?;
+        let reply = held.booked.call(&mut self.share, session, request)?;
         self.counted = after(self.counted, !is_memory(&reply));
         Ok(reply)
     }
@@ -234,10 +234,13 @@ impl<M: GroupCommits, S: Start, L: Ledger, R: Wait> Door for Handle<'_, M, S, L,
         (b.share.parts, b.share.amount) };
 
     fn call(&mut self, session: u64, request: Request) -> Reply {
-        let reply = self
+        let Ok(reply) = self
             .sequencer
             .take_settled(self.rt)
-            .call(&mut self.share, session, request);
+            .call(&mut self.share, session, request)
+        else {
+            unreachable!()
+        };
         self.counted = after(self.counted, !is_memory(&reply));
         reply
     }

@@ -80,45 +80,30 @@ impl<M: GroupCommits, S: Start> Sequencer<M, S> {
         session
     }
 
-    /// Answers a request of a session. The reply has its number, unless memory was wanted: then it has none, and there
-    /// is no entry.
-    pub fn call(&mut self, session: u64, request: Request) -> Reply
-        requires settled { M.pending self.old.now ≡ None }
-        requires limits { IsRequest request }
-        ensures called { Called M.manages S.start S.base session self.old request result self.new }
-        ensures limits { IsReply result }
-        ensures pending { M.pending self.new.now ≡ None }
-    {
-        request.hold();
-        if !are_left(self.count, self.manager.connected(), 1) {
-            return memory_reply(&request);
-        }
-        let reply = self.manager.call(session, request);
-        if is_memory(&reply) {
-            return reply;
-        }
-        self.count += 1;
-        placed(reply, self.count)
-    }
-
-    /// Answers a call of a session's work on a branch that is none of a pending group's, as `call`.
+    /// Answers a request of a session: while a group is pending, a call of its work on a branch that is none of the group's.
+    /// The reply has its number, unless memory was wanted: then it has none, and there is no entry.
     ///
     /// # Errors
-    /// Gives any other request back, and this one where there isn't a number left: it is to wait until the group is finished.
-    pub fn work(&mut self, session: u64, request: Request) -> Result<Reply, Request>
+    /// Gives any other request back then, and this one where there isn't a number left: it is to wait until the group is
+    /// finished.
+    pub fn call(&mut self, session: u64, request: Request) -> Result<Reply, Request>
         requires { IsRequest request }
         ensures called { IfOk result (λ reply. Called M.manages S.start S.base session self.old request reply self.new) }
         ensures limits { IfOk result IsReply }
         ensures back { IfErr result (λ given. (given ≡ request) × (self.new ≡ self.old)) }
+        ensures answers { OnErr result (M.pending self.old.now ≢ None) }
         ensures pending { M.pending self.new.now ≡ M.pending self.old.now }
     {
         request.hold();
         // the pending calls have theirs
         let taken = self.count + self.manager.pending_calls();
         if !are_left(taken, self.manager.connected(), 1) {
+            if self.manager.is_settled() {
+                return Ok(memory_reply(&request));
+            }
             return Err(request);
         }
-        let reply = self.manager.work(session, request)?;
+        let reply = self.manager.call(session, request)?;
         if is_memory(&reply) {
             return Ok(reply);
         }
@@ -127,7 +112,7 @@ impl<M: GroupCommits, S: Start> Sequencer<M, S> {
     }
 
     /// Writes the records of those calls of sessions that may share one append: then they are a group that is pending, until
-    /// it is finished with the answer of the sync that the `syncer` makes. Meanwhile sessions work on (`work`).
+    /// it is finished with the answer of the sync that the `syncer` makes. Meanwhile sessions work on (`call`).
     ///
     /// # Errors
     /// Gives the calls back where none of them logs, out of memory, or where there aren't numbers left for all of them.

@@ -7,8 +7,8 @@ pub returns-then-is_memory-clause-called : goal.returns-then-is_memory-clause-ca
 returns-then-is_memory-clause-called g c =
     let m = g.M.GroupCommits.manages in
     let audit = c.audit.ensures in (
-      inl (did_next m g.S.Start.start g.S.Start.base c.self.inside.sequencer c.call-reply.new.self _ _ _ (λ a b. Called m g.S.Start.start g.S.Start.base c.args.session a c.args.request c.call-reply.result b)
-          c.promises.ensures.history c.self.invariant audit.bound c.call-reply.ensures.called),
+      inl (did_next m g.S.Start.start g.S.Start.base c.self.inside.sequencer c.call.new.self _ _ _ (λ a b. Called m g.S.Start.start g.S.Start.base c.args.session a c.args.request c.in_ok-reply.reply b)
+          c.promises.ensures.history c.self.invariant audit.bound c.in_ok-reply.ensures.called),
       takes_none _ _ _ _ _ (sym c.if-is_memory.ensures) audit.parts audit.amount,
     )
 
@@ -16,7 +16,7 @@ pub returns-clause-called : goal.returns-clause-called
 returns-clause-called g c =
     let m = g.M.GroupCommits.manages in
     let audit = c.audit.ensures in (
-      inl (did_next m g.S.Start.start g.S.Start.base c.self.inside.sequencer c.call-reply.new.self _ _ _ (λ a b. Called m g.S.Start.start g.S.Start.base c.args.session a c.args.request c.call-reply.result b)
-          c.promises.ensures.history c.self.invariant audit.bound c.call-reply.ensures.called),
+      inl (did_next m g.S.Start.start g.S.Start.base c.self.inside.sequencer c.call.new.self _ _ _ (λ a b. Called m g.S.Start.start g.S.Start.base c.args.session a c.args.request c.in_ok-reply.reply b)
+          c.promises.ensures.history c.self.invariant audit.bound c.in_ok-reply.ensures.called),
       takes_one _ _ _ _ _ (sym c.if-is_memory.ensures) (c.add.ensures.parts ∙ audit.parts) (omega (arith, c.add.ensures.amount, audit.amount)),
     )

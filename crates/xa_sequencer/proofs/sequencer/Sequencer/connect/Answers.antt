@@ -3,9 +3,7 @@ use Rattle.xa_assoc.specs.Refusals.{is_memory}
 use Rattle.xa_frame.specs.declared.reply.Reply.{Reply}
 use Rattle.xa_manager.specs.Answered.{connect_reply}
 use Rattle.xa_model.specs.declared.event.Event.TheVariants.{Connect}
-use Rattle.xa_room.proofs.Longer.{connect_place, one_more}
-use Rattle.xa_room.specs.Book.{placed}
-use Rattle.xa_sequencer.proofs.Adding.{added, has_more, left_out, none_more, so_false}
+use Rattle.xa_sequencer.proofs.Adding.{connected, has_more, left_out, none_more, so_false}
 use Rattle.xa_sequencer.proofs.Keeping.{keeps_alone}
 use Rattle.xa_sequencer.specs.Numbers.{Connected}
 use Rattle.xa_sequencer.specs.Stands.{Numbered}
@@ -27,28 +25,18 @@ invariant_of-self g c =
 pub invariant_of-self-2 : goal.invariant_of-self-2
 invariant_of-self-2 g c =
     let m = g.M.GroupCommits.manages in
-    let s = c.self.inside in
     let connect = c.connect-session.ensures in
-    let result = c.connect-session.result in
     let found = ap (λ (r : Reply). is_memory r.detail) (sym c.connect_reply.ensures.value) ∙ sym c.if-is_memory.ensures in
-    let old : Numbered g.row.M.Denot = record { now = s.manager; count = s.count } in
-    let new : Numbered g.row.M.Denot = record { now = c.connect-session.new.self; count = s.count + 1 } in
-    let adds = added m g.S.Start.start g.S.Start.base old new Connect (connect_reply result) (placed (s.count + 1) (connect_reply result))
-    connect.acts found (connect_place result) tt refl refl
-    (omega (arith, c.if-not-are_left.ensures.left refl, c.connected.ensures, one_more result (m.sessions s.manager) (m.sessions c.connect-session.new.self) connect.sessions)) in
-    keeps_alone m g.M.GroupCommits.has_its_group g.S.Start.start g.S.Start.base _ new (g.met.M.GroupCommits.needs_none new.now connect.pending) connect.pending (has_more m g.S.Start.start g.S.Start.base old new _ adds.goes_on c.self.invariant.0)
+    let adds = connected m g.S.Start.start g.S.Start.base c.self.inside.manager c.connect-session.new.self c.self.inside.count c.connect-session.result connect.acts found connect.sessions
+    (omega (arith, c.if-not-are_left.ensures.left refl, c.connected.ensures)) in
+    keeps_alone m g.M.GroupCommits.has_its_group g.S.Start.start g.S.Start.base _ _ (g.met.M.GroupCommits.needs_none c.connect-session.new.self connect.pending) connect.pending (has_more m g.S.Start.start g.S.Start.base _ _ _ adds.goes_on c.self.invariant.0)
 
 pub returns-clause-connected : goal.returns-clause-connected
 returns-clause-connected g c =
     let m = g.M.GroupCommits.manages in
-    let s = c.self.inside in
     let connect = c.connect-session.ensures in
-    let result = c.connect-session.result in
     let found = ap (λ (r : Reply). is_memory r.detail) (sym c.connect_reply.ensures.value) ∙ sym c.if-is_memory.ensures in
-    let old : Numbered g.row.M.Denot = record { now = s.manager; count = s.count } in
-    let new : Numbered g.row.M.Denot = record { now = c.connect-session.new.self; count = s.count + 1 } in
-    let adds = added m g.S.Start.start g.S.Start.base old new Connect (connect_reply result) (placed (s.count + 1) (connect_reply result))
-    connect.acts found (connect_place result) tt refl refl
-    (omega (arith, c.if-not-are_left.ensures.left refl, c.connected.ensures, one_more result (m.sessions s.manager) (m.sessions c.connect-session.new.self) connect.sessions)) in
-    subst (λ (o : Numbered g.row.M.Denot). Connected m g.S.Start.start g.S.Start.base o result new) c.self.view_is
+    let adds = connected m g.S.Start.start g.S.Start.base c.self.inside.manager c.connect-session.new.self c.self.inside.count c.connect-session.result connect.acts found connect.sessions
+    (omega (arith, c.if-not-are_left.ensures.left refl, c.connected.ensures)) in
+    subst (λ (o : Numbered g.row.M.Denot). Connected m g.S.Start.start g.S.Start.base o c.connect-session.result (record { now = c.connect-session.new.self; count = c.self.inside.count + 1 })) c.self.view_is
     (so_false _ _ _ found adds)
