@@ -7,8 +7,8 @@ ghost use Rattle.xa_reactor.specs.Turning.{CarriesOn, HasAnswered, HasFed, HasSe
 use crate::ask::Ask;
 use crate::round::Round;
 use crate::socket::Socket;
+use mio::Token;
 use mio::event::Event;
-use mio::{Registry, Token};
 use std::alloc::Global;
 use std::io::ErrorKind;
 use std::mem;
@@ -158,7 +158,8 @@ impl Peer {
         self.send(round, key)
     }
 
-    // The beginning of a turn: what is to be sent is sent, and one read. Whether the connection goes on.
+    // The beginning of a turn: what is to be sent is sent, and one read, where no whole frame came in. Whether the connection
+    // goes on.
     fn take_turn(&mut self, scratch: &mut [u8], now: u64) -> bool
         ensures session { self.new.session ≡ self.old.session }
         ensures taken { HasTaken self.old.connection self.new.connection }
@@ -167,18 +168,30 @@ impl Peer {
         if !self.flush(now) {
             return false;
         }
-        self.take_in(scratch, now)
+        self.is_asked() || self.receive(scratch, now)
     }
 
-    // The end of a turn: a reply is sent.
+    // The end of a turn: a reply is sent. What comes behind it, with events of what it waits for.
     fn send(&mut self, round: Round<'_>, key: usize) -> Step
         ensures session { self.new.session ≡ self.old.session }
         ensures sent { HasSent self.old.connection self.new.connection }
     {
-        if !self.flush(round.now) {
+        if !self.flush(round.now) || self.connection.is_done() {
             return Step::Ends;
         }
-        self.rest(round.registry, Token(key))
+        let is_full = !self.connection.unsent().is_empty();
+        if is_full != self.writes {
+            self.writes = is_full;
+            if !self.socket.watch(round.registry, Token(key), is_full) {
+                return Step::Ends;
+            }
+        }
+        if !is_full && (self.reads || self.is_asked()) {
+            self.is_queued = true;
+            Step::Goes
+        } else {
+            Step::Waits
+        }
     }
 
     // Writes once what is to be sent. Whether the socket is whole.
@@ -198,14 +211,6 @@ impl Peer {
             }
             Err(error) => is_passing(error.kind()),
         }
-    }
-
-    // Reads once, where no whole frame came in. Whether more may come.
-    fn take_in(&mut self, scratch: &mut [u8], now: u64) -> bool
-        ensures session { self.new.session ≡ self.old.session }
-        ensures fed { HasFed self.old.connection self.new.connection }
-    {
-        self.is_asked() || self.receive(scratch, now)
     }
 
     // Reads once, as far as the connection takes bytes and there may be some. Whether more may come. A read that gives
@@ -242,28 +247,6 @@ impl Peer {
     /// For how long no byte came or went, in milliseconds.
     pub(crate) fn quiet(&self, now: u64) -> u64 {
         now.saturating_sub(self.since)
-    }
-
-    // What comes behind a turn, with events of what it waits for.
-    fn rest(&mut self, registry: &Registry, token: Token) -> Step
-        ensures { (self.new.session ≡ self.old.session) × (self.new.connection ≡ self.old.connection) }
-    {
-        if self.connection.is_done() {
-            return Step::Ends;
-        }
-        let is_full = !self.connection.unsent().is_empty();
-        if is_full != self.writes {
-            self.writes = is_full;
-            if !self.socket.watch(registry, token, is_full) {
-                return Step::Ends;
-            }
-        }
-        if !is_full && (self.reads || self.is_asked()) {
-            self.is_queued = true;
-            Step::Goes
-        } else {
-            Step::Waits
-        }
     }
 
     // Whether a whole frame came in that isn't answered, or a length that is too great, where nothing is to be sent.

@@ -55,10 +55,20 @@ impl Peers {
     ) -> bool
         ensures { Tends D.connected D.called D.left (sessions_of self.old.all) door.old (sessions_of self.new.all) door.new }
     {
-        if self.queue.reserve(1).is_err() {
+        if self.queue.reserve(1).is_err() || self.all.reserve(1).is_err() {
             return false;
         }
-        add_to(&mut self.all, round, door, socket)
+        let mut socket = socket;
+        if !socket.register(round.registry, Token(self.all.vacant_key())) {
+            return false;
+        }
+        let Ok(session) = door.connect() else {
+            return false;
+        };
+        let _key = self
+            .all
+            .insert_reserved(Peer::new(round.alloc, socket, session, round.now));
+        true
     }
 
     /// An event told of a connection, which has a turn.
@@ -109,7 +119,10 @@ impl Peers {
         ensures same { sessions_of self.new.all ≡ sessions_of self.old.all }
         ensures opens { OpensAt D.connected D.called D.left (sessions_of self.old.all) door.old result door.new }
     {
-        open_in(&mut self.all, round, scratch, door, key)
+        match self.all.get_mut(key) {
+            Some(peer) => peer.open_turn(round, door, scratch, key),
+            None => Opened::Over(Step::Waits),
+        }
     }
 
     /// Closes the turn of a connection, whose request was answered. What comes behind it.
@@ -117,7 +130,10 @@ impl Peers {
         requires { IsAnswered ask }
         ensures { sessions_of self.new.all ≡ sessions_of self.old.all }
     {
-        close_in(&mut self.all, round, ask)
+        match self.all.get_mut(ask.key) {
+            Some(peer) => peer.close_turn(round, ask),
+            None => Step::Waits,
+        }
     }
 
     /// The next connection that has a turn has it.
@@ -169,28 +185,6 @@ impl Peers {
     }
 }
 
-fn add_to<D: Reception>(
-    all: &mut Slab<Peer>,
-    round: Round<'_>,
-    door: &mut D,
-    socket: Socket,
-) -> bool
-    ensures { Tends D.connected D.called D.left (sessions_of all.old) door.old (sessions_of all.new) door.new }
-{
-    if all.reserve(1).is_err() {
-        return false;
-    }
-    let mut socket = socket;
-    if !socket.register(round.registry, Token(all.vacant_key())) {
-        return false;
-    }
-    let Ok(session) = door.connect() else {
-        return false;
-    };
-    let _key = all.insert_reserved(Peer::new(round.alloc, socket, session, round.now));
-    true
-}
-
 // Whether the connection under this key is to be put into the queue.
 fn notice_in(all: &mut Slab<Peer>, event: &Event, key: usize) -> bool
     ensures { (other : ℕ) → sessions_of all.new other ≡ sessions_of all.old other }
@@ -212,32 +206,6 @@ fn turn_in<D: Reception>(
 {
     match all.get_mut(key) {
         Some(peer) => peer.turn(round, door, scratch, key),
-        None => Step::Waits,
-    }
-}
-
-fn open_in<D: Reception>(
-    all: &mut Slab<Peer>,
-    round: Round<'_>,
-    scratch: &mut [u8],
-    door: &mut D,
-    key: usize,
-) -> Opened
-    ensures same { sessions_of all.new ≡ sessions_of all.old }
-    ensures opens { OpensAt D.connected D.called D.left (sessions_of all.old) door.old result door.new }
-{
-    match all.get_mut(key) {
-        Some(peer) => peer.open_turn(round, door, scratch, key),
-        None => Opened::Over(Step::Waits),
-    }
-}
-
-fn close_in(all: &mut Slab<Peer>, round: Round<'_>, ask: Ask) -> Step
-    requires { IsAnswered ask }
-    ensures { sessions_of all.new ≡ sessions_of all.old }
-{
-    match all.get_mut(ask.key) {
-        Some(peer) => peer.close_turn(round, ask),
         None => Step::Waits,
     }
 }

@@ -1,7 +1,5 @@
 //! One loop.
 ghost use Rattle.std.specs.Prelude.{◌≡◌};
-ghost use Rattle.mio.specs.Events.{capacity};
-ghost use Rattle.xa_reactor.specs.Peers.{HasRoom};
 ghost use Rattle.xa_reactor.specs.Tending.{HasTended, Tends, sessions_of};
 ghost use Rattle.xa_reactor.specs.Together.{HasLent, IsOver};
 
@@ -13,7 +11,7 @@ use crate::noticing::{note_all, notice_all};
 use crate::peers::Peers;
 use crate::reception::Reception;
 use crate::round::Round;
-use crate::timing::{COMPANY, FEW_EVENTS, GATHERS, gather_wait, looks_of};
+use crate::timing::{FEW_EVENTS, GATHERS, gather_wait, looks_of};
 use crate::tools::{Tools, give_each};
 use crate::trimming::{begin_trims, keep_short};
 use mio::{Events, Poll};
@@ -154,7 +152,7 @@ impl Loop {
     }
 
     // The turns of those that have one, of those that have one while another loop holds up the answers, and of those that
-    // come before the device is waited for.
+    // come before the device is waited for; where another loop has gone to the device meanwhile, while it holds them up again.
     fn give_together<D: Reception, R: AllocGlobal + Clock + Eprint + Wait>(
         &mut self,
         rt: &R,
@@ -169,11 +167,12 @@ impl Loop {
         self.due = door.due();
         self.open_turns(rt.alloc(), peers, door);
         let gathered = self.gather(rt.alloc(), peers, door);
-        let more = self.gather_more(rt.alloc(), peers, door);
+        let lingered = self.linger(rt.alloc(), peers, door);
+        let more = self.gather(rt.alloc(), peers, door);
         let round = Round::new(&self.poll, rt.alloc(), self.clock.now);
         self.tools.together.close_all(peers, round, door);
         keep_short(rt, common, door, round.now, &mut self.tools.seen);
-        gathered | more
+        gathered | lingered | more
     }
 
     // Opens the turns of those that have one.
@@ -183,10 +182,9 @@ impl Loop {
         ensures lent { HasLent (sessions_of peers.new.all) self.new.tools.together }
     {
         let round = Round::new(&self.poll, alloc, self.clock.now);
-        let turns = peers.queued();
         self.tools
             .together
-            .open_more(peers, round, &mut self.tools.scratch, door, turns);
+            .open_turns(peers, round, &mut self.tools.scratch, door);
     }
 
     // While requests wait for a device at which another loop is, answers those that don't, and opens the turns of those that
@@ -216,18 +214,6 @@ impl Loop {
         self.tools.together.may_gather() && !door.is_free() && !door.is_due(self.due)
     }
 
-    // Looks for more requests, and gathers again where another loop has gone to the device meanwhile. Whether a connection waits
-    // to be accepted.
-    fn gather_more<D: Reception>(&mut self, alloc: Global, peers: &mut Peers, door: &mut D) -> bool
-        requires { HasLent (sessions_of peers.old.all) self.old.tools.together }
-        ensures tends { Tends D.connected D.called D.left (sessions_of peers.old.all) door.old (sessions_of peers.new.all) door.new }
-        ensures lent { HasLent (sessions_of peers.new.all) self.new.tools.together }
-    {
-        let lingered = self.linger(alloc, peers, door);
-        let gathered = self.gather(alloc, peers, door);
-        lingered | gathered
-    }
-
     // While requests are to be answered that may wait for a device, answers those that don't, and opens the turns of those
     // that have one by then: what they ask shares the device's sync. Whether a connection waits to be accepted.
     fn linger<D: Reception>(&mut self, alloc: Global, peers: &mut Peers, door: &mut D) -> bool
@@ -235,24 +221,16 @@ impl Loop {
         ensures tends { Tends D.connected D.called D.left (sessions_of peers.old.all) door.old (sessions_of peers.new.all) door.new }
         ensures lent { HasLent (sessions_of peers.new.all) self.new.tools.together }
     {
-        let looks = self.looks(peers);
+        if !self.tools.together.may_grow(peers.len()) {
+            return false;
+        }
+        let looks = self.tools.patience.looks();
         if looks == 0 {
             return false;
         }
         let (accepts, came) = self.look_on(alloc, peers, door, looks);
         self.tools.patience.learn(came);
         accepts
-    }
-
-    // How often to look for more requests.
-    fn looks(&mut self, peers: &Peers) -> u32
-        ensures { self.new.tools.together ≡ self.old.tools.together }
-    {
-        if self.may_linger(peers) {
-            self.tools.patience.looks()
-        } else {
-            0
-        }
     }
 
     // Looks for more requests so often. Whether a connection waits to be accepted, and whether there were events.
@@ -270,7 +248,7 @@ impl Loop {
         let mut accepts = false;
         let mut came = false;
         for _ in 0..looks {
-            if !self.may_linger(peers) {
+            if !self.tools.together.may_grow(peers.len()) {
                 return (accepts, came);
             }
             let Ok(told) = self.linger_once(alloc, peers, door, Duration::ZERO) else {
@@ -283,12 +261,8 @@ impl Loop {
         (accepts, came)
     }
 
-    // Whether more requests may come that share a sync with those that there are.
-    fn may_linger(&self, peers: &Peers) -> bool {
-        peers.len() >= COMPANY && self.tools.together.may_grow(peers.len())
-    }
-
-    // Answers the requests that wait for no device, and looks for events once, for so long.
+    // Answers the requests that wait for no device, and looks for events once, for so long, where there is room for the turns
+    // that they make, which are opened.
     fn linger_once<D: Reception>(
         &mut self,
         alloc: Global,
@@ -302,40 +276,9 @@ impl Loop {
     {
         let round = Round::new(&self.poll, alloc, self.clock.now);
         self.tools.together.answer_quick(peers, round, door);
-        self.gather_if_room(alloc, peers, door, wait)
-    }
-
-    // Looks for events once, where there is room for the turns that they make.
-    fn gather_if_room<D: Reception>(
-        &mut self,
-        alloc: Global,
-        peers: &mut Peers,
-        door: &mut D,
-        wait: Duration,
-    ) -> io::Result<bool>
-        requires { HasLent (sessions_of peers.old.all) self.old.tools.together }
-        ensures tends { Tends D.connected D.called D.left (sessions_of peers.old.all) door.old (sessions_of peers.new.all) door.new }
-        ensures lent { HasLent (sessions_of peers.new.all) self.new.tools.together }
-    {
         if !peers.reserve(self.events.capacity()) {
             return Ok(false);
         }
-        self.gather_once(alloc, peers, door, wait)
-    }
-
-    // Looks for events once.
-    fn gather_once<D: Reception>(
-        &mut self,
-        alloc: Global,
-        peers: &mut Peers,
-        door: &mut D,
-        wait: Duration,
-    ) -> io::Result<bool>
-        requires lent { HasLent (sessions_of peers.old.all) self.old.tools.together }
-        requires room { HasRoom peers.old (capacity self.old.events) }
-        ensures tends { Tends D.connected D.called D.left (sessions_of peers.old.all) door.old (sessions_of peers.new.all) door.new }
-        ensures lent { HasLent (sessions_of peers.new.all) self.new.tools.together }
-    {
         self.poll.poll(&mut self.events, Some(wait))?;
         if self.events.is_empty() {
             yield_now();

@@ -1,7 +1,7 @@
 //! The turns of a round, with one call at the door for the requests that wait for no device, and another for the rest.
 ghost use Rattle.std.specs.Prelude.{ℕ, ◌≡◌, ◌+◌, ◌≤◌, [], All};
 ghost use Rattle.std.specs.Vec.{vec_capacity, vec_len};
-ghost use Rattle.xa_reactor.specs.Asking.{IsAnswered, IsLent, IsOpen, IsTold, Puts, PutsAll, TurnedAll};
+ghost use Rattle.xa_reactor.specs.Asking.{IsAnswered, IsLent, IsOpen, TurnedAll};
 ghost use Rattle.xa_reactor.specs.Tending.{Table, Tends, sessions_of};
 ghost use Rattle.xa_reactor.specs.Together.{HasLent, IsOver};
 
@@ -10,6 +10,7 @@ use crate::peer::{Opened, Step};
 use crate::peers::Peers;
 use crate::reception::Reception;
 use crate::round::Round;
+use crate::timing::COMPANY;
 use std::alloc::Global;
 
 /// After how many turns a round waits for no more.
@@ -59,53 +60,36 @@ impl Together {
             && self.over.reserve(turns.saturating_add(lent)).is_ok()
     }
 
-    /// Whether there are requests that may wait for a device.
-    pub(crate) fn waits(&self) -> bool {
-        !self.waiting.is_empty()
-    }
-
     /// Whether there are requests that may wait for a device, and the round may have more turns meanwhile.
     pub(crate) fn may_gather(&self) -> bool {
-        self.waits() && self.over.len() < MOST_TURNS
+        !self.waiting.is_empty() && self.over.len() < MOST_TURNS
     }
 
-    /// Whether there are requests that may wait for a device, some of so many connections have asked for none, and the
-    /// round has had few turns.
+    /// Whether more requests may come that share a sync with those that there are: some may wait for a device, some of so
+    /// many connections have asked for none, and the round has had few turns.
     pub(crate) fn may_grow(&self, connections: usize) -> bool {
-        self.waits() && self.waiting.len() < connections && self.over.len() < MANY_TURNS
+        !self.waiting.is_empty()
+            && connections >= COMPANY
+            && self.waiting.len() < connections
+            && self.over.len() < MANY_TURNS
     }
 
-    /// Opens so many turns more, where there is memory for that.
-    pub(crate) fn open_more<D: Reception>(
+    /// Opens the turns of those that have one, where there is memory for that.
+    pub(crate) fn open_turns<D: Reception>(
         &mut self,
         peers: &mut Peers,
         round: Round<'_>,
         scratch: &mut [u8],
         door: &mut D,
-        turns: usize,
     )
         requires { HasLent (sessions_of peers.old.all) self.old }
         ensures tends { Tends D.connected D.called D.left (sessions_of peers.old.all) door.old (sessions_of peers.new.all) door.new }
         ensures lent { HasLent (sessions_of peers.new.all) self.new }
     {
-        if self.reserve(turns) {
-            self.open_all(peers, round, scratch, door, turns);
+        let turns = peers.queued();
+        if !self.reserve(turns) {
+            return;
         }
-    }
-
-    /// Opens so many turns, of those that have one next, as far as there is room.
-    pub(crate) fn open_all<D: Reception>(
-        &mut self,
-        peers: &mut Peers,
-        round: Round<'_>,
-        scratch: &mut [u8],
-        door: &mut D,
-        turns: usize,
-    )
-        requires { HasLent (sessions_of peers.old.all) self.old }
-        ensures tends { Tends D.connected D.called D.left (sessions_of peers.old.all) door.old (sessions_of peers.new.all) door.new }
-        ensures lent { HasLent (sessions_of peers.new.all) self.new }
-    {
         for _ in 0..turns {
             self.open_turn(peers, round, scratch, door);
         }
@@ -241,22 +225,7 @@ fn answer_all<D: Reception>(asks: &mut [Ask], door: &mut D)
         return;
     }
     door.call_all(asks);
-    put_all(asks);
-}
-
-// Puts the replies to their connections.
-fn put_all(asks: &mut [Ask])
-    requires { All IsTold asks.old }
-    ensures { PutsAll asks.old asks.new }
-{
     for ask in asks.iter_mut() {
-        put(ask);
+        let _answering = ask.connection.reply(ask.front, &ask.reply);
     }
-}
-
-fn put(ask: &mut Ask)
-    requires { IsTold ask.old }
-    ensures { Puts ask.old ask.new }
-{
-    let _answering = ask.connection.reply(ask.front, &ask.reply);
 }

@@ -48,20 +48,7 @@ pub(crate) fn give_each<D: Reception, R: AllocGlobal + Clock + Eprint + Wait>(
     ensures { Tends D.connected D.called D.left (sessions_of peers.old.all) door.old (sessions_of peers.new.all) door.new }
 {
     for _ in 0..turns {
-        give_turn(rt, common, round, tools, peers, door);
+        peers.give_turn(round, &mut tools.scratch, door);
+        keep_short(rt, common, door, round.now, &mut tools.seen);
     }
-}
-
-fn give_turn<D: Reception, R: AllocGlobal + Clock + Eprint + Wait>(
-    rt: &R,
-    common: &Common<'_>,
-    round: Round<'_>,
-    tools: &mut Tools,
-    peers: &mut Peers,
-    door: &mut D,
-)
-    ensures { Tends D.connected D.called D.left (sessions_of peers.old.all) door.old (sessions_of peers.new.all) door.new }
-{
-    peers.give_turn(round, &mut tools.scratch, door);
-    keep_short(rt, common, door, round.now, &mut tools.seen);
 }

@@ -4,5 +4,8 @@ use Rattle.xa_reactor.proofs.peer.Peer.take_turn.Goals as goal
 pub returns-then-not-flush-clause-taken : goal.returns-then-not-flush-clause-taken
 returns-then-not-flush-clause-taken c = (c.flush.new.self.connection, c.flush.ensures.sent, inl refl)
 
-pub returns-clause-taken : goal.returns-clause-taken
-returns-clause-taken c = (c.flush.new.self.connection, c.flush.ensures.sent, c.take_in.ensures.fed)
+pub returns-then-is_asked-clause-taken : goal.returns-then-is_asked-clause-taken
+returns-then-is_asked-clause-taken c = (c.flush.new.self.connection, c.flush.ensures.sent, inl refl)
+
+pub returns-else-is_asked-clause-taken : goal.returns-else-is_asked-clause-taken
+returns-else-is_asked-clause-taken c = (c.flush.new.self.connection, c.flush.ensures.sent, c.receive.ensures.fed)

@@ -1,6 +1,6 @@
 use Rattle.xa_reactor.specs.Tending.{Tends, sessions_of}
 use Rattle.xa_reactor.specs.Together.{HasLent}
-use Rattle.xa_reactor.proofs.together.Together.open_all.Given as goal
+use Rattle.xa_reactor.proofs.together.Together.open_turns.Given as goal
 
 abbrev pub invariant-loop : goal.invariant-loop
 invariant-loop g l = record {

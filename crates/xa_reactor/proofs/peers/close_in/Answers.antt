@@ -1,7 +1,0 @@
-use Rattle.std.proofs.Common.{sym}
-use Rattle.xa_reactor.proofs.Doing.{same_sessions}
-use Rattle.xa_reactor.proofs.peers.close_in.Goals as goal
-
-pub returns-in-Some : goal.returns-in-Some
-returns-in-Some c =
-    sym (same_sessions c.args.all.now c.args.ask.key c.in-Some.peer.now c.close_turn.new.self (sym c.in-Some.ensures.value) c.close_turn.ensures.session)
