@@ -152,7 +152,7 @@ impl Loop {
     }
 
     // The turns of those that have one, of those that have one while another loop holds up the answers, and of those that
-    // come before the device is waited for; where another loop has gone to the device meanwhile, while it holds them up again.
+    // come before the device is waited for. By then another loop may have gone there, and holds up the answers again.
     fn give_together<D: Reception, R: AllocGlobal + Clock + Eprint + Wait>(
         &mut self,
         rt: &R,
