@@ -55,7 +55,7 @@ pub record IsPicked {V : Type 0} (part : Lasting → Option V) (all rest : List 
 tie_back : (x y : Triple) → xid_eq x y ≡ false → xid_eq y x ≡ false
 tie_back x y e = flipped y x ∙ e
 
-cmp_flipped : (x y : Triple) → is_eq (xid_cmp x y) ≡ is_eq (xid_cmp y x)
+pub cmp_flipped : (x y : Triple) → is_eq (xid_cmp x y) ≡ is_eq (xid_cmp y x)
 cmp_flipped x y = cmp_is_eq x y ∙ (flipped x y ∙ sym (cmp_is_eq y x))
 
 less_apart : (x y : Triple) → xid_cmp x y ≡ Less → xid_eq x y ≡ false

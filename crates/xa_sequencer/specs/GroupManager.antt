@@ -44,6 +44,16 @@ pub has_none : {D : Type 0} (m : Manager D) (p : Option PendingGroup) → calls_
 has_none m None none = tt
 has_none m (Some f) none = absurd (cc none)
 
+-- of a manager with the group that it may have pending: the group's calls, and that the group is its own
+abbrev pub pending_of : {D : Type 0} → GroupManager D → Option (List Asked)
+pending_of g = calls_in g.pending
+
+abbrev pub OwnsItsGroup : {D : Type 0} → GroupManager D → Type 0
+OwnsItsGroup g = HasItsGroup g.manager g.pending
+
+pub owns_none : {D : Type 0} (g : GroupManager D) → pending_of g ≡ None → OwnsItsGroup g
+owns_none g none = has_none g.manager g.pending none
+
 -- the states that it stands for: with a group pending, those before the group
 abbrev pub StandsWith : {D : Type 0} → disk.Ghosts D → Manager D → Option PendingGroup → State → Type 0
 StandsWith disks m None s = ManagerStandsFor disks m s

@@ -1,4 +1,5 @@
-ghost use Rattle.std.specs.Prelude.{◌≡◌, None};
+ghost use Rattle.std.specs.Prelude.{◌≡◌};
+ghost use Rattle.xa_sequencer.specs.GroupManager.{alone};
 
 use crate::group_commits::GroupCommits;
 use std::fmt;
@@ -17,7 +18,7 @@ pub struct GroupManager<D: Disk> {
 impl<D: Disk> GroupManager<D> {
     /// With none pending.
     pub fn new(manager: Manager<D>) -> GroupManager<D>
-        ensures { result ≡ record { manager = manager; pending = None } }
+        ensures { result ≡ alone manager }
     {
         GroupManager {
             manager,
@@ -27,15 +28,15 @@ impl<D: Disk> GroupManager<D> {
 }
 
 impl<D: Disk> GroupCommits for GroupManager<D> {
-    ghost use Rattle.xa_sequencer.specs.GroupManager.{HasItsGroup, calls_in, has_none, manages_of};
+    ghost use Rattle.xa_sequencer.specs.GroupManager.{OwnsItsGroup, manages_of, owns_none, pending_of};
 
     ghost manages = { manages_of D.Disk };
 
-    ghost pending = { λ g. calls_in g.pending };
+    ghost pending = { λ g. pending_of g };
 
-    ghost has_its_group = { λ g. HasItsGroup g.manager g.pending };
+    ghost has_its_group = { λ g. OwnsItsGroup g };
 
-    ghost needs_none = { λ g none. has_none g.manager g.pending none };
+    ghost needs_none = { λ g none. owns_none g none };
 
     fn connect(&mut self) -> Result<u64, ConnectFault> {
         self.manager.connect()
