@@ -46,27 +46,8 @@ fn calls<M: GroupCommits, S: Start>(
     let mut are_right = true;
     for line in lines {
         let (session, request) = call_of(alloc, line)?;
-        if !sequencer.is_settled() {
-            return None;
-        }
         let next = sequencer.count().checked_add(1)?;
-        let reply = sequencer.call(session, request);
-        are_right &= reply.code == XA_OK && reply.place == next;
-    }
-    Some(are_right)
-}
-
-// The same while a group is pending.
-fn works<M: GroupCommits, S: Start>(
-    alloc: Global,
-    sequencer: &mut Sequencer<M, S>,
-    lines: &[&str],
-) -> Option<bool> {
-    let mut are_right = true;
-    for line in lines {
-        let (session, request) = call_of(alloc, line)?;
-        let next = sequencer.count().checked_add(1)?;
-        let reply = sequencer.work(session, request).ok()?;
+        let reply = sequencer.call(session, request).ok()?;
         are_right &= reply.code == XA_OK && reply.place == next;
     }
     Some(are_right)
@@ -81,7 +62,7 @@ fn all_wait<M: GroupCommits, S: Start>(
     let mut are_right = true;
     for line in lines {
         let (session, request) = call_of(alloc, line)?;
-        are_right &= sequencer.work(session, request).is_err();
+        are_right &= sequencer.call(session, request).is_err();
     }
     Some(are_right)
 }
@@ -131,7 +112,7 @@ fn works_meanwhile<M: GroupCommits + Drop, S: Start>(alloc: Global, manager: M) 
     let are_connected = connects(&mut sequencer)? == 1 && connects(&mut sequencer)? == 2;
     let is_ready = calls(alloc, &mut sequencer, &BEFORE)?;
     let begins = begins(alloc, &mut sequencer)?;
-    let works = works(alloc, &mut sequencer, &WORK)?;
+    let works = calls(alloc, &mut sequencer, &WORK)?;
     let wait = all_wait(alloc, &mut sequencer, &WAITS)?;
     let finishes = finishes(&mut sequencer, 11)?;
     let goes_on = calls(alloc, &mut sequencer, &["2 prepare TMNOFLAGS 1:bb:"])?;

@@ -33,11 +33,10 @@ fn calls<M: GroupCommits, S: Start>(
 ) -> bool
     requires { IsRequest request }
 {
-    if !sequencer.is_settled() {
-        return false;
+    match sequencer.call(session, request) {
+        Ok(reply) => reply.code == code && reply.place == number,
+        Err(_) => false,
     }
-    let reply = sequencer.call(session, request);
-    reply.code == code && reply.place == number
 }
 
 fn connects<M: GroupCommits, S: Start>(sequencer: &mut Sequencer<M, S>) -> Option<u64> {
