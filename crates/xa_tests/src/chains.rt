@@ -187,12 +187,7 @@ fn wrong_answer(
     chain: &mut Chain,
     row: &[(u64, Ask, Told)],
 ) -> Option<usize> {
-    for (index, (ts, ask, want)) in row.iter().enumerate() {
-        if answered(alloc, pool, chain, *ts, *ask) != Ok(*want) {
-            return Some(index);
-        }
-    }
-    None
+    row.iter().position(|(ts, ask, want)| answered(alloc, pool, chain, *ts, *ask) != Ok(*want))
 }
 
 #[test]

@@ -2,6 +2,7 @@ use crate::doors::{GET, Sink, Source, is_answered, is_asked, play};
 use crate::rows::none_wrong;
 use std::alloc::{AllocError, Global};
 use xa_desk::Served;
+use xa_rows::first_wrong;
 
 fn put_get(out: &mut Vec<u8>, number: u32) -> Result<(), AllocError> {
     out.extend_from_slice(&[0, 0, 0, 7, 1, 10, 4])?;
@@ -62,12 +63,7 @@ fn is_whole(alloc: Global, talk: &Talk, given: usize, taken: usize) -> bool {
 }
 
 fn wrong_pieces(alloc: Global, talk: &Talk, rows: &[(usize, usize)]) -> Option<usize> {
-    for (index, (given, taken)) in rows.iter().enumerate() {
-        if !is_whole(alloc, talk, *given, *taken) {
-            return Some(index);
-        }
-    }
-    None
+    first_wrong(rows, |(given, taken)| is_whole(alloc, talk, *given, *taken))
 }
 
 #[test]
@@ -97,12 +93,7 @@ fn is_read(alloc: Global, talk: &Talk, n: usize, fails: bool) -> bool {
 }
 
 fn wrong_read(alloc: Global, talk: &Talk, fails: bool) -> Option<usize> {
-    for n in 0..=talk.input.len() {
-        if !is_read(alloc, talk, n, fails) {
-            return Some(n);
-        }
-    }
-    None
+    (0..=talk.input.len()).find(|n| !is_read(alloc, talk, *n, fails))
 }
 
 #[test]
@@ -130,12 +121,7 @@ fn is_written(alloc: Global, talk: &Talk, n: usize, fails: bool) -> bool {
 }
 
 fn wrong_write(alloc: Global, talk: &Talk, fails: bool) -> Option<usize> {
-    for n in 0..talk.output.len() {
-        if !is_written(alloc, talk, n, fails) {
-            return Some(n);
-        }
-    }
-    None
+    (0..talk.output.len()).find(|n| !is_written(alloc, talk, *n, fails))
 }
 
 #[test]

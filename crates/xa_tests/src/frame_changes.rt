@@ -6,31 +6,36 @@ use xa_rows::first_wrong;
 
 pub type Content = (&'static [u8], &'static [u8], &'static [u8]);
 
+/// A call with flags and 1:aa:bb, where it is cut and changed.
+const CUT_CALL: &[u8] = b"SSSSSSFFFFFFFFk";
+
+const CHANGED_CALL: &[u8] = b"vokkkkkkkkgqkk";
+
 /// A content of each operation; what each of its prefixes is, from the empty one to the whole; and what changes of each
 /// byte make of it. k: decoded, S: Short, V: Version, O: Operation, F: Field, T: Trailing.
 pub const CONTENTS: [Content; 20] = [
     (&[1, 1, 0, 0, 0, 0, 1, 0x78], b"SSSSSSSSk", b"vokkkkik"),
     (&[1, 2, 0, 0, 0, 0], b"SSSSSSk", b"vokkkk"),
-    (&START, b"SSSSSSFFFFFFFFk", b"vokkkkkkkkgqkk"),
+    (&START, CUT_CALL, CHANGED_CALL),
     (
         &[1, 4, 4, 0, 0, 0, 0, 0, 0, 1, 1, 1, 0xaa, 0xbb],
-        b"SSSSSSFFFFFFFFk",
-        b"vokkkkkkkkgqkk",
+        CUT_CALL,
+        CHANGED_CALL,
     ),
     (
         &[1, 5, 0, 0, 0, 0, 0, 0, 0, 1, 1, 1, 0xaa, 0xbb],
-        b"SSSSSSFFFFFFFFk",
-        b"vokkkkkkkkgqkk",
+        CUT_CALL,
+        CHANGED_CALL,
     ),
     (
         &[1, 6, 0, 0, 0, 0, 0, 0, 0, 1, 1, 1, 0xaa, 0xbb],
-        b"SSSSSSFFFFFFFFk",
-        b"vokkkkkkkkgqkk",
+        CUT_CALL,
+        CHANGED_CALL,
     ),
     (
         &[1, 7, 0, 0, 0, 0, 0, 0, 0, 1, 1, 1, 0xaa, 0xbb],
-        b"SSSSSSFFFFFFFFk",
-        b"vokkkkkkkkgqkk",
+        CUT_CALL,
+        CHANGED_CALL,
     ),
     (
         &[1, 8, 0, 0, 0, 0, 0, 0, 0, 1],
@@ -39,8 +44,8 @@ pub const CONTENTS: [Content; 20] = [
     ),
     (
         &[1, 9, 0, 0, 0, 0, 0, 0, 0, 1, 1, 1, 0xaa, 0xbb],
-        b"SSSSSSFFFFFFFFk",
-        b"vokkkkkkkkgqkk",
+        CUT_CALL,
+        CHANGED_CALL,
     ),
     (&[1, 10, 1, 0x6b], b"SSSSk", b"voyk"),
     (&[1, 11, 1, 0x6b, 0, 1, 0x76], b"SSSSSSSk", b"voykhik"),

@@ -133,27 +133,23 @@ const TIMEOUT: [u8; 6] = [1, 16, 1, 2, 3, 4];
 const TICK: [u8; 10] = [1, 17, 1, 2, 3, 4, 5, 6, 7, 8];
 
 fn reads_timeout(alloc: Global) -> bool {
-    match decode_request(alloc, &TIMEOUT) {
-        Ok(read) => matches!(
-            read,
-            Request::Timeout {
-                seconds: 0x0102_0304
-            }
-        ),
-        Err(_) => false,
-    }
+    let read = decode_request(alloc, &TIMEOUT);
+    matches!(
+        read,
+        Ok(Request::Timeout {
+            seconds: 0x0102_0304
+        })
+    )
 }
 
 fn reads_tick(alloc: Global) -> bool {
-    match decode_request(alloc, &TICK) {
-        Ok(read) => matches!(
-            read,
-            Request::Tick {
-                moment: 0x0102_0304_0506_0708
-            }
-        ),
-        Err(_) => false,
-    }
+    let read = decode_request(alloc, &TICK);
+    matches!(
+        read,
+        Ok(Request::Tick {
+            moment: 0x0102_0304_0506_0708
+        })
+    )
 }
 
 #[test]

@@ -66,11 +66,6 @@ fn reads_prepared(alloc: Global) -> Option<bool> {
     Some(is_prepared(&read_again(alloc, &PREPARED)?, &named))
 }
 
-#[test]
-fn prepared(rt: HostRuntime) {
-    assert!(rt; reads_prepared(rt.alloc()) == Some(true));
-}
-
 fn writes_opened() -> bool {
     let mut out: ArrayVec<u8, MOST_SMALL> = ArrayVec::new();
     write_small(&Record::Opened { boot: 1 }, &mut out);
@@ -122,8 +117,9 @@ fn reads_held(alloc: Global) -> Option<bool> {
 }
 
 #[test]
-fn held(rt: HostRuntime) {
-    assert!(rt; reads_held(rt.alloc()) == Some(true));
+fn prepared_and_held(rt: HostRuntime) {
+    let alloc = rt.alloc();
+    assert!(rt; reads_prepared(alloc) == Some(true) && reads_held(alloc) == Some(true));
 }
 
 fn writes_known() -> Option<bool> {

@@ -9,8 +9,8 @@ fn first() -> Option<Xid> {
     Xid::new(1, &[0xaa], &[0xbb]).ok()
 }
 
-fn second() -> Option<Xid> {
-    Xid::new(1, &[0xaa], &[0xbc]).ok()
+fn first_two() -> Option<(Xid, Xid)> {
+    Some((first()?, Xid::new(1, &[0xaa], &[0xbc]).ok()?))
 }
 
 fn third() -> Option<Xid> {
@@ -117,8 +117,7 @@ fn both_begin(branches: &mut Branches, first: &Xid, second: &Xid) -> bool {
 
 #[test]
 fn lasting_counts(rt: HostRuntime) {
-    let first = first().expect(&rt, "an XID");
-    let second = second().expect(&rt, "an XID");
+    let (first, second) = first_two().expect(&rt, "two XIDs");
     let mut branches = Branches::new(rt.alloc(), 1, 1, 0);
     assert!(rt;
         both_begin(&mut branches, &first, &second)
@@ -141,8 +140,7 @@ fn rises(branches: &mut Branches, first: &Xid, second: &Xid) -> bool {
 
 #[test]
 fn low_water(rt: HostRuntime) {
-    let first = first().expect(&rt, "an XID");
-    let second = second().expect(&rt, "an XID");
+    let (first, second) = first_two().expect(&rt, "two XIDs");
     let mut branches = Branches::new(rt.alloc(), 1, 1, 0);
     assert!(rt;
         branches.low_water() == FIRST_BOOT
@@ -236,8 +234,7 @@ fn holds_low_water(branches: &mut Branches, second: &Xid) -> bool {
 
 #[test]
 fn restored_branches(rt: HostRuntime) {
-    let first = first().expect(&rt, "an XID");
-    let second = second().expect(&rt, "an XID");
+    let (first, second) = first_two().expect(&rt, "two XIDs");
     let third = third().expect(&rt, "an XID");
     let mut branches = restored(rt.alloc(), &first, &second).expect(&rt, "branches");
     assert!(rt;

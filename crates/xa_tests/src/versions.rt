@@ -188,12 +188,7 @@ fn answered(alloc: Global, records: &mut Records, ts: u64, ask: Ask) -> Result<T
 }
 
 fn wrong_answer(alloc: Global, records: &mut Records, row: &[(u64, Ask, Told)]) -> Option<usize> {
-    for (index, (ts, ask, want)) in row.iter().enumerate() {
-        if answered(alloc, records, *ts, *ask) != Ok(*want) {
-            return Some(index);
-        }
-    }
-    None
+    row.iter().position(|(ts, ask, want)| answered(alloc, records, *ts, *ask) != Ok(*want))
 }
 
 #[test]
