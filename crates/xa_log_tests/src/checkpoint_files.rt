@@ -173,13 +173,6 @@ fn is_checkpointed(alloc: Global, records: usize, size: usize) -> Option<bool> {
     Some(came == Appended::Kept && right && !log.on_first())
 }
 
-fn wrong_size(alloc: Global, rows: &[(usize, usize)]) -> Option<usize> {
-    first_wrong(
-        rows,
-        |(records, size)| is_checkpointed(alloc, *records, *size) == Some(true),
-    )
-}
-
 // Up to the largest body, and past the window of 1 MiB.
 const SIZES: &[(usize, usize)] = &[
     (1, 1),
@@ -192,5 +185,10 @@ const SIZES: &[(usize, usize)] = &[
 
 #[test]
 fn checkpoints_of_many_sizes(rt: HostRuntime) {
-    none_wrong(&rt, wrong_size(rt.alloc(), SIZES));
+    let alloc = rt.alloc();
+    let wrong = first_wrong(
+        SIZES,
+        |(n, size)| is_checkpointed(alloc, *n, *size) == Some(true),
+    );
+    none_wrong(&rt, wrong);
 }

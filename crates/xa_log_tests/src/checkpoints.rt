@@ -1,6 +1,8 @@
 use crate::log_pairs::{
-    AGAIN, DECIDED, HELD, NEW, OLD, OPENED, appends, are, checkpoint_of, crashed, keeps_all, log_of,
+    AGAIN, DECIDED, HELD, NEW, OLD, OPENED, THIRD, appends, are, checkpoint_of, crashed, keeps_all,
+    log_of,
 };
+use crate::logs::Ends;
 use crate::rows::none_wrong;
 use std::alloc::Global;
 use xa_disk::{Disk, Effect, MemDisk};
@@ -16,7 +18,7 @@ const MORE: [&[u8]; 1] = [&DECIDED];
 const THREE: [&[u8]; 3] = [&AGAIN, &HELD, &DECIDED];
 
 // The checkpoints of the boots behind it.
-const LATER: [&[u8]; 2] = [&[1, 0, 0, 0, 3], &HELD];
+const LATER: [&[u8]; 2] = [&THIRD, &HELD];
 
 const LAST: [&[u8]; 2] = [&[1, 0, 0, 0, 4], &HELD];
 
@@ -131,9 +133,7 @@ fn two_ends(alloc: Global, plans: &[(u64, Effect)]) -> Option<(u64, u64)> {
     Some((end, log.end()))
 }
 
-/// Which calls on the other file fail, and the two ends.
-type Ends = (&'static [(u64, Effect)], (u64, u64));
-
+// By the calls that fail on the other file.
 const ENDS: &[Ends] = &[
     (&[], (49, 49)),
     (&[(1, Effect::Lost)], (110, 110)),
@@ -142,13 +142,11 @@ const ENDS: &[Ends] = &[
     (&[(6, Effect::Kept), (7, Effect::Lost)], (110, 49)),
 ];
 
-fn wrong_ends(alloc: Global, rows: &[Ends]) -> Option<usize> {
-    first_wrong(rows, |(plans, ends)| two_ends(alloc, plans) == Some(*ends))
-}
-
 #[test]
 fn ends_behind_a_checkpoint(rt: HostRuntime) {
-    none_wrong(&rt, wrong_ends(rt.alloc(), ENDS));
+    let alloc = rt.alloc();
+    let wrong = first_wrong(ENDS, |(plans, ends)| two_ends(alloc, plans) == Some(*ends));
+    none_wrong(&rt, wrong);
 }
 
 // An append that was lost stops a checkpoint too.

@@ -1,8 +1,8 @@
 ghost use Rattle.xa_frame.specs.Limits.{IsRequest};
 
 use crate::log_pairs::{
-    AGAIN, DECIDED, HELD, NEW, OLD, OPENED, PREPARED, are, are_crashed, bytes_on, disk_of, file_of,
-    has_bytes,
+    AGAIN, AT_ONCE, BASE, COMPLETED, DECIDED, HELD, KNOWN, NEW, OLD, OPENED, PREPARED, THIRD, are,
+    are_crashed, bytes_on, disk_of, file_of, has_bytes,
 };
 use crate::rows::none_wrong;
 use std::alloc::Global;
@@ -11,7 +11,7 @@ use xa_disk::MemDisk;
 use xa_frame::{Request, encode_request};
 use xa_log::{Log, OpenFault, read_log};
 use xa_manager::{Manager, ManagerFault, RefusedOpening, Settings};
-use xa_rows::{LEAST_LOG_BYTES, LOG_BYTES, PREPARED_LOG_BYTES};
+use xa_rows::{LEAST_LOG_BYTES, LOG_BYTES, PREPARED_LOG_BYTES, first_wrong};
 use xa_script::{Line, read_line};
 
 /// A manager under the name `xarm` on these disks.
@@ -98,27 +98,12 @@ pub fn disks_behind(alloc: Global, lines: &[&str]) -> Option<(MemDisk, MemDisk)>
     }
 }
 
-// The third boot's record, what the branch wrote once it is committed, and that the operator committed it, or rolled it
-// back.
-const THIRD: [u8; 5] = [1, 0, 0, 0, 3];
-
-const BASE: [u8; 17] = [7, 0, 0, 0, 1, 0, 0, 0, 1, 0, 1, 1, 0x6b, 1, 0, 1, 0x76];
-
-const KNOWN: [u8; 10] = [9, 0, 0, 0, 1, 1, 1, 0xaa, 0xbb, 1];
-
+// The branch was rolled back by the operator, or it is completed so, and what the operator decided is forgotten.
 const KNOWN_BACK: [u8; 10] = [9, 0, 0, 0, 1, 1, 1, 0xaa, 0xbb, 2];
-
-// The branch is completed, in either direction, and what the operator decided is forgotten.
-const COMPLETED: [u8; 10] = [4, 0, 0, 0, 1, 1, 1, 0xaa, 0xbb, 1];
 
 const COMPLETED_BACK: [u8; 10] = [4, 0, 0, 0, 1, 1, 1, 0xaa, 0xbb, 2];
 
 const FORGOTTEN: [u8; 9] = [6, 0, 0, 0, 1, 1, 1, 0xaa, 0xbb];
-
-// 1:cc: of timestamp 4294967298 deletes 6b, in one phase.
-const AT_ONCE: [u8; 21] = [
-    3, 0, 0, 0, 1, 1, 0, 0xcc, 0, 0, 0, 1, 0, 0, 0, 2, 0, 1, 1, 0x6b, 0,
-];
 
 /// What is done behind the prepare, whether the first file is current then, its records, and where they end.
 pub type Row = (&'static [&'static str], bool, &'static [&'static [u8]], u64);
@@ -194,24 +179,28 @@ fn is_closed(alloc: Global, disk: &mut MemDisk, end: u64) -> Option<bool> {
     Some(closing == [0, 0, 0, 0].as_slice())
 }
 
-fn is_row(alloc: Global, row: &Row) -> Option<bool> {
-    let (lines, on_first, bodies, end) = row;
+// Whether a row's lines leave such files.
+fn leave(
+    alloc: Global,
+    lines: &[&str],
+    on_first: bool,
+    bodies: &[&[u8]],
+    end: u64,
+) -> Option<bool> {
     let (first, second) = disks_behind(alloc, lines)?;
     let (log, found) = Log::open(alloc, first, second, LOG_BYTES).ok()?;
-    let right = log.on_first() == *on_first && log.end() == *end && are(&found, bodies);
+    let right = log.on_first() == on_first && log.end() == end && are(&found, bodies);
     let (mut first, mut second) = log.into_disks();
-    let current = if *on_first { &mut first } else { &mut second };
-    Some(right && is_closed(alloc, current, *end) == Some(true))
+    let current = if on_first { &mut first } else { &mut second };
+    Some(right && is_closed(alloc, current, end) == Some(true))
 }
 
 /// The first of these rows that isn't right.
 pub fn wrong_row(alloc: Global, rows: &[Row]) -> Option<usize> {
-    for (index, row) in rows.iter().enumerate() {
-        if is_row(alloc, row) != Some(true) {
-            return Some(index);
-        }
-    }
-    None
+    first_wrong(
+        rows,
+        |(lines, on_first, bodies, end)| leave(alloc, lines, *on_first, bodies, *end) == Some(true),
+    )
 }
 
 #[test]
@@ -280,20 +269,22 @@ const REFUSALS: &[Refusal] = &[
     (&[&NEXT_TO_LAST], LOG_BYTES, None),
 ];
 
-fn is_refused_so(alloc: Global, row: &Refusal) -> Option<bool> {
-    let (bodies, log_bytes, fault) = row;
+// Whether no manager is opened on a file of these records and an empty one, for this reason.
+fn is_refused(
+    alloc: Global,
+    bodies: &[&[u8]],
+    log_bytes: u64,
+    fault: Option<ManagerFault>,
+) -> Option<bool> {
     let first = disk_of(alloc, &file_of(alloc, bodies)?)?;
-    let refused = open(alloc, first, MemDisk::new(alloc), *log_bytes).err();
-    Some(refused == *fault)
+    Some(open(alloc, first, MemDisk::new(alloc), log_bytes).err() == fault)
 }
 
 fn wrong_refusal(alloc: Global, rows: &[Refusal]) -> Option<usize> {
-    for (index, row) in rows.iter().enumerate() {
-        if is_refused_so(alloc, row) != Some(true) {
-            return Some(index);
-        }
-    }
-    None
+    first_wrong(
+        rows,
+        |(bodies, most, fault)| is_refused(alloc, bodies, *most, *fault) == Some(true),
+    )
 }
 
 #[test]

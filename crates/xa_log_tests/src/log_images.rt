@@ -1,4 +1,4 @@
-use crate::log_pairs::{DECIDED, NEW, OLD, OPENED, PREPARED, are, disk_of, file_of};
+use crate::log_pairs::{BASE, DECIDED, NEW, OLD, OPENED, PREPARED, THIRD, are, disk_of, file_of};
 use crate::logs::filled;
 use crate::rows::none_wrong;
 use std::alloc::Global;
@@ -7,10 +7,7 @@ use xa_log::Log;
 use xa_rows::LOG_BYTES;
 
 // The third boot's log, and an older one that is longer.
-const NEXT: [&[u8]; 2] = [
-    &[1, 0, 0, 0, 3],
-    &[7, 0, 0, 0, 1, 0, 0, 0, 1, 0, 1, 1, 0x6b, 1, 0, 1, 0x76],
-];
+const NEXT: [&[u8]; 2] = [&THIRD, &BASE];
 
 const LONG: [&[u8]; 3] = [&OPENED, &PREPARED, &DECIDED];
 

@@ -5,7 +5,7 @@ use std::alloc::Global;
 use std::io::{self, ErrorKind, Write};
 use xa_disk::{Effect, MemDisk};
 use xa_log::{Log, OpenFault};
-use xa_rows::LOG_BYTES;
+use xa_rows::{LOG_BYTES, first_wrong};
 use xa_scan::{ScanFault, offsets_in_the_file, scan_run, worked_scans};
 
 /// How the printing of a disk's log ends, and what it printed.
@@ -70,20 +70,18 @@ const ROWS: &[Row] = &[
     ),
 ];
 
-fn is_row(alloc: Global, row: &Row) -> Option<bool> {
-    let (done, first, wanted) = row;
+// Whether the file that is looked at behind these lines is printed so.
+fn prints_behind(alloc: Global, done: &[&str], first: bool, wanted: &str) -> Option<bool> {
     let (mut one, mut other) = disks_behind(alloc, done)?;
-    let disk = if *first { &mut one } else { &mut other };
+    let disk = if first { &mut one } else { &mut other };
     Some(prints(alloc, disk, wanted))
 }
 
 fn wrong_row(alloc: Global, rows: &[Row]) -> Option<usize> {
-    for (index, row) in rows.iter().enumerate() {
-        if is_row(alloc, row) != Some(true) {
-            return Some(index);
-        }
-    }
-    None
+    first_wrong(
+        rows,
+        |(done, first, wanted)| prints_behind(alloc, done, *first, wanted) == Some(true),
+    )
 }
 
 #[test]

@@ -25,8 +25,22 @@ pub const HELD: [u8; 25] = [
     8, 0, 0, 0, 1, 1, 1, 0xaa, 0xbb, 0, 0, 0, 1, 0, 0, 0, 1, 0, 1, 1, 0x6b, 1, 0, 1, 0x76,
 ];
 
-// A completion of the branch by the operator.
+// The third boot's record, and what the branch wrote, as a snapshot has it once that is committed.
+pub const THIRD: [u8; 5] = [1, 0, 0, 0, 3];
+
+pub const BASE: [u8; 17] = [7, 0, 0, 0, 1, 0, 0, 0, 1, 0, 1, 1, 0x6b, 1, 0, 1, 0x76];
+
+// A completion of the branch, one by the operator, and that one as a snapshot has it.
+pub const COMPLETED: [u8; 10] = [4, 0, 0, 0, 1, 1, 1, 0xaa, 0xbb, 1];
+
 pub const DECIDED: [u8; 10] = [5, 0, 0, 0, 1, 1, 1, 0xaa, 0xbb, 1];
+
+pub const KNOWN: [u8; 10] = [9, 0, 0, 0, 1, 1, 1, 0xaa, 0xbb, 1];
+
+// 1:cc: of timestamp 4294967298 deletes 6b, in one phase.
+pub const AT_ONCE: [u8; 21] = [
+    3, 0, 0, 0, 1, 1, 0, 0xcc, 0, 0, 0, 1, 0, 0, 0, 2, 0, 1, 1, 0x6b, 0,
+];
 
 // Two records before a checkpoint, and two of it.
 pub const OLD: [&[u8]; 2] = [&OPENED, &PREPARED];

@@ -199,7 +199,7 @@ fn end_of(alloc: Global, bodies: &[&[u8]]) -> Option<u64> {
 }
 
 /// Which calls fail, and the two ends.
-type Ends = (&'static [(u64, Effect)], (u64, u64));
+pub type Ends = (&'static [(u64, Effect)], (u64, u64));
 
 const ENDS: &[Ends] = &[
     (&[], (49, 49)),
@@ -209,17 +209,13 @@ const ENDS: &[Ends] = &[
     (&[(1, Effect::Kept), (2, Effect::Lost)], (8, 49)),
 ];
 
-fn wrong_ends(alloc: Global, rows: &[Ends]) -> Option<usize> {
-    first_wrong(rows, |(plans, ends)| two_ends(alloc, plans) == Some(*ends))
-}
-
 #[test]
 fn ends_of_logs(rt: HostRuntime) {
     let alloc = rt.alloc();
     assert!(rt;
         end_of(alloc, &[]) == Some(8)
             && end_of(alloc, &OLD) == Some(110)
-            && wrong_ends(alloc, ENDS) == None
+            && first_wrong(ENDS, |(plans, ends)| two_ends(alloc, plans) == Some(*ends)) == None
     );
 }
 
@@ -321,13 +317,6 @@ fn is_read_again(alloc: Global, records: usize, size: usize) -> Option<bool> {
     Some(bodies.len() == records && are_numbered(&bodies, size))
 }
 
-fn wrong_size(alloc: Global, rows: &[(usize, usize)]) -> Option<usize> {
-    first_wrong(
-        rows,
-        |(records, size)| is_read_again(alloc, *records, *size) == Some(true),
-    )
-}
-
 // Up to the largest body, and past the window of 1 MiB.
 const SIZES: &[(usize, usize)] = &[
     (0, 1),
@@ -340,5 +329,10 @@ const SIZES: &[(usize, usize)] = &[
 
 #[test]
 fn logs_of_many_sizes(rt: HostRuntime) {
-    none_wrong(&rt, wrong_size(rt.alloc(), SIZES));
+    let alloc = rt.alloc();
+    let wrong = first_wrong(
+        SIZES,
+        |(n, size)| is_read_again(alloc, *n, *size) == Some(true),
+    );
+    none_wrong(&rt, wrong);
 }

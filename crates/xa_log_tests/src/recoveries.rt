@@ -1,4 +1,4 @@
-use crate::log_pairs::copies;
+use crate::log_pairs::{AGAIN, BASE, COMPLETED, DECIDED, HELD, KNOWN, OPENED, PREPARED, copies};
 use crate::rows::none_wrong;
 use std::alloc::Global;
 use xa_record::{Record, read};
@@ -9,33 +9,12 @@ use xa_rows::{are_alike, first_wrong};
 use xa_shared::SharedBytes;
 use xa_xid::Xid;
 
-const OPENED: [u8; 5] = [1, 0, 0, 0, 1];
-
-const OPENED_AGAIN: [u8; 5] = [1, 0, 0, 0, 2];
-
 const OPENED_LAST: [u8; 5] = [1, 255, 255, 255, 255];
-
-// 1:aa:bb at timestamp 4294967297 writes 76 under 6b; a base is the same without the XID
-const PREPARED: [u8; 25] = [
-    2, 0, 0, 0, 1, 1, 1, 0xaa, 0xbb, 0, 0, 0, 1, 0, 0, 0, 1, 0, 1, 1, 0x6b, 1, 0, 1, 0x76,
-];
-
-const HELD: [u8; 25] = [
-    8, 0, 0, 0, 1, 1, 1, 0xaa, 0xbb, 0, 0, 0, 1, 0, 0, 0, 1, 0, 1, 1, 0x6b, 1, 0, 1, 0x76,
-];
-
-const BASE: [u8; 17] = [7, 0, 0, 0, 1, 0, 0, 0, 1, 0, 1, 1, 0x6b, 1, 0, 1, 0x76];
 
 // 1:cc: at timestamp 4294967298 deletes 6b
 const SECOND: [u8; 21] = [
     2, 0, 0, 0, 1, 1, 0, 0xcc, 0, 0, 0, 1, 0, 0, 0, 2, 0, 1, 1, 0x6b, 0,
 ];
-
-const COMMITTED: [u8; 10] = [4, 0, 0, 0, 1, 1, 1, 0xaa, 0xbb, 1];
-
-const DECIDED: [u8; 10] = [5, 0, 0, 0, 1, 1, 1, 0xaa, 0xbb, 1];
-
-const KNOWN: [u8; 10] = [9, 0, 0, 0, 1, 1, 1, 0xaa, 0xbb, 1];
 
 fn records_of(alloc: Global, bodies: &[&[u8]]) -> Option<Vec<Record>> {
     let mut records = Vec::new(alloc);
@@ -83,12 +62,9 @@ fn leaves(alloc: Global, bodies: &[&[u8]], wanted: &[&[u8]]) -> Option<bool> {
 type Left = (&'static [&'static [u8]], &'static [&'static [u8]]);
 
 const LEFT: &[Left] = &[
-    (&[&OPENED, &PREPARED], &[&OPENED_AGAIN, &HELD]),
-    (&[&OPENED, &PREPARED, &COMMITTED], &[&OPENED_AGAIN, &BASE]),
-    (
-        &[&OPENED, &PREPARED, &DECIDED],
-        &[&OPENED_AGAIN, &BASE, &KNOWN],
-    ),
+    (&[&OPENED, &PREPARED], &[&AGAIN, &HELD]),
+    (&[&OPENED, &PREPARED, &COMPLETED], &[&AGAIN, &BASE]),
+    (&[&OPENED, &PREPARED, &DECIDED], &[&AGAIN, &BASE, &KNOWN]),
 ];
 
 fn wrong_left(alloc: Global, rows: &[Left]) -> Option<usize> {
@@ -126,7 +102,7 @@ fn found_in(alloc: Global, bodies: &[&[u8]]) -> Option<(u32, usize, usize)> {
     Some(found(&durable))
 }
 
-fn log_fault_of(alloc: Global, bodies: &[&[u8]]) -> Option<LogFault> {
+fn fault_in(alloc: Global, bodies: &[&[u8]]) -> Option<LogFault> {
     rebuild_log(alloc, copies(alloc, bodies)?).err()
 }
 
@@ -136,23 +112,18 @@ type Counted = (&'static [&'static [u8]], (u32, usize, usize));
 const FOUND: &[Counted] = &[
     (&[], (0, 0, 0)),
     (&[&OPENED, &PREPARED], (1, 0, 1)),
-    (&[&OPENED, &PREPARED, &COMMITTED], (1, 1, 0)),
-    (&[&OPENED_AGAIN, &BASE, &KNOWN], (2, 1, 0)),
+    (&[&OPENED, &PREPARED, &COMPLETED], (1, 1, 0)),
+    (&[&AGAIN, &BASE, &KNOWN], (2, 1, 0)),
     // A branch of the first boot is prepared behind the second, also beside what is held.
-    (&[&OPENED_AGAIN, &PREPARED], (2, 0, 1)),
-    (&[&OPENED_AGAIN, &HELD, &SECOND], (2, 0, 2)),
+    (&[&AGAIN, &PREPARED], (2, 0, 1)),
+    (&[&AGAIN, &HELD, &SECOND], (2, 0, 2)),
 ];
-
-fn wrong_found(alloc: Global, rows: &[Counted]) -> Option<usize> {
-    first_wrong(
-        rows,
-        |(bodies, wanted)| found_in(alloc, bodies) == Some(*wanted),
-    )
-}
 
 #[test]
 fn bodies_of_logs(rt: HostRuntime) {
-    none_wrong(&rt, wrong_found(rt.alloc(), FOUND));
+    let alloc = rt.alloc();
+    let wrong = first_wrong(FOUND, |(log, found)| found_in(alloc, log) == Some(*found));
+    none_wrong(&rt, wrong);
 }
 
 // No record has the kind 10, and none is so short.
@@ -173,7 +144,7 @@ const NONE_GAVE: [u8; 25] = [
 type LogFaultRow = (&'static [&'static [u8]], LogFault);
 
 // A body that is no record's anywhere goes before a record out of order anywhere, and of either the first is told.
-const LOG_FAULTS: &[LogFaultRow] = &[
+const FAULTS: &[LogFaultRow] = &[
     (&[&NEW_KIND], LogFault::Malformed(0)),
     (&[&OPENED, &SHORT, &NEW_KIND], LogFault::Malformed(1)),
     (&[&PREPARED, &OPENED], LogFault::Order(0)),
@@ -184,26 +155,21 @@ const LOG_FAULTS: &[LogFaultRow] = &[
     ),
     // a later boot's, no boot's, and one that a base has
     (&[&OPENED, &LATER], LogFault::Order(1)),
-    (&[&OPENED_AGAIN, &NONE_GAVE], LogFault::Order(1)),
-    (&[&OPENED_AGAIN, &BASE, &PREPARED], LogFault::Order(2)),
+    (&[&AGAIN, &NONE_GAVE], LogFault::Order(1)),
+    (&[&AGAIN, &BASE, &PREPARED], LogFault::Order(2)),
     (&[&PREPARED, &SHORT], LogFault::Malformed(1)),
     (
-        &[&PREPARED, &COMMITTED, &OPENED, &NEW_KIND, &SHORT],
+        &[&PREPARED, &COMPLETED, &OPENED, &NEW_KIND, &SHORT],
         LogFault::Malformed(3),
     ),
     (&[&SHORT, &PREPARED], LogFault::Malformed(0)),
 ];
 
-fn wrong_log_fault(alloc: Global, rows: &[LogFaultRow]) -> Option<usize> {
-    first_wrong(
-        rows,
-        |(bodies, fault)| log_fault_of(alloc, bodies) == Some(*fault),
-    )
-}
-
 #[test]
 fn faults_of_logs(rt: HostRuntime) {
-    none_wrong(&rt, wrong_log_fault(rt.alloc(), LOG_FAULTS));
+    let alloc = rt.alloc();
+    let wrong = first_wrong(FAULTS, |(log, fault)| fault_in(alloc, log) == Some(*fault));
+    none_wrong(&rt, wrong);
 }
 
 fn boot_behind(alloc: Global, bodies: &[&[u8]]) -> Option<Option<u32>> {

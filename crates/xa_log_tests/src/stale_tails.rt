@@ -1,13 +1,12 @@
-use crate::log_pairs::{AGAIN, DECIDED, HELD, NEW, OLD, appends, are, checkpoint_of, log_of};
+use crate::log_pairs::{
+    AGAIN, DECIDED, HELD, KNOWN, NEW, OLD, appends, are, checkpoint_of, log_of,
+};
 use std::alloc::Global;
 use xa_disk::{Effect, MemDisk};
 use xa_log::{Appended, Log};
 use xa_rows::LOG_BYTES;
 
-// A completion as a snapshot has it, as long as the operator's.
-const KNOWN: [u8; 10] = [9, 0, 0, 0, 1, 1, 1, 0xaa, 0xbb, 1];
-
-// A checkpoint of the same boot as the one of two records, with one more.
+// A checkpoint of the same boot as the one of two records, with one more, as long as the operator's completion.
 const LONGER: [&[u8]; 3] = [&AGAIN, &HELD, &KNOWN];
 
 const THREE: [&[u8]; 3] = [&AGAIN, &HELD, &DECIDED];

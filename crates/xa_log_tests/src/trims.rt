@@ -1,24 +1,9 @@
 use crate::log_files::{Row, are_done, is_done, open, wrong_row};
-use crate::log_pairs::{AGAIN, HELD, disk_of, file_of};
+use crate::log_pairs::{AGAIN, AT_ONCE, BASE, COMPLETED, HELD, KNOWN, THIRD, disk_of, file_of};
 use crate::rows::none_wrong;
 use std::alloc::Global;
 use xa_disk::MemDisk;
-use xa_rows::LOG_BYTES;
-
-// The third boot's record, what the branch wrote once it is committed, that the operator committed it, and that it is
-// completed.
-const THIRD: [u8; 5] = [1, 0, 0, 0, 3];
-
-const BASE: [u8; 17] = [7, 0, 0, 0, 1, 0, 0, 0, 1, 0, 1, 1, 0x6b, 1, 0, 1, 0x76];
-
-const KNOWN: [u8; 10] = [9, 0, 0, 0, 1, 1, 1, 0xaa, 0xbb, 1];
-
-const COMPLETED: [u8; 10] = [4, 0, 0, 0, 1, 1, 1, 0xaa, 0xbb, 1];
-
-// 1:cc: of timestamp 4294967298 deletes 6b, in one phase.
-const AT_ONCE: [u8; 21] = [
-    3, 0, 0, 0, 1, 1, 0, 0xcc, 0, 0, 0, 1, 0, 0, 0, 2, 0, 1, 1, 0x6b, 0,
-];
+use xa_rows::{LOG_BYTES, first_wrong};
 
 // Behind a branch that is in doubt: what a trim writes to the other file, and a branch of an earlier boot behind it.
 const ROWS: &[Row] = &[
@@ -76,8 +61,7 @@ const LIMITS: &[Limit] = &[
     (&[1, 0x7f, 255, 255, 255], &["connect"], "1 trim"),
 ];
 
-fn is_limit(alloc: Global, row: &Limit) -> Option<bool> {
-    let (boot, lines, refused) = *row;
+fn is_limit(alloc: Global, boot: &[u8], lines: &[&str], refused: &str) -> Option<bool> {
     let first = disk_of(alloc, &file_of(alloc, &[boot])?)?;
     let mut manager = open(alloc, first, MemDisk::new(alloc), LOG_BYTES).ok()?;
     Some(
@@ -88,12 +72,10 @@ fn is_limit(alloc: Global, row: &Limit) -> Option<bool> {
 }
 
 fn wrong_limit(alloc: Global, rows: &[Limit]) -> Option<usize> {
-    for (index, row) in rows.iter().enumerate() {
-        if is_limit(alloc, row) != Some(true) {
-            return Some(index);
-        }
-    }
-    None
+    first_wrong(
+        rows,
+        |(boot, lines, refused)| is_limit(alloc, boot, lines, refused) == Some(true),
+    )
 }
 
 #[test]
