@@ -2,7 +2,7 @@
 use crate::group_play::{NUMBER, Player, Told};
 use std::alloc::Global;
 use xa_model::Appending::{self, Kept, Lost, Refused};
-use xa_rows::{LOG_BYTES, Line, NONE_LISTED, OK, Play};
+use xa_rows::{CRASH, LOG_BYTES, Line, NONE_LISTED, OK, P1, Play};
 
 /// Calls that form a group.
 pub struct Grouped {
@@ -26,6 +26,9 @@ const FAILED: &str = "-3 Device";
 const RETRY: &str = "4 Device";
 
 const LOST: &str = "-7 Device";
+
+/// A crash, and a session that opens the manager behind it.
+pub const CRASHED: Play = &[&CRASH, &P1];
 
 /// Three sessions.
 pub const P3: [Line; 6] = [
@@ -120,7 +123,7 @@ pub const VOTED: Play = &[&P3, &THREE, &PREPARED_A, &PREPARED_BC];
 
 // The record of a branch that is prepared, or committed in one phase, has 60 bytes; of one that is completed or decided,
 // 45; and of a forgotten one, 44.
-pub const PREPARES: Grouped = Grouped {
+const PREPARES: Grouped = Grouped {
     before: AT_WORK,
     calls: &[
         "1 prepare TMNOFLAGS 1:aa:",
@@ -140,7 +143,7 @@ pub const PREPARES: Grouped = Grouped {
     ],
 };
 
-pub const COMMITS: Grouped = Grouped {
+const COMMITS: Grouped = Grouped {
     before: VOTED,
     calls: &[
         "1 commit TMNOFLAGS 1:aa:",
@@ -160,7 +163,7 @@ pub const COMMITS: Grouped = Grouped {
     ],
 };
 
-pub const COMMITS_AT_ONCE: Grouped = Grouped {
+const COMMITS_AT_ONCE: Grouped = Grouped {
     before: AT_WORK,
     calls: &[
         "1 commit TMONEPHASE 1:aa:",
@@ -180,7 +183,7 @@ pub const COMMITS_AT_ONCE: Grouped = Grouped {
     ],
 };
 
-pub const PREPARES_AND_COMMIT_AT_ONCE: Grouped = Grouped {
+const PREPARES_AND_COMMIT_AT_ONCE: Grouped = Grouped {
     before: AT_WORK,
     calls: &[
         "3 commit TMONEPHASE 1:cc:",
@@ -200,7 +203,7 @@ pub const PREPARES_AND_COMMIT_AT_ONCE: Grouped = Grouped {
     ],
 };
 
-pub const COMMIT_AND_PREPARE: Grouped = Grouped {
+const COMMIT_AND_PREPARE: Grouped = Grouped {
     before: &[&P3, &THREE, &PREPARED_A],
     calls: &["2 commit TMNOFLAGS 1:aa:", "1 prepare TMNOFLAGS 1:bb:"],
     places: &[1, 0],
@@ -294,7 +297,7 @@ const F_READ: [Line; 1] = [("1 get ff", "0 Nothing value 01")];
 
 const GONE_B: [Line; 1] = [("3 commit TMONEPHASE 1:bb:", "-4 Nothing")];
 
-pub const ONE_OF_EACH: Grouped = Grouped {
+const ONE_OF_EACH: Grouped = Grouped {
     before: &[&P3, &SIX, &FOUR_PREPARED],
     calls: &[
         "1 forget TMNOFLAGS 1:ff:",
@@ -343,6 +346,16 @@ pub const ONE_OF_EACH: Grouped = Grouped {
         ],
     ],
 };
+
+/// All of them.
+pub const GROUPS: [Grouped; 6] = [
+    PREPARES,
+    COMMITS,
+    COMMITS_AT_ONCE,
+    PREPARES_AND_COMMIT_AT_ONCE,
+    COMMIT_AND_PREPARE,
+    ONE_OF_EACH,
+];
 
 impl Grouped {
     /// What the calls are told whose records became this.

@@ -1,25 +1,15 @@
 //! Calls that are asked together, and are kept or refused; and calls that aren't in the group.
 use crate::group_play::{NUMBER, Player, Told};
 use crate::grouped::{
-    AT_WORK, COMMIT_AND_PREPARE, COMMITS, COMMITS_AT_ONCE, Grouped, LIST_A, LIST_AB, LIST_AC,
-    LIST_B, LIST_BC, LIST_C, ONE_OF_EACH, P3, PREPARED_A, PREPARED_BC, PREPARES,
-    PREPARES_AND_COMMIT_AT_ONCE, THREE, VOTED,
+    AT_WORK, CRASHED, GROUPS, Grouped, LIST_A, LIST_AB, LIST_AC, LIST_B, LIST_BC, LIST_C, P3,
+    THREE, VOTED,
 };
 use crate::rows::none_wrong;
 use std::alloc::Global;
 use xa_model::Appending::{Kept, Refused};
-use xa_rows::{CRASH, LOG_BYTES, Line, NONE_LISTED, OK, P1, Play};
+use xa_rows::{LOG_BYTES, Line, NONE_LISTED, OK, Play, first_wrong};
 
 // Each row is tried once more, so that a test passes whichever one allocation fails.
-
-const GROUPS: [Grouped; 6] = [
-    PREPARES,
-    COMMITS,
-    COMMITS_AT_ONCE,
-    PREPARES_AND_COMMIT_AT_ONCE,
-    COMMIT_AND_PREPARE,
-    ONE_OF_EACH,
-];
 
 fn keeps(alloc: Global, group: &Grouped) -> Option<Player> {
     let player = group.begun(alloc)?;
@@ -33,16 +23,13 @@ fn keeps_apart(alloc: Global, group: &Grouped) -> Option<Player> {
     group.finds(player, group.places.len())
 }
 
+fn is_kept(alloc: Global, group: &Grouped) -> bool {
+    (keeps(alloc, group).is_some() || keeps(alloc, group).is_some())
+        && (keeps_apart(alloc, group).is_some() || keeps_apart(alloc, group).is_some())
+}
+
 fn wrong_kept(alloc: Global, groups: &[Grouped]) -> Option<usize> {
-    for (index, group) in groups.iter().enumerate() {
-        if keeps(alloc, group).is_none() && keeps(alloc, group).is_none() {
-            return Some(index);
-        }
-        if keeps_apart(alloc, group).is_none() && keeps_apart(alloc, group).is_none() {
-            return Some(index);
-        }
-    }
-    None
+    first_wrong(groups, |group| is_kept(alloc, group))
 }
 
 #[test]
@@ -57,8 +44,6 @@ const FAILS: [Line; 4] = [
     ("fail 2 lost", ""),
     ("fail 2 kept", ""),
 ];
-
-const CRASHED: Play = &[&CRASH, &P1];
 
 fn refused(alloc: Global, group: &Grouped, fails: &Line) -> Option<Player> {
     let player = group.begun(alloc)?.part(&[*fails])?;
@@ -83,21 +68,14 @@ fn is_refused(alloc: Global, group: &Grouped, fails: &Line) -> bool {
 }
 
 fn wrong_fail(alloc: Global, group: &Grouped, fails: &[Line]) -> Option<usize> {
-    for (index, fails) in fails.iter().enumerate() {
-        if !is_refused(alloc, group, fails) && !is_refused(alloc, group, fails) {
-            return Some(index);
-        }
-    }
-    None
+    first_wrong(
+        fails,
+        |fails| is_refused(alloc, group, fails) || is_refused(alloc, group, fails),
+    )
 }
 
 fn wrong_refused(alloc: Global, groups: &[Grouped], fails: &[Line]) -> Option<usize> {
-    for (index, group) in groups.iter().enumerate() {
-        if wrong_fail(alloc, group, fails).is_some() {
-            return Some(index);
-        }
-    }
-    None
+    first_wrong(groups, |group| wrong_fail(alloc, group, fails) == None)
 }
 
 #[test]

@@ -1,22 +1,10 @@
 //! Calls that are asked together, after which a disk stops, or the repair fails: some first part of them stands.
 use crate::group_play::Player;
-use crate::grouped::{
-    COMMIT_AND_PREPARE, COMMITS, COMMITS_AT_ONCE, Grouped, ONE_OF_EACH, PREPARES,
-    PREPARES_AND_COMMIT_AT_ONCE,
-};
+use crate::grouped::{CRASHED, GROUPS, Grouped};
 use crate::rows::none_wrong;
 use std::alloc::Global;
 use xa_model::Appending::{self, Kept, Lost};
-use xa_rows::{CRASH, Line, OK, P1, Play, RESTART};
-
-const GROUPS: [Grouped; 6] = [
-    PREPARES,
-    COMMITS,
-    COMMITS_AT_ONCE,
-    PREPARES_AND_COMMIT_AT_ONCE,
-    COMMIT_AND_PREPARE,
-    ONE_OF_EACH,
-];
+use xa_rows::{Line, OK, P1, Play, RESTART, first_wrong};
 
 // Nobody is answered until a restart, and no group is formed.
 const DOWN: [Line; 3] = [
@@ -24,8 +12,6 @@ const DOWN: [Line; 3] = [
     ("2 recover TMSTARTRSCAN|TMENDRSCAN 10", "-7 Nothing"),
     ("3 prepare TMNOFLAGS 1:aa:", "-7 Nothing"),
 ];
-
-const CRASHED: Play = &[&CRASH, &P1];
 
 const CRASHED_WITH_ALL: Play = &[&[("crash 16777216", OK)], &P1];
 
@@ -143,12 +129,7 @@ fn wrong_cut(alloc: Global, group: &Grouped) -> Option<usize> {
 }
 
 fn wrong_cuts(alloc: Global, groups: &[Grouped]) -> Option<usize> {
-    for (index, group) in groups.iter().enumerate() {
-        if wrong_cut(alloc, group).is_some() {
-            return Some(index);
-        }
-    }
-    None
+    first_wrong(groups, |group| wrong_cut(alloc, group) == None)
 }
 
 #[test]

@@ -1,135 +1,63 @@
-ghost use Rattle.xa_frame.specs.Limits.{IsRequest};
-
 use crate::managers::{answer, connected, manager};
 use std::alloc::Global;
-use xa_codes::{Bytes, TMNOFLAGS, TMONEPHASE, TMSUCCESS, XA_OK};
+use xa_codes::XA_OK;
 use xa_disk::MemDisk;
-use xa_fields::Key;
-use xa_frame::Request;
 use xa_manager::Manager;
-use xa_xid::Xid;
+use xa_script::{Line, read_line};
 
 // How many versions a manager keeps. Each test passes whichever one allocation fails, since it tries once more.
 
-fn is_done(manager: &mut Manager<MemDisk>, alloc: Global, session: u64, request: Request) -> bool
-    requires { IsRequest request }
-{
+// Whether the call of a line is answered with XA_OK.
+fn is_done(manager: &mut Manager<MemDisk>, alloc: Global, line: &str) -> bool {
+    let Ok(Line::Call(session, request)) = read_line(alloc, line.as_bytes()) else {
+        return false;
+    };
     match answer(manager, alloc, session, request) {
         Some(reply) => reply.code == XA_OK,
         None => false,
     }
 }
 
-fn opens(manager: &mut Manager<MemDisk>, alloc: Global, session: u64) -> bool {
-    match Bytes::from_slice(alloc, b"xarm") {
-        Ok(info) => is_done(
-            manager,
-            alloc,
-            session,
-            Request::Open {
-                flags: TMNOFLAGS,
-                info,
-            },
-        ),
-        Err(_) => false,
-    }
-}
-
-fn starts(manager: &mut Manager<MemDisk>, alloc: Global, session: u64, xid: &Xid) -> bool {
-    let request = Request::Start {
-        flags: TMNOFLAGS,
-        xid: xid.copied(),
-    };
-    is_done(manager, alloc, session, request)
-}
-
-fn puts(manager: &mut Manager<MemDisk>, alloc: Global, session: u64, key: &[u8; 1]) -> bool {
-    match (Key::new(key), Bytes::from_slice(alloc, b"v")) {
-        (Some(key), Ok(value)) => is_done(manager, alloc, session, Request::Put { key, value }),
-        _ => false,
-    }
-}
-
-fn gets(manager: &mut Manager<MemDisk>, alloc: Global, session: u64, key: &[u8; 4]) -> bool {
-    match Key::new(key) {
-        Some(key) => is_done(manager, alloc, session, Request::Get { key }),
-        None => false,
-    }
-}
-
-fn ends(manager: &mut Manager<MemDisk>, alloc: Global, session: u64, xid: &Xid) -> bool {
-    let request = Request::End {
-        flags: TMSUCCESS,
-        xid: xid.copied(),
-    };
-    is_done(manager, alloc, session, request)
-}
-
-fn prepares(manager: &mut Manager<MemDisk>, alloc: Global, session: u64, xid: &Xid) -> bool {
-    let request = Request::Prepare {
-        flags: TMNOFLAGS,
-        xid: xid.copied(),
-    };
-    is_done(manager, alloc, session, request)
-}
-
-fn commits(
-    manager: &mut Manager<MemDisk>,
-    alloc: Global,
-    session: u64,
-    flags: u32,
-    xid: &Xid,
-) -> bool {
-    let request = Request::Commit {
-        flags,
-        xid: xid.copied(),
-    };
-    is_done(manager, alloc, session, request)
-}
-
-fn rolls_back(manager: &mut Manager<MemDisk>, alloc: Global, session: u64, xid: &Xid) -> bool {
-    let request = Request::Rollback {
-        flags: TMNOFLAGS,
-        xid: xid.copied(),
-    };
-    is_done(manager, alloc, session, request)
-}
-
-// A branch with this number writes `k`, and commits in one phase.
-fn writes_once(manager: &mut Manager<MemDisk>, alloc: Global, number: u32) -> bool {
-    let Ok(xid) = Xid::new(1, &number.to_be_bytes(), &[]) else {
-        return false;
-    };
-    starts(manager, alloc, 1, &xid)
-        && puts(manager, alloc, 1, b"k")
-        && ends(manager, alloc, 1, &xid)
-        && commits(manager, alloc, 1, TMONEPHASE, &xid)
-}
-
-// So do branches with these numbers, one after another.
-fn writes(manager: &mut Manager<MemDisk>, alloc: Global, from: u32, to: u32) -> bool {
-    for number in from..to {
-        if !writes_once(manager, alloc, number) {
+fn are_done(manager: &mut Manager<MemDisk>, alloc: Global, lines: &[&str]) -> bool {
+    for line in lines {
+        if !is_done(manager, alloc, line) {
             return false;
         }
     }
     true
 }
 
-// So does one that reads a key of its own, which nobody writes.
-fn reads_once(manager: &mut Manager<MemDisk>, alloc: Global, number: u32) -> bool {
-    let Ok(xid) = Xid::new(1, &number.to_be_bytes(), &[]) else {
-        return false;
-    };
-    starts(manager, alloc, 1, &xid)
-        && gets(manager, alloc, 1, &number.to_be_bytes())
-        && ends(manager, alloc, 1, &xid)
-        && commits(manager, alloc, 1, TMONEPHASE, &xid)
+// A branch with this number asks that, and commits in one phase.
+fn commits_once(
+    manager: &mut Manager<MemDisk>,
+    alloc: Global,
+    number: u32,
+    asked: &str,
+) -> Option<bool> {
+    let start = format!(in alloc; "1 start TMNOFLAGS 1:{number:08x}:").ok()?;
+    let end = format!(in alloc; "1 end TMSUCCESS 1:{number:08x}:").ok()?;
+    let commit = format!(in alloc; "1 commit TMONEPHASE 1:{number:08x}:").ok()?;
+    let lines = [start.as_str(), asked, end.as_str(), commit.as_str()];
+    Some(are_done(manager, alloc, &lines))
 }
 
+// Branches with these numbers write `k`, one after another.
+fn writes(manager: &mut Manager<MemDisk>, alloc: Global, from: u32, to: u32) -> bool {
+    for number in from..to {
+        if commits_once(manager, alloc, number, "1 put 6b 76") != Some(true) {
+            return false;
+        }
+    }
+    true
+}
+
+// Each of these reads a key of its own, which nobody writes.
 fn reads(manager: &mut Manager<MemDisk>, alloc: Global, from: u32, to: u32) -> bool {
     for number in from..to {
-        if !reads_once(manager, alloc, number) {
+        let Ok(get) = format!(in alloc; "1 get {number:08x}") else {
+            return false;
+        };
+        if commits_once(manager, alloc, number, get.as_str()) != Some(true) {
             return false;
         }
     }
@@ -147,14 +75,21 @@ fn restarts(manager: &mut Manager<MemDisk>) -> bool {
 // A manager with two sessions that have opened it.
 fn two_sessions(alloc: Global) -> Option<Manager<MemDisk>> {
     let mut manager = manager(alloc)?;
-    let first = connected(&mut manager)?;
-    let second = connected(&mut manager)?;
-    if opens(&mut manager, alloc, first) && opens(&mut manager, alloc, second) {
+    let are_connected = connected(&mut manager)? == 1 && connected(&mut manager)? == 2;
+    let opens = ["1 open TMNOFLAGS xarm", "2 open TMNOFLAGS xarm"];
+    if are_connected && are_done(&mut manager, alloc, &opens) {
         Some(manager)
     } else {
         None
     }
 }
+
+// The branch of the second session.
+const START: &str = "2 start TMNOFLAGS 2:6f:";
+
+const END: &str = "2 end TMSUCCESS 2:6f:";
+
+const ROLLBACK: &str = "2 rollback TMNOFLAGS 2:6f:";
 
 fn keeps_the_last(alloc: Global) -> bool {
     let Some(mut manager) = two_sessions(alloc) else {
@@ -173,16 +108,13 @@ fn keeps_what_is_read(alloc: Global) -> bool {
     let Some(mut manager) = two_sessions(alloc) else {
         return false;
     };
-    let Ok(old) = Xid::new(2, b"old", &[]) else {
-        return false;
-    };
     writes(&mut manager, alloc, 0, 1)
-        && starts(&mut manager, alloc, 2, &old)
+        && is_done(&mut manager, alloc, START)
         && writes(&mut manager, alloc, 1, 6)
         && has(&manager, 6)
-        && ends(&mut manager, alloc, 2, &old)
+        && is_done(&mut manager, alloc, END)
         && has(&manager, 6)
-        && rolls_back(&mut manager, alloc, 2, &old)
+        && is_done(&mut manager, alloc, ROLLBACK)
         && has(&manager, 1)
 }
 
@@ -214,16 +146,13 @@ fn forgets_what_was_read(alloc: Global) -> bool {
     let Some(mut manager) = two_sessions(alloc) else {
         return false;
     };
-    let Ok(old) = Xid::new(2, b"old", &[]) else {
-        return false;
-    };
     reads(&mut manager, alloc, 0, 100)
         && has(&manager, 0)
-        && starts(&mut manager, alloc, 2, &old)
+        && is_done(&mut manager, alloc, START)
         && reads(&mut manager, alloc, 100, 200)
         && has(&manager, 100)
-        && ends(&mut manager, alloc, 2, &old)
-        && rolls_back(&mut manager, alloc, 2, &old)
+        && is_done(&mut manager, alloc, END)
+        && is_done(&mut manager, alloc, ROLLBACK)
         && has(&manager, 0)
 }
 
@@ -233,28 +162,20 @@ fn keys_that_were_only_read_are_forgotten(rt: HostRuntime) {
 }
 
 // It writes another key, and is prepared.
-fn comes_in_doubt(manager: &mut Manager<MemDisk>, alloc: Global, xid: &Xid) -> bool {
-    starts(manager, alloc, 2, xid)
-        && puts(manager, alloc, 2, b"p")
-        && ends(manager, alloc, 2, xid)
-        && prepares(manager, alloc, 2, xid)
-}
+const IN_DOUBT: [&str; 4] = [START, "2 put 70 76", END, "2 prepare TMNOFLAGS 2:6f:"];
 
 fn keeps_while_in_doubt(alloc: Global) -> bool {
     let Some(mut manager) = two_sessions(alloc) else {
         return false;
     };
-    let Ok(old) = Xid::new(2, b"old", &[]) else {
-        return false;
-    };
     writes(&mut manager, alloc, 0, 1)
-        && comes_in_doubt(&mut manager, alloc, &old)
+        && are_done(&mut manager, alloc, &IN_DOUBT)
         && has(&manager, 3)
         && restarts(&mut manager)
         && has(&manager, 3)
         && writes(&mut manager, alloc, 1, 6)
         && has(&manager, 8)
-        && commits(&mut manager, alloc, 2, TMNOFLAGS, &old)
+        && is_done(&mut manager, alloc, "2 commit TMNOFLAGS 2:6f:")
         && has(&manager, 2)
 }
 
