@@ -228,12 +228,7 @@ fn is_right_cut<R: AllocGlobal>(rt: &R, n: usize) -> bool {
 }
 
 fn wrong_cut<R: AllocGlobal>(rt: &R) -> Option<usize> {
-    for n in 0..=FRAMES * OPEN.len() {
-        if !is_right_cut(rt, n) {
-            return Some(n);
-        }
-    }
-    None
+    (0..=FRAMES * OPEN.len()).find(|n| !is_right_cut(rt, *n))
 }
 
 #[test]
@@ -255,12 +250,7 @@ fn is_right_read<R: AllocGlobal>(rt: &R, n: usize) -> bool {
 }
 
 fn wrong_read<R: AllocGlobal>(rt: &R) -> Option<usize> {
-    for n in 0..=FRAMES * OPEN.len() {
-        if !is_right_read(rt, n) {
-            return Some(n);
-        }
-    }
-    None
+    (0..=FRAMES * OPEN.len()).find(|n| !is_right_read(rt, *n))
 }
 
 #[test]
@@ -282,12 +272,7 @@ fn is_right_write<R: AllocGlobal>(rt: &R, n: usize) -> bool {
 }
 
 fn wrong_write<R: AllocGlobal>(rt: &R) -> Option<usize> {
-    for n in 0..FRAMES * OPENED {
-        if !is_right_write(rt, n) {
-            return Some(n);
-        }
-    }
-    None
+    (0..FRAMES * OPENED).find(|n| !is_right_write(rt, *n))
 }
 
 #[test]

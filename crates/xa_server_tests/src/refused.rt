@@ -23,11 +23,9 @@ use xa_workers::{Gate, OpenGate, Post};
 // in memory that found none, whose call is answered with detail Device. Such a row is played once more. `.ci/refused`
 // refuses each allocation in turn; without it these tests show the rows with ample memory.
 
-/// How a row ended.
-#[derive(Clone, Copy, Debug, PartialEq, Eq)]
-pub enum End {
-    /// All was answered as with ample memory.
-    Whole,
+/// Why a row ended early: not all was answered as with ample memory.
+#[derive(Clone, Copy, Debug, Drop, PartialEq, Eq)]
+pub enum Halt {
     /// A manager wasn't opened, or a device call failed for want of memory.
     Stopped,
     /// Something else was answered.
@@ -146,68 +144,76 @@ fn shows(alloc: Global, reply: &Reply, want: &str) -> Option<bool> {
     Some(text.strip_suffix(b"\n") == Some(want.as_bytes()))
 }
 
-fn end_of(alloc: Global, reply: &Reply, want: &str) -> End {
+fn is_shown(alloc: Global, reply: &Reply, want: &str) -> Result<(), Halt> {
     let shown = match shows(alloc, reply, want) {
         Some(shown) => Some(shown),
         None => shows(alloc, reply, want),
     };
     if shown == Some(true) {
-        End::Whole
+        Ok(())
     } else if reply.detail == Detail::Device {
-        End::Stopped
+        Err(Halt::Stopped)
     } else {
-        End::Wrong
+        Err(Halt::Wrong)
     }
 }
 
 /// How a row goes on behind a line, and how many events were answered by then.
-fn behind_line<A: Asks>(alloc: Global, asked: &mut A, line: Line, events: &mut u64) -> End {
+fn behind_line<A: Asks>(
+    alloc: Global,
+    asked: &mut A,
+    line: Line,
+    events: &mut u64,
+) -> Result<(), Halt> {
     let (line, want) = line;
     match said_again(alloc, asked, line) {
         Some(Told::Event(reply)) => {
             *events = events.saturating_add(1);
-            end_of(alloc, &Reply { place: 0, ..reply }, want)
+            is_shown(alloc, &Reply { place: 0, ..reply }, want)
         }
-        Some(Told::Nothing) if want.is_empty() => End::Whole,
-        Some(Told::Unknown) if want == "-5 Frame" => End::Whole,
-        _ => End::Wrong,
+        Some(Told::Nothing) if want.is_empty() => Ok(()),
+        Some(Told::Unknown) if want == "-5 Frame" => Ok(()),
+        _ => Err(Halt::Wrong),
     }
 }
 
-fn behind_part<A: Asks>(alloc: Global, asked: &mut A, part: &[Line], events: &mut u64) -> End {
+fn behind_part<A: Asks>(
+    alloc: Global,
+    asked: &mut A,
+    part: &[Line],
+    events: &mut u64,
+) -> Result<(), Halt> {
     for line in part {
-        match behind_line(alloc, asked, *line, events) {
-            End::Whole => {}
-            end => return end,
-        }
+        behind_line(alloc, asked, *line, events)?;
     }
-    End::Whole
+    Ok(())
 }
 
-fn behind<A: Asks>(alloc: Global, asked: &mut A, play: &[&[Line]], events: &mut u64) -> End {
+fn behind<A: Asks>(
+    alloc: Global,
+    asked: &mut A,
+    play: &[&[Line]],
+    events: &mut u64,
+) -> Result<(), Halt> {
     for part in play {
-        match behind_part(alloc, asked, part, events) {
-            End::Whole => {}
-            end => return end,
-        }
+        behind_part(alloc, asked, part, events)?;
     }
-    End::Whole
+    Ok(())
 }
 
-fn by_manager(alloc: Global, log_bytes: u64, play: Play) -> End {
+fn by_manager(alloc: Global, log_bytes: u64, play: Play) -> Result<(), Halt> {
     let mut events = 0;
     match opened_over(alloc, log_bytes) {
         Some(mut manager) => behind(alloc, &mut manager, play, &mut events),
-        None => End::Stopped,
+        None => Err(Halt::Stopped),
     }
 }
 
 /// Whether a row ends right, once more where it was stopped.
 fn is_right(alloc: Global, log_bytes: u64, play: Play) -> bool {
     match by_manager(alloc, log_bytes, play) {
-        End::Whole => true,
-        End::Stopped => by_manager(alloc, log_bytes, play) == End::Whole,
-        End::Wrong => false,
+        Err(Halt::Stopped) => by_manager(alloc, log_bytes, play).is_ok(),
+        end => end.is_ok(),
     }
 }
 
@@ -248,14 +254,14 @@ struct Row {
 }
 
 impl<R: AllocGlobal + Clock + Wait> Visit<R> for Row {
-    type Found = End;
+    type Found = Result<(), Halt>;
 
     fn visit<M: Manages + Drop, S: Start, L: Ledger>(
         self,
         rt: &R,
         desk: Desk<M, S, L>,
         share: Share<L>,
-    ) -> Option<End> {
+    ) -> Option<Result<(), Halt>> {
         let alloc = rt.alloc();
         let mut post = Post::new(alloc, rt, &desk, &OpenGate, share);
         let mut events = 0;
@@ -263,19 +269,18 @@ impl<R: AllocGlobal + Clock + Wait> Visit<R> for Row {
         let report = post.into_report();
         let (room, _book) = desk.into_room();
         let is_whole = is_audited(alloc, &room, report, events);
-        Some(if is_whole { end } else { End::Wrong })
+        Some(if is_whole { end } else { Err(Halt::Wrong) })
     }
 }
 
-fn by_new_desk<R: AllocGlobal + Clock + Wait>(rt: &R, play: Play) -> End {
-    at_new_desk(rt, Row { play }).unwrap_or(End::Stopped)
+fn by_new_desk<R: AllocGlobal + Clock + Wait>(rt: &R, play: Play) -> Result<(), Halt> {
+    at_new_desk(rt, Row { play }).unwrap_or(Err(Halt::Stopped))
 }
 
 fn is_right_by_desk<R: AllocGlobal + Clock + Wait>(rt: &R, play: Play) -> bool {
     match by_new_desk(rt, play) {
-        End::Whole => true,
-        End::Stopped => by_new_desk(rt, play) == End::Whole,
-        End::Wrong => false,
+        Err(Halt::Stopped) => by_new_desk(rt, play).is_ok(),
+        end => end.is_ok(),
     }
 }
 

@@ -2,7 +2,7 @@ ghost use Rattle.std.specs.Prelude.{IfSome};
 ghost use Rattle.xa_frame.specs.Limits.{IsRequest};
 
 use crate::desks::opened;
-use crate::refused::{Asks, End};
+use crate::refused::{Asks, Halt};
 use std::alloc::Global;
 use xa_codes::{
     Bytes, Code, Detail, TMJOIN, TMMIGRATE, TMNOFLAGS, TMSUCCESS, TMSUSPEND, XA_OK, XAER_INVAL,
@@ -88,76 +88,60 @@ fn connected<A: Asks>(asked: &mut A) -> Option<Answer> {
     }
 }
 
-fn end_of(found: Option<Answer>, want: Answer) -> End {
+fn is_found(found: Option<Answer>, want: Answer) -> Result<(), Halt> {
     if found == Some(want) {
-        End::Whole
+        Ok(())
     } else if let Some((_, Detail::Device)) = found {
-        End::Stopped
+        Err(Halt::Stopped)
     } else {
-        End::Wrong
+        Err(Halt::Wrong)
     }
 }
 
-/// How it goes on behind a call, which is asked again where it found no memory.
-fn behind<A: Asks>(alloc: Global, asked: &mut A, what: What, want: Answer) -> End {
+/// Whether it goes on behind a call, which is asked again where it found no memory.
+fn behind<A: Asks>(alloc: Global, asked: &mut A, what: What, want: Answer) -> Result<(), Halt> {
     match answered(alloc, asked, what) {
-        Some(found) => end_of(Some(found), want),
-        None => end_of(answered(alloc, asked, what), want),
+        Some(found) => is_found(Some(found), want),
+        None => is_found(answered(alloc, asked, what), want),
     }
 }
 
-fn behind_connect<A: Asks>(asked: &mut A, want: Answer) -> End {
+fn behind_connect<A: Asks>(asked: &mut A, want: Answer) -> Result<(), Halt> {
     match connected(asked) {
-        Some(found) => end_of(Some(found), want),
-        None => end_of(connected(asked), want),
+        Some(found) => is_found(Some(found), want),
+        None => is_found(connected(asked), want),
     }
 }
 
-fn behind_all<A: Asks>(alloc: Global, asked: &mut A, calls: &[(What, Answer)]) -> End {
+fn behind_all<A: Asks>(alloc: Global, asked: &mut A, calls: &[(What, Answer)]) -> Result<(), Halt> {
     for (what, want) in calls {
-        match behind(alloc, asked, *what, *want) {
-            End::Whole => {}
-            end => return end,
-        }
+        behind(alloc, asked, *what, *want)?;
     }
-    End::Whole
+    Ok(())
 }
 
-fn begins<A: Asks>(alloc: Global, asked: &mut A) -> End {
-    match behind_connect(asked, DONE) {
-        End::Whole => behind(alloc, asked, What::Open, DONE),
-        end => end,
-    }
+fn begins<A: Asks>(alloc: Global, asked: &mut A) -> Result<(), Halt> {
+    behind_connect(asked, DONE)?;
+    behind(alloc, asked, What::Open, DONE)
 }
 
 /// Session 1 connects, opens and works for branch 0.
-fn works<A: Asks>(alloc: Global, asked: &mut A) -> End {
-    match begins(alloc, asked) {
-        End::Whole => behind(alloc, asked, What::Start(0), DONE),
-        end => end,
-    }
+fn works<A: Asks>(alloc: Global, asked: &mut A) -> Result<(), Halt> {
+    begins(alloc, asked)?;
+    behind(alloc, asked, What::Start(0), DONE)
 }
 
-fn puts<A: Asks>(alloc: Global, asked: &mut A) -> End {
+fn puts<A: Asks>(alloc: Global, asked: &mut A) -> Result<(), Halt> {
     for number in 0..WRITES {
-        match behind(alloc, asked, What::Put(number), DONE) {
-            End::Whole => {}
-            end => return end,
-        }
+        behind(alloc, asked, What::Put(number), DONE)?;
     }
-    End::Whole
+    Ok(())
 }
 
 /// The 257th key of a branch.
-fn keys<A: Asks>(alloc: Global, asked: &mut A) -> End {
-    match works(alloc, asked) {
-        End::Whole => {}
-        end => return end,
-    }
-    match puts(alloc, asked) {
-        End::Whole => {}
-        end => return end,
-    }
+fn keys<A: Asks>(alloc: Global, asked: &mut A) -> Result<(), Halt> {
+    works(alloc, asked)?;
+    puts(alloc, asked)?;
     let last = [
         (What::Put(WRITES), (XAER_INVAL, Detail::Limit)),
         (What::Put(7), DONE),
@@ -166,65 +150,41 @@ fn keys<A: Asks>(alloc: Global, asked: &mut A) -> End {
 }
 
 /// The 1,025th session.
-fn sessions<A: Asks>(asked: &mut A) -> End {
+fn sessions<A: Asks>(asked: &mut A) -> Result<(), Halt> {
     for _ in 0..SESSIONS {
-        match behind_connect(asked, DONE) {
-            End::Whole => {}
-            end => return end,
-        }
+        behind_connect(asked, DONE)?;
     }
     behind_connect(asked, (XAER_RMERR, Detail::Limit))
 }
 
-fn starts<A: Asks>(alloc: Global, asked: &mut A) -> End {
+fn starts<A: Asks>(alloc: Global, asked: &mut A) -> Result<(), Halt> {
     for number in 0..BRANCHES {
         let calls = [(What::Start(number), DONE), (What::End(number), DONE)];
-        match behind_all(alloc, asked, &calls) {
-            End::Whole => {}
-            end => return end,
-        }
+        behind_all(alloc, asked, &calls)?;
     }
-    End::Whole
+    Ok(())
 }
 
 /// The 4,097th known branch.
-fn branches<A: Asks>(alloc: Global, asked: &mut A) -> End {
-    match begins(alloc, asked) {
-        End::Whole => {}
-        end => return end,
-    }
-    match starts(alloc, asked) {
-        End::Whole => behind(
-            alloc,
-            asked,
-            What::Start(BRANCHES),
-            (XAER_RMERR, Detail::Limit),
-        ),
-        end => end,
-    }
+fn branches<A: Asks>(alloc: Global, asked: &mut A) -> Result<(), Halt> {
+    begins(alloc, asked)?;
+    starts(alloc, asked)?;
+    let limit = (XAER_RMERR, Detail::Limit);
+    behind(alloc, asked, What::Start(BRANCHES), limit)
 }
 
-fn joins<A: Asks>(alloc: Global, asked: &mut A) -> End {
+fn joins<A: Asks>(alloc: Global, asked: &mut A) -> Result<(), Halt> {
     for _ in 1..LOOSE {
         let calls = [(What::Suspend(0), DONE), (What::Join(0), DONE)];
-        match behind_all(alloc, asked, &calls) {
-            End::Whole => {}
-            end => return end,
-        }
+        behind_all(alloc, asked, &calls)?;
     }
-    End::Whole
+    Ok(())
 }
 
 /// The 65th loose association of a branch.
-fn loose<A: Asks>(alloc: Global, asked: &mut A) -> End {
-    match works(alloc, asked) {
-        End::Whole => {}
-        end => return end,
-    }
-    match joins(alloc, asked) {
-        End::Whole => {}
-        end => return end,
-    }
+fn loose<A: Asks>(alloc: Global, asked: &mut A) -> Result<(), Halt> {
+    works(alloc, asked)?;
+    joins(alloc, asked)?;
     let last = [
         (What::Suspend(0), DONE),
         (What::Join(0), DONE),
@@ -243,9 +203,9 @@ enum Limit {
     Loose,
 }
 
-fn met_by(alloc: Global, limit: Limit) -> End {
+fn met_by(alloc: Global, limit: Limit) -> Result<(), Halt> {
     let Some(mut manager) = opened(alloc) else {
-        return End::Stopped;
+        return Err(Halt::Stopped);
     };
     match limit {
         Limit::Keys => keys(alloc, &mut manager),
@@ -257,9 +217,8 @@ fn met_by(alloc: Global, limit: Limit) -> End {
 
 fn is_met(alloc: Global, limit: Limit) -> bool {
     match met_by(alloc, limit) {
-        End::Whole => true,
-        End::Stopped => met_by(alloc, limit) == End::Whole,
-        End::Wrong => false,
+        Err(Halt::Stopped) => met_by(alloc, limit).is_ok(),
+        end => end.is_ok(),
     }
 }
 
