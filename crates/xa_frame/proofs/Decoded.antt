@@ -38,9 +38,3 @@ wants read e fault (inr p) h s same = sym h ∙ none_of read p.1
 pub memory : {A : Type 0} (r read : Result A FrameFault) (fault : Option FrameFault) → Answers r read → fault_of read ≡ fault → (fault ≡ Some Memory → ⊥) → r ≡ Err Memory → fault ≡ None
 memory (Ok x) read f a h s e = absurd cc
 memory (Err d) read f a h s e = wants read d f a h s (let same : d ≡ Memory = cc in same)
-
--- ---- laws
-
-pub no_fault : {A : Type 0} (read : Result A FrameFault) → fault_of read ≡ None → (x : A) × (read ≡ Ok x)
-no_fault (Ok x) h = (x, refl)
-no_fault (Err e) h = absurd cc

@@ -6,8 +6,9 @@ pub mod BranchReaders
 pub mod StatusReaders
 pub mod Lists
 pub mod Whole
+pub mod Sound
+pub mod Contents
 pub mod Requests
 pub mod Questions
 pub mod Replies
 pub mod Decoded
-pub mod Sound

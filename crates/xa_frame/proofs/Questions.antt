@@ -2,7 +2,6 @@
 use Rattle.std.proofs.Common.{◌≡◌, ◌⊎◌, ℕ, Bool, true, false, cond, eqb, ltb, List, [], ◌∷◌, length, Option, Some, None, inl, inr, refl, sym, ap, subst, ◌∙◌, arith}
 use Rattle.std.proofs.lemmas.List.{nil_from_length}
 use Rattle.xa_bytes.proofs.Digits.{IsBytes}
-use Rattle.xa_fields.proofs.Results.{ok_is}
 use Rattle.xa_codes.specs.declared.call.Call.{Call}
 use Rattle.xa_codes.specs.declared.call.Call.TheVariants as call
 use Rattle.xa_frame.specs.declared.fault.FrameFault.{FrameFault}
@@ -11,14 +10,11 @@ use Rattle.xa_frame.specs.declared.question.Question.{Question}
 use Rattle.xa_frame.specs.declared.question.Question.TheVariants as question
 use Rattle.xa_frame.specs.declared.request.Request.{Request}
 use Rattle.xa_frame.specs.Faults.{fault_in, fault_behind_version, fault_of_operation, fault_of_request}
+use Rattle.xa_frame.specs.Laws.{IsOneSpelling}
 use Rattle.xa_frame.specs.Questions.{SpellsQuestion, fault_behind_operation, fault_of_question}
 use Rattle.xa_frame.specs.Spelling.{operation, call_of, bytes_of_request, SpellsRequest}
-use Rattle.xa_frame.specs.Reading.{request_at}
-use Rattle.xa_frame.proofs.Decoded.{no_fault}
 use Rattle.xa_frame.proofs.Readers.{eqb_true}
-use Rattle.xa_frame.proofs.Requests.{request_takes, request_again, request_fault}
-use Rattle.xa_frame.proofs.Whole.{fault_of}
-use Rattle.xa_frame.proofs.Sound.{request_sound}
+use Rattle.xa_frame.proofs.Requests.{one_request}
 
 -- the version, and the operation that asks for the status
 abbrev pub AsksStatus : List ℕ → List ℕ → Type 0
@@ -106,10 +102,10 @@ by_asking bytes small e (inl (rest, is)) =
     let none = none_left rest (eqb (length rest) 0) refl (sym (status_fault bytes rest is s.0) ∙ e) in
     (question.Status, is ∙ ap (λ (r : List ℕ). 1 ∷ 67 ∷ r) none)
 by_asking bytes small e (inr unasked) =
-    let read = no_fault (request_at bytes) (request_fault bytes ∙ (sym (same_fault bytes unasked) ∙ e)) in
-    (question.Call read.0, request_takes bytes read.0 small read.1)
+    let read = one_request.faultless bytes small (sym (same_fault bytes unasked) ∙ e) in
+    (question.Call read.0, read.1)
 
-pub faultless : (bytes : List ℕ) → IsBytes bytes → fault_of_question bytes ≡ None → (q : Question) × SpellsQuestion bytes q
+faultless : (bytes : List ℕ) → IsBytes bytes → fault_of_question bytes ≡ None → (q : Question) × SpellsQuestion bytes q
 faultless bytes small e = by_asking bytes small e (asks bytes)
 
 long_or_left : (a b : Bool) → cond a (Some Long) (cond b None (Some Trailing)) ≡ Some Memory → ⊥
@@ -119,20 +115,24 @@ long_or_left false false e = absurd cc
 
 sound_by : (bytes : List ℕ) → fault_of_question bytes ≡ Some Memory → ((left : List ℕ) × AsksStatus bytes left) ⊎ ((left : List ℕ) → AsksStatus bytes left → ⊥) → ⊥
 sound_by bytes e (inl (rest, is)) = long_or_left (ltb 65535 (length bytes)) (eqb (length rest) 0) (sym (asked_fault bytes rest is) ∙ e)
-sound_by bytes e (inr unasked) = request_sound bytes (sym (same_fault bytes unasked) ∙ e)
+sound_by bytes e (inr unasked) = one_request.memory bytes (sym (same_fault bytes unasked) ∙ e)
 
-pub question_sound : (bytes : List ℕ) → fault_of_question bytes ≡ Some Memory → ⊥
+question_sound : (bytes : List ℕ) → fault_of_question bytes ≡ Some Memory → ⊥
 question_sound bytes e = sound_by bytes e (asks bytes)
 
-pub spelled : (bytes : List ℕ) (q : Question) → SpellsQuestion bytes q → fault_of_question bytes ≡ None
-spelled bytes (question.Call r) h =
-    same_fault bytes (λ rest is. no_request bytes rest r h is)
-    ∙ (sym (request_fault bytes) ∙ ap fault_of (ap request_at h.bytes_are ∙ request_again r h.limits h.holds))
+spelled : (bytes : List ℕ) (q : Question) → SpellsQuestion bytes q → fault_of_question bytes ≡ None
+spelled bytes (question.Call r) h = same_fault bytes (λ rest is. no_request bytes rest r h is) ∙ one_request.spelled bytes r h
 spelled bytes question.Status h = rw h refl
 
-pub same_question : (bytes : List ℕ) (p q : Question) → SpellsQuestion bytes p → SpellsQuestion bytes q → p ≡ q
-same_question bytes (question.Call r) (question.Call s) h k =
-    ap (λ (x : Request). question.Call x) (ok_is r s (sym (ap request_at h.bytes_are ∙ request_again r h.limits h.holds) ∙ (ap request_at k.bytes_are ∙ request_again s k.limits k.holds)))
+same_question : (bytes : List ℕ) (p q : Question) → SpellsQuestion bytes p → SpellsQuestion bytes q → p ≡ q
+same_question bytes (question.Call r) (question.Call s) h k = ap (λ (x : Request). question.Call x) (one_request.value bytes r s h k)
 same_question bytes (question.Call r) question.Status h k = absurd (no_request bytes [] r h k)
 same_question bytes question.Status (question.Call s) h k = absurd (no_request bytes [] s k h)
 same_question bytes question.Status question.Status h k = refl
+
+same_content : (a b : List ℕ) (q : Question) → SpellsQuestion a q → SpellsQuestion b q → a ≡ b
+same_content a b (question.Call r) h k = one_request.content a b r h k
+same_content a b question.Status h k = h ∙ sym k
+
+pub one_question : IsOneSpelling SpellsQuestion fault_of_question
+one_question = record { value = same_question; content = same_content; spelled = spelled; faultless = faultless; memory = question_sound }

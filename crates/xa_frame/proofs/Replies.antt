@@ -15,23 +15,24 @@ use Rattle.xa_frame.specs.declared.body.Body.TheVariants as body
 use Rattle.xa_frame.specs.declared.reply.Reply.{Reply}
 use Rattle.xa_frame.specs.declared.known_branch.AssociationCounts.{AssociationCounts}
 use Rattle.xa_frame.specs.declared.known_branch.KnownBranch.{KnownBranch}
+use Rattle.xa_frame.specs.Laws.{IsOneSpelling}
 use Rattle.xa_frame.specs.Limits.{IsBody, IsReply, HoldsBranch, HoldsBody, HoldsReply}
-use Rattle.xa_frame.specs.Spelling.{counted_bytes, code_bytes, detail_bytes, state_bytes, counts_bytes, branch_bytes, body_bytes, bytes_of_reply, SpellsReply}
+use Rattle.xa_frame.specs.Spelling.{counted_bytes, code_bytes, detail_bytes, state_bytes, counts_bytes, branch_bytes, body_bytes, bytes_of_reply, Spells, SpellsReply}
 use Rattle.xa_frame.specs.Faults.{After, after_bytes, after_value, after_xid, after_branch, after_counted, after_detail, after_body, go_on, fault_in, fault_of_reply}
 use Rattle.xa_fields.specs.Reading.{◌>>=◌}
-use Rattle.xa_frame.specs.Reading.{Reads, ended, one_of, made, number_at, value_at, name_at, counted_at, branch_at, status_at, code_at, detail_at, body_at, answer_at, versioned_at, reply_at}
+use Rattle.xa_frame.specs.Reading.{Reads, ended, one_of, made, number_at, value_at, name_at, counted_at, branch_at, status_at, code_at, detail_at, body_at, answer_at, reply_at}
 use Rattle.xa_bytes.proofs.Digits.{IsBytes, IsBytes-rest}
 use Rattle.xa_fields.proofs.Results.{bind_ok, ok_is}
 use Rattle.xa_frame.proofs.Readers.{IsField, number64, value, name, counted, AreFew, code, about, eqb_true}
 use Rattle.xa_frame.proofs.BranchReaders.{branch}
 use Rattle.xa_frame.proofs.StatusReaders.{status, status_short}
 use Rattle.xa_frame.proofs.Whole.{fault_of, ended_is, ended_fault, step_fault, one_takes, one_again, one_fault, made_ok, made_fault}
-use Rattle.xa_frame.proofs.Requests.{versioned_is, versioned_again, versioned_fault, name_short}
+use Rattle.xa_frame.proofs.Contents.{IsContent, with_version, one_spelling}
+use Rattle.xa_frame.proofs.Requests.{name_short}
+use Rattle.xa_frame.proofs.Sound.{reply_sound}
 
-record IsBodyOf (bytes : List ℕ) (b : Body) : Type 0 where
-  limits : IsBody b
-  holds : HoldsBody b
-  bytes_are : bytes ≡ body_bytes b
+abbrev IsBodyOf : List ℕ → Body → Type 0
+IsBodyOf = Spells IsBody HoldsBody body_bytes
 
 moved : (k n : ℕ) (text rest : List ℕ) (x b : Body) → IsBodyOf (k ∷ text) x → n ≡ k → rest ≡ text → x ≡ b → IsBodyOf (n ∷ rest) b
 moved k n text rest x b h is e same =
@@ -126,10 +127,8 @@ with_detail z bytes = detail_at bytes >>= λ d. with_place z d.0 d.1
 abbrev answer_bytes : Reply → List ℕ
 answer_bytes r = code_bytes r.code ++ (detail_bytes r.detail ++ (to_be_bytes w64 r.place ++ body_bytes r.body))
 
-record IsAnswer (bytes : List ℕ) (r : Reply) : Type 0 where
-  limits : IsReply r
-  holds : HoldsReply r
-  bytes_are : bytes ≡ answer_bytes r
+abbrev IsAnswer : List ℕ → Reply → Type 0
+IsAnswer = Spells IsReply HoldsReply answer_bytes
 
 answer_takes : (bytes : List ℕ) (r : Reply) → IsBytes bytes → answer_at bytes ≡ Ok r → IsAnswer bytes r
 unfolding answer_at
@@ -147,13 +146,14 @@ answer_takes bytes r small e =
     t.0.parts ∙ ap (λ (s : List ℕ). code_bytes a.0.0 ++ s) (u.0.parts ∙ ap (λ (s : List ℕ). detail_bytes b.0.0 ++ s) (v.0.parts ∙ ap (λ (s : List ℕ). to_be_bytes w64 c.0.0 ++ s) w.bytes_are)) in
     subst (λ (y : Reply). IsAnswer bytes y) (ok_is made r d.2) (record { limits = w.limits; holds = record { code = t.1; place = v.1; body = w.holds }; bytes_are = whole })
 
-answer_again : (r : Reply) → IsReply r → HoldsReply r → answer_at (answer_bytes r) ≡ Ok r
+answer_again : (bytes : List ℕ) (r : Reply) → IsAnswer bytes r → answer_at bytes ≡ Ok r
 unfolding answer_at
-answer_again r h k =
-    ap (λ (s : Result (ℤ × List ℕ) FrameFault). s >>= λ z. with_detail z.0 z.1) (code.again r.code (detail_bytes r.detail ++ (to_be_bytes w64 r.place ++ body_bytes r.body)) k.code)
+answer_again bytes r h =
+    ap answer_at h.bytes_are
+    ∙ ap (λ (s : Result (ℤ × List ℕ) FrameFault). s >>= λ z. with_detail z.0 z.1) (code.again r.code (detail_bytes r.detail ++ (to_be_bytes w64 r.place ++ body_bytes r.body)) h.holds.code)
     ∙ ap (λ (s : Result (Detail × List ℕ) FrameFault). s >>= λ d. with_place r.code d.0 d.1) (about.again r.detail (to_be_bytes w64 r.place ++ body_bytes r.body) tt)
-    ∙ ap (λ (s : Result (ℕ × List ℕ) FrameFault). s >>= λ n. with_body r.code r.detail n.0 n.1) (number64.again r.place (body_bytes r.body) k.place)
-    ∙ ap (λ (s : Result Body FrameFault). s >>= λ b. Ok (record { code = r.code; detail = r.detail; place = r.place; body = b })) (body_again r.body h k.body)
+    ∙ ap (λ (s : Result (ℕ × List ℕ) FrameFault). s >>= λ n. with_body r.code r.detail n.0 n.1) (number64.again r.place (body_bytes r.body) h.holds.place)
+    ∙ ap (λ (s : Result Body FrameFault). s >>= λ b. Ok (record { code = r.code; detail = r.detail; place = r.place; body = b })) (body_again r.body h.limits h.holds.body)
 
 ok_fault : {A B : Type 0} (r : Result A FrameFault) (f : A → B) → fault_of (r >>= λ x. Ok (f x)) ≡ fault_of r
 ok_fault (Ok x) f = refl
@@ -212,20 +212,11 @@ answer_short r h k =
 pub reply_short : (r : Reply) → IsReply r → HoldsReply r → length (bytes_of_reply r) ≤ 65535
 reply_short r h k = omega (arith, answer_short r h k)
 
-pub reply_takes : (bytes : List ℕ) (r : Reply) → IsBytes bytes → reply_at bytes ≡ Ok r → SpellsReply bytes r
+pub replies : IsContent Reply reply_at SpellsReply fault_of_reply
 unfolding reply_at
-reply_takes bytes r small e =
-    let b = bind_ok (versioned_at bytes) answer_at r e in
-    let v = versioned_is bytes b.0 b.1 in
-    let rest_small : IsBytes b.0 = IsBytes-rest 1 b.0 (subst (λ (s : List ℕ). IsBytes s) v small) in
-    let t = answer_takes b.0 r rest_small b.2 in
-    record { limits = t.limits; holds = t.holds; bytes_are = v ∙ ap (λ (s : List ℕ). 1 ∷ s) t.bytes_are }
+replies =
+    let behind : IsContent Reply answer_at IsAnswer (fault_in (after_bytes 4 ∷ after_detail ∷ after_bytes 8 ∷ after_body ∷ [])) = record { takes = answer_takes; again = answer_again; fault = answer_fault } in
+    with_version behind answer_short
 
-pub reply_again : (r : Reply) → IsReply r → HoldsReply r → reply_at (bytes_of_reply r) ≡ Ok r
-unfolding reply_at
-reply_again r h k =
-    ap (λ (s : Result (List ℕ) FrameFault). s >>= answer_at) (versioned_again (answer_bytes r) (answer_short r h k)) ∙ answer_again r h k
-
-pub reply_fault : (bytes : List ℕ) → fault_of (reply_at bytes) ≡ fault_of_reply bytes
-unfolding reply_at
-reply_fault bytes = versioned_fault answer_at (fault_in (after_bytes 4 ∷ after_detail ∷ after_bytes 8 ∷ after_body ∷ [])) answer_fault bytes
+pub one_reply : IsOneSpelling SpellsReply fault_of_reply
+one_reply = one_spelling replies reply_sound

@@ -1,27 +1,24 @@
 -- What is read is a request's content, a request's content is read again, and which fault the others have.
-use Rattle.std.proofs.Common.{◌≡◌, ℕ, ◌+◌, ◌≤◌, Bool, true, false, cond, eqb, ltb, List, [], ◌∷◌, ◌++◌, length, Option, Some, None, Result, Ok, Err, refl, sym, ap, subst, ◌∙◌, arith}
+use Rattle.std.proofs.Common.{◌≡◌, ℕ, ◌+◌, ◌≤◌, eqb, List, [], ◌∷◌, ◌++◌, length, Option, Some, None, Ok, refl, sym, ap, subst, ◌∙◌, arith}
 use Rattle.std.specs.Int.{w16, w32, w64, to_be_bytes}
-use Rattle.std.proofs.lemmas.Bool.{le-ltb}
 use Rattle.std.proofs.lemmas.List.{length-append}
 use Rattle.xa_codes.specs.declared.call.Call.{Call}
 use Rattle.xa_codes.specs.declared.call.Call.TheVariants as call
 use Rattle.xa_xid.specs.Triple.{Triple, IsWithinLimits}
 use Rattle.xa_xid.specs.Spelling.{bytes_of}
-use Rattle.xa_frame.specs.declared.fault.FrameFault.{FrameFault}
-use Rattle.xa_frame.specs.declared.fault.FrameFault.TheVariants.{Long, Version}
 use Rattle.xa_limits.specs.declared.TheConstants.{MOST_KEY, MOST_VALUE}
 use Rattle.xa_frame.specs.declared.request.Request.{Request}
 use Rattle.xa_frame.specs.declared.request.Request.TheVariants as request
+use Rattle.xa_frame.specs.Laws.{IsOneSpelling}
 use Rattle.xa_frame.specs.Limits.{IsRequest, Holds, HoldsCursor}
 use Rattle.xa_fields.specs.Spelling.{short_bytes, value_bytes, direction_bytes}
-use Rattle.xa_frame.specs.Spelling.{operation, calls, numbered, call_of, cursor_bytes, fields_bytes, bytes_of_request, SpellsRequest}
-use Rattle.xa_frame.specs.Faults.{After, fault_in, fields, fault_of_fields, fault_of_operation, fault_behind_version, fault_of_request}
-use Rattle.xa_fields.specs.Reading.{◌>>=◌}
-use Rattle.xa_frame.specs.Reading.{Reads, one_of, two_of, made, number_at, info_at, key_at, value_at, direction_at, name_at, cursor_at, fields_at, fields_of, operation_at, behind_version, versioned_at, request_at}
+use Rattle.xa_frame.specs.Spelling.{operation, calls, numbered, call_of, cursor_bytes, fields_bytes, Spells, SpellsRequest}
+use Rattle.xa_frame.specs.Faults.{After, fault_in, fields, fault_of_fields, fault_of_operation, fault_of_request}
+use Rattle.xa_frame.specs.Reading.{Reads, one_of, two_of, made, number_at, info_at, key_at, value_at, direction_at, name_at, cursor_at, fields_at, fields_of, operation_at, request_at}
 use Rattle.xa_bytes.proofs.Digits.{IsBytes, IsBytes-rest}
-use Rattle.xa_fields.proofs.Results.{bind_ok, guard_ok, ok_is}
-use Rattle.xa_frame.proofs.Digits.{done}
 use Rattle.xa_frame.proofs.Readers.{IsField, number32, number64, info, key, value, direction, name, cursor, found_holds, eqb_true}
+use Rattle.xa_frame.proofs.Contents.{IsContent, with_version, one_spelling}
+use Rattle.xa_frame.proofs.Sound.{request_sound}
 use Rattle.xa_frame.proofs.Whole.{fault_of, ended_is, ended_fault, one_takes, one_again, one_fault, two_takes, two_again, two_fault, made_ok, made_fault}
 
 -- these bytes are the fields of this request, which is of this call
@@ -142,10 +139,12 @@ numbered_again call.Tick = refl
 numbered_again call.Trim = refl
 numbered_again call.Branches = refl
 
-record IsOperation (bytes : List ℕ) (r : Request) : Type 0 where
-  limits : IsRequest r
-  holds : Holds r
-  bytes_are : bytes ≡ operation (call_of r) ∷ fields_bytes r
+-- the operation, the fields
+abbrev operation_bytes : Request → List ℕ
+operation_bytes r = operation (call_of r) ∷ fields_bytes r
+
+abbrev IsOperation : List ℕ → Request → Type 0
+IsOperation = Spells IsRequest Holds operation_bytes
 
 operation_found : (n : ℕ) (o : Option Call) (bytes : List ℕ) (r : Request) → IsBytes bytes → numbered n ≡ o → fields_of o bytes ≡ Ok r → IsOperation (n ∷ bytes) r
 operation_found n None bytes r small h e = absurd cc
@@ -163,9 +162,10 @@ unfolding operation_at
 operation_takes [] r small e = absurd cc
 operation_takes (n ∷ bytes) r small e = operation_found n (numbered n) bytes r (IsBytes-rest n bytes small) refl e
 
-operation_again : (r : Request) → IsRequest r → Holds r → operation_at (operation (call_of r) ∷ fields_bytes r) ≡ Ok r
+operation_again : (bytes : List ℕ) (r : Request) → IsOperation bytes r → operation_at bytes ≡ Ok r
 unfolding operation_at
-operation_again r h k = ap (λ (o : Option Call). fields_of o (fields_bytes r)) (numbered_again (call_of r)) ∙ fields_again r h k
+operation_again bytes r h =
+    ap operation_at h.bytes_are ∙ ap (λ (o : Option Call). fields_of o (fields_bytes r)) (numbered_again (call_of r)) ∙ fields_again r h.limits h.holds
 
 fields_of_fault : (o : Option Call) (bytes : List ℕ) → fault_of (fields_of o bytes) ≡ fault_of_fields o bytes
 fields_of_fault None bytes = refl
@@ -175,51 +175,6 @@ operation_fault : (bytes : List ℕ) → fault_of (operation_at bytes) ≡ fault
 unfolding operation_at
 operation_fault [] = refl
 operation_fault (n ∷ bytes) = fields_of_fault (numbered n) bytes
-
--- ---- the version
-
-version_tested : (v : ℕ) (b : Bool) (bytes rest : List ℕ) → eqb v 1 ≡ b → cond b (done bytes) (Err Version) ≡ Ok rest → v ∷ bytes ≡ 1 ∷ rest
-version_tested v true bytes rest h e =
-    let v-is : v ≡ 1 = eqb_true v 1 h in
-    let same : bytes ≡ rest = ok_is bytes rest e in
-    cc (v-is, same)
-version_tested v false bytes rest h e = absurd cc
-
-version_is : (bytes rest : List ℕ) → behind_version bytes ≡ Ok rest → bytes ≡ 1 ∷ rest
-version_is [] rest e = absurd cc
-version_is (v ∷ bytes) rest e = version_tested v (eqb v 1) bytes rest refl e
-
-pub versioned_is : (bytes rest : List ℕ) → versioned_at bytes ≡ Ok rest → bytes ≡ 1 ∷ rest
-unfolding versioned_at
-versioned_is bytes rest e =
-    let g = guard_ok (ltb 65535 (length bytes)) Long (behind_version bytes) rest e in
-    version_is bytes rest g.1
-
-pub versioned_again : (rest : List ℕ) → length rest ≤ 65534 → versioned_at (1 ∷ rest) ≡ Ok rest
-unfolding versioned_at
-versioned_again rest le =
-    let short : ltb 65535 (length (1 ∷ rest)) ≡ false = le-ltb 65535 (length (1 ∷ rest)) (omega (arith, le)) in
-    rw short refl
-
-behind_fault : {A : Type 0} (b : Bool) (rest : List ℕ) (f : List ℕ → Result A FrameFault) (g : List ℕ → Option FrameFault) → fault_of (f rest) ≡ g rest
-    → fault_of (cond b (done rest) (Err Version) >>= f) ≡ cond b (g rest) (Some Version)
-behind_fault true rest f g e = e
-behind_fault false rest f g e = refl
-
-long_fault : {A : Type 0} (b : Bool) (r : Result (List ℕ) FrameFault) (f : List ℕ → Result A FrameFault) (o : Option FrameFault) → fault_of (r >>= f) ≡ o
-    → fault_of (cond b (Err Long) r >>= f) ≡ cond b (Some Long) o
-long_fault true r f o e = refl
-long_fault false r f o e = e
-
-version_fault : {A : Type 0} (f : List ℕ → Result A FrameFault) (g : List ℕ → Option FrameFault) → ((rest : List ℕ) → fault_of (f rest) ≡ g rest) → (bytes : List ℕ)
-    → fault_of (behind_version bytes >>= f) ≡ fault_behind_version g bytes
-version_fault f g h [] = refl
-version_fault f g h (v ∷ rest) = behind_fault (eqb v 1) rest f g (h rest)
-
-pub versioned_fault : {A : Type 0} (f : List ℕ → Result A FrameFault) (g : List ℕ → Option FrameFault) → ((rest : List ℕ) → fault_of (f rest) ≡ g rest) → (bytes : List ℕ)
-    → fault_of (versioned_at bytes >>= f) ≡ cond (ltb 65535 (length bytes)) (Some Long) (fault_behind_version g bytes)
-unfolding versioned_at
-versioned_fault f g h bytes = long_fault (ltb 65535 (length bytes)) (behind_version bytes) f (fault_behind_version g bytes) (version_fault f g h bytes)
 
 -- ---- the whole
 
@@ -255,22 +210,11 @@ fields_short (request.Tick moment) h k = omega arith
 fields_short request.Trim h k = omega arith
 fields_short (request.Branches count after) h k = omega (arith, cursor_short after k.1, length-append (to_be_bytes w32 count) (cursor_bytes after))
 
-pub request_takes : (bytes : List ℕ) (r : Request) → IsBytes bytes → request_at bytes ≡ Ok r → SpellsRequest bytes r
+pub requests : IsContent Request request_at SpellsRequest fault_of_request
 unfolding request_at
-request_takes bytes r small e =
-    let b = bind_ok (versioned_at bytes) operation_at r e in
-    let v = versioned_is bytes b.0 b.1 in
-    let rest_small : IsBytes b.0 = IsBytes-rest 1 b.0 (subst (λ (s : List ℕ). IsBytes s) v small) in
-    let t = operation_takes b.0 r rest_small b.2 in
-    record { limits = t.limits; holds = t.holds; bytes_are = v ∙ ap (λ (s : List ℕ). 1 ∷ s) t.bytes_are }
+requests =
+    let behind : IsContent Request operation_at IsOperation fault_of_operation = record { takes = operation_takes; again = operation_again; fault = operation_fault } in
+    with_version behind (λ r h k. omega (arith, fields_short r h k))
 
-pub request_again : (r : Request) → IsRequest r → Holds r → request_at (bytes_of_request r) ≡ Ok r
-unfolding request_at
-request_again r h k =
-    let short = fields_short r h k in
-    let v : versioned_at (bytes_of_request r) ≡ Ok (operation (call_of r) ∷ fields_bytes r) = versioned_again (operation (call_of r) ∷ fields_bytes r) (omega (arith, short)) in
-    ap (λ (s : Result (List ℕ) FrameFault). s >>= operation_at) v ∙ operation_again r h k
-
-pub request_fault : (bytes : List ℕ) → fault_of (request_at bytes) ≡ fault_of_request bytes
-unfolding request_at
-request_fault bytes = versioned_fault operation_at fault_of_operation operation_fault bytes
+pub one_request : IsOneSpelling SpellsRequest fault_of_request
+one_request = one_spelling requests request_sound

@@ -6,4 +6,5 @@ pub mod Fields
 pub mod Reading
 pub mod Questions
 pub mod Answers
+pub mod Laws
 pub mod Rows

@@ -188,14 +188,14 @@ abbrev pub bytes_of_reply : Reply → List ℕ
 bytes_of_reply r =
     1 ∷ (code_bytes r.code ++ (detail_bytes r.detail ++ (to_be_bytes w64 r.place ++ body_bytes r.body)))
 
--- these bytes are the content of this request
-pub record SpellsRequest (bytes : List ℕ) (r : Request) : Type 0 where
-  pub limits : IsRequest r
-  pub holds : Holds r
-  pub bytes_are : bytes ≡ bytes_of_request r
+-- these bytes are the content of this value, which is within the limits
+pub record Spells {A : Type 0} (IsLimited Fits : A → Type 0) (spell : A → List ℕ) (bytes : List ℕ) (x : A) : Type 0 where
+  pub limits : IsLimited x
+  pub holds : Fits x
+  pub bytes_are : bytes ≡ spell x
 
--- these bytes are the content of this reply
-pub record SpellsReply (bytes : List ℕ) (r : Reply) : Type 0 where
-  pub limits : IsReply r
-  pub holds : HoldsReply r
-  pub bytes_are : bytes ≡ bytes_of_reply r
+abbrev pub SpellsRequest : List ℕ → Request → Type 0
+SpellsRequest = Spells IsRequest Holds bytes_of_request
+
+abbrev pub SpellsReply : List ℕ → Reply → Type 0
+SpellsReply = Spells IsReply HoldsReply bytes_of_reply

@@ -1,22 +1,21 @@
-use Rattle.std.proofs.Common.{◌∙◌, ap, arith}
+use Rattle.std.proofs.Common.{arith}
 use Rattle.xa_frame.specs.Reading.{reply_at}
 use Rattle.xa_frame.specs.Faults.{fault_of_reply}
 use Rattle.xa_frame.specs.Spelling.{SpellsReply}
 use Rattle.xa_frame.proofs.Decoded.{found, only, fault, memory}
-use Rattle.xa_frame.proofs.Replies.{reply_takes, reply_again, reply_fault}
-use Rattle.xa_frame.proofs.Sound.{reply_sound}
+use Rattle.xa_frame.proofs.Replies.{replies, one_reply}
 use Rattle.xa_frame.proofs.reply_decoder.decode_reply.Goals as goal
 
 pub returns-clause-found : goal.returns-clause-found
 returns-clause-found c =
     found c.whole.result (reply_at c.args.content.now) (SpellsReply c.args.content.now) c.whole.ensures
-    (λ r e. reply_takes c.args.content.now r (λ i. omega (arith, c.type_inv.content i)) e)
+    (λ r e. replies.takes c.args.content.now r (λ i. omega (arith, c.type_inv.content i)) e)
 
 pub returns-clause-only : goal.returns-clause-only
-returns-clause-only c r h = only c.whole.result (reply_at c.args.content.now) r c.whole.ensures (ap reply_at h.bytes_are ∙ reply_again r h.limits h.holds)
+returns-clause-only c r h = only c.whole.result (reply_at c.args.content.now) r c.whole.ensures (replies.again c.args.content.now r h)
 
 pub returns-clause-fault : goal.returns-clause-fault
-returns-clause-fault c = fault c.whole.result (reply_at c.args.content.now) (fault_of_reply c.args.content.now) c.whole.ensures (reply_fault c.args.content.now)
+returns-clause-fault c = fault c.whole.result (reply_at c.args.content.now) (fault_of_reply c.args.content.now) c.whole.ensures (replies.fault c.args.content.now)
 
 pub returns-clause-memory : goal.returns-clause-memory
-returns-clause-memory c = memory c.whole.result (reply_at c.args.content.now) (fault_of_reply c.args.content.now) c.whole.ensures (reply_fault c.args.content.now) (reply_sound c.args.content.now)
+returns-clause-memory c = memory c.whole.result (reply_at c.args.content.now) (fault_of_reply c.args.content.now) c.whole.ensures (replies.fault c.args.content.now) (one_reply.memory c.args.content.now)
