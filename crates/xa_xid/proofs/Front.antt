@@ -4,7 +4,7 @@ use Rattle.std.specs.Ordering.{int_eq}
 use Rattle.std.specs.Prelude.{option_map, IfSome}
 use Rattle.std.specs.Result.{result_ok}
 use Rattle.std.specs.Int.{from_be_bytes, to_be_bytes, cast_signed, cast_unsigned}
-use Rattle.std.proofs.lemmas.Bool.{ltb-false, le-ltb}
+use Rattle.std.proofs.lemmas.Bool.{ltb-false, le-ltb, or_parts, or_from}
 use Rattle.std.proofs.lemmas.Bool.Decides.{Decides-int_eq, nat_tests}
 use Rattle.std.proofs.lemmas.Int.{to_z-of_z, of_z-to_z}
 use Rattle.std.proofs.lemmas.List.{take_at, drop_at, take-take, drop-take, take-append-drop, append_cancel_left, length-append, length-take, length-drop}
@@ -23,14 +23,6 @@ not_true : (b : Bool) → (b ≡ true → ⊥) → b ≡ false
 not_true true h = absurd (h refl)
 not_true false h = refl
 
-or_false : (a b : Bool) → (a || b) ≡ false → (a ≡ false) × (b ≡ false)
-or_false true b e = absurd cc
-or_false false b e = (refl, e)
-
-both_false : (a b : Bool) → a ≡ false → b ≡ false → (a || b) ≡ false
-both_false true b e f = e
-both_false false b e f = f
-
 fault_free : (a b c : Bool) (v x : Triple) → cond a (Err Null) (cond b (Err GtridLength) (cond c (Err BqualLength) (Ok v))) ≡ Ok x → (a ≡ false) × (b ≡ false) × (c ≡ false) × (v ≡ x)
 fault_free true b c v x e = absurd cc
 fault_free false true c v x e = absurd cc
@@ -47,7 +39,7 @@ false_eqb n e = grind (arith, nat_tests)
 pub xid_of_limits : (x : Triple) → IsXid x.format x.gtrid x.bqual → xid_of x.format x.gtrid x.bqual ≡ Ok x
 xid_of_limits x h =
     let n : int_eq x.format (negsuc 0) ≡ false = not_true (int_eq x.format (negsuc 0)) (λ t. h.0 ((Decides-int_eq x.format (negsuc 0)).0 t)) in
-    let g : (eqb (length x.gtrid) 0 || ltb 64 (length x.gtrid)) ≡ false = both_false (eqb (length x.gtrid) 0) (ltb 64 (length x.gtrid)) (eqb_false (length x.gtrid) h.1) (le-ltb 64 (length x.gtrid) h.2) in
+    let g : (eqb (length x.gtrid) 0 || ltb 64 (length x.gtrid)) ≡ false = or_from (eqb (length x.gtrid) 0) (ltb 64 (length x.gtrid)) (eqb_false (length x.gtrid) h.1) (le-ltb 64 (length x.gtrid) h.2) in
     let b : ltb 64 (length x.bqual) ≡ false = le-ltb 64 (length x.bqual) h.3 in
     rw (n, g, b) refl
 
@@ -55,7 +47,7 @@ xid_of_limits x h =
 pub limits_of_xid : (format : ℤ) (gtrid bqual : List ℕ) (x : Triple) → xid_of format gtrid bqual ≡ Ok x → IsXid format gtrid bqual × (record { format = format; gtrid = gtrid; bqual = bqual } ≡ x)
 limits_of_xid format gtrid bqual x e =
     let t = fault_free (int_eq format (negsuc 0)) (eqb (length gtrid) 0 || ltb 64 (length gtrid)) (ltb 64 (length bqual)) (record { format = format; gtrid = gtrid; bqual = bqual }) x e in
-    let g = or_false (eqb (length gtrid) 0) (ltb 64 (length gtrid)) t.1 in
+    let g = or_parts (eqb (length gtrid) 0) (ltb 64 (length gtrid)) t.1 in
     let apart : format ≡ negsuc 0 → ⊥ = λ same. absurd (let both : true ≡ false = sym ((Decides-int_eq format (negsuc 0)).1 same) ∙ t.0 in cc) in
     ((apart, false_eqb (length gtrid) g.0, ltb-false 64 (length gtrid) g.1, ltb-false 64 (length bqual) t.2), t.3)
 
