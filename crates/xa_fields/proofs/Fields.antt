@@ -2,7 +2,7 @@
 use Rattle.std.proofs.Common.{◌≡◌, ℕ, ◌%◌, ◌^◌, ◌<◌, ◌≤◌, Bool, true, false, cond, ltb, eqb, ◌||◌, List, [], ◌∷◌, ◌++◌, length, take, drop, Option, Some, None, Result, Ok, Err, refl, sym, ap, subst, ◌∙◌, arith}
 use Rattle.std.specs.Int.{w16, to_be_bytes}
 use Rattle.std.specs.Option.{ok_or}
-use Rattle.std.proofs.lemmas.Bool.{ltb-false, le-ltb}
+use Rattle.std.proofs.lemmas.Bool.{ltb-false, le-ltb, or_parts, or_from}
 use Rattle.std.proofs.lemmas.Bool.Decides.{nat_tests}
 use Rattle.std.proofs.lemmas.List.{take_at, drop_at, take-append-drop, length-append, length-take}
 use Rattle.xa_bytes.specs.Numbers.{number_at}
@@ -74,14 +74,6 @@ short = record { found = short_found; again = short_again }
 
 -- ---- a key
 
-or_false : (a b : Bool) → (a || b) ≡ false → (a ≡ false) × (b ≡ false)
-or_false true b e = absurd cc
-or_false false b e = (refl, e)
-
-both_false : (a b : Bool) → a ≡ false → b ≡ false → (a || b) ≡ false
-both_false true b e f = e
-both_false false b e f = f
-
 eqb_false : (n : ℕ) → 1 ≤ n → eqb n 0 ≡ false
 eqb_false n h = grind (arith, nat_tests)
 
@@ -93,7 +85,7 @@ unfolding key_at
 key_found [] text rest small e = absurd cc
 key_found (n ∷ bytes) text rest small e =
     let g = guard_ok (eqb n 0 || ltb 64 n) Limit (bytes_at n bytes) (text, rest) e in
-    let t = or_false (eqb n 0) (ltb 64 n) g.0 in
+    let t = or_parts (eqb n 0) (ltb 64 n) g.0 in
     let f = short_is n bytes text rest (small 0) g.1 in
     let low : 1 ≤ n = false_eqb n t.0 in
     let high : n ≤ 64 = ltb-false 64 n t.1 in
@@ -103,7 +95,7 @@ key_again : (text rest : List ℕ) → IsKey text → key_at (short_bytes text +
 unfolding key_at
 key_again text rest h =
     let low : length text % 256 ≡ length text = omega (arith, h.1) in
-    let t : (eqb (length text) 0 || ltb 64 (length text)) ≡ false = both_false _ _ (eqb_false (length text) h.0) (le-ltb 64 (length text) h.1) in
+    let t : (eqb (length text) 0 || ltb 64 (length text)) ≡ false = or_from _ _ (eqb_false (length text) h.0) (le-ltb 64 (length text) h.1) in
     rw (low, t) (bytes_again text rest)
 
 pub key : ReadsBack (List ℕ) key_at short_bytes IsKey
