@@ -7,7 +7,8 @@
 //! - `call`: `Call`, the nineteen calls of a session
 //! - `detail`: `Detail`, what a refusal is about, beside its code
 //! - `direction`: `Direction`, how a branch is to end
-//! - `bytes`: `Bytes`, a byte string that contracts see as a list; `write`: `Write`, what a branch leaves at a key
+//! - `listing`: `Listing`, values that contracts see as a list; `bytes`: `Bytes`, a byte string that they see so;
+//!   `write`: `Write`, what a branch leaves at a key
 //!
 //! docs/PROTOCOL.md says what codes and flags mean.
 #![tactic(auto)]
@@ -18,6 +19,7 @@ mod codes;
 mod detail;
 mod direction;
 mod flags;
+mod listing;
 mod names;
 mod write;
 
@@ -35,5 +37,6 @@ pub use flags::{
     TMASYNC, TMENDRSCAN, TMFAIL, TMJOIN, TMMIGRATE, TMMULTIPLE, TMNOFLAGS, TMNOWAIT, TMONEPHASE,
     TMRESUME, TMSTARTRSCAN, TMSUCCESS, TMSUSPEND, legal_flags, worked_flags,
 };
+pub use listing::Listing;
 pub use names::code_name;
 pub use write::Write;
