@@ -1,7 +1,11 @@
-use crate::known_branches::KnownBranches;
+use crate::known_branch::KnownBranch;
 use crate::status::Status;
-use crate::xids::Xids;
-use xa_codes::Bytes;
+use xa_codes::{Bytes, Listing};
+use xa_xid::Xid;
+
+pub type Xids = Listing<Xid>;
+
+pub type KnownBranches = Listing<KnownBranch>;
 
 /// What a reply carries beside its code. A value has at most `MOST_VALUE` bytes; there are at most `MOST_XIDS` XIDs or
 /// branches.

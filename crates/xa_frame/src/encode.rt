@@ -1,12 +1,11 @@
-ghost use Rattle.std.specs.Prelude.{◌≡◌, ◌++◌, flat_map, All, IfOk, OnOk};
+ghost use Rattle.std.specs.Prelude.{◌≡◌, ◌++◌, All, IfOk, OnOk};
 ghost use Rattle.xa_frame.specs.Limits.{IsRequest, IsBody, IsReply, Holds, HoldsCursor, HoldsCounts, HoldsBranch, HoldsBody, HoldsReply};
-ghost use Rattle.xa_frame.specs.Spelling.{cursor_bytes, fields_bytes, counts_bytes, branch_bytes};
+ghost use Rattle.xa_frame.specs.Spelling.{cursor_bytes, fields_bytes, counted_bytes, counts_bytes, branch_bytes};
 ghost use Rattle.xa_frame.specs.Spelling.{body_bytes, bytes_of_reply, SpellsRequest, SpellsReply};
-ghost use Rattle.xa_xid.specs.Spelling.{bytes_of};
-ghost use Rattle.xa_xid.specs.Triple.{IsWithinLimits};
 
 use crate::body::Body;
 use crate::known_branch::{AssociationCounts, KnownBranch};
+use crate::listed::Listed;
 use crate::numbers::{detail_number, operation_of, state_number};
 use crate::reply::Reply;
 use crate::request::Request;
@@ -107,12 +106,13 @@ pub fn encode_request(alloc: Global, request: &Request) -> Result<Vec<u8>, Alloc
     Ok(content)
 }
 
-fn put_names(out: &mut Vec<u8>, xids: &[Xid]) -> Result<(), AllocError>
-    ensures bytes { OnOk result (out.new.items ≡ out.old.items ++ flat_map bytes_of xids.now) }
-    ensures limits { OnOk result (All IsWithinLimits xids.now) }
+fn put_list<T: Listed>(out: &mut Vec<u8>, list: &[T]) -> Result<(), AllocError>
+    ensures bytes { OnOk result (out.new.items ≡ out.old.items ++ counted_bytes T.spell list.now) }
+    ensures holds { OnOk result (All T.fits list.now) }
 {
-    for xid in xids {
-        put_xid(out, xid)?;
+    put_length(out, list.len())?;
+    for item in list {
+        item.put(out)?;
     }
     Ok(())
 }
@@ -126,7 +126,7 @@ fn put_counts(out: &mut Vec<u8>, counts: AssociationCounts) -> Result<(), AllocE
     put_u16(out, counts.loose)
 }
 
-fn put_branch(out: &mut Vec<u8>, branch: &KnownBranch) -> Result<(), AllocError>
+pub(crate) fn put_branch(out: &mut Vec<u8>, branch: &KnownBranch) -> Result<(), AllocError>
     ensures bytes { OnOk result (out.new.items ≡ out.old.items ++ branch_bytes branch.now) }
     ensures holds { OnOk result (HoldsBranch branch.now) }
 {
@@ -135,16 +135,6 @@ fn put_branch(out: &mut Vec<u8>, branch: &KnownBranch) -> Result<(), AllocError>
     out.extend_from_slice(&branch.mark.to_be_bytes())?;
     put_u64(out, branch.timestamp)?;
     put_counts(out, branch.associations)?;
-    Ok(())
-}
-
-fn put_branches(out: &mut Vec<u8>, branches: &[KnownBranch]) -> Result<(), AllocError>
-    ensures bytes { OnOk result (out.new.items ≡ out.old.items ++ flat_map branch_bytes branches.now) }
-    ensures holds { OnOk result (All HoldsBranch branches.now) }
-{
-    for branch in branches {
-        put_branch(out, branch)?;
-    }
     Ok(())
 }
 
@@ -164,16 +154,12 @@ fn put_body(out: &mut Vec<u8>, body: &Body) -> Result<(), AllocError>
         }
         Body::Absent => Ok(out.push(3)?),
         Body::Xids(xids) => {
-            let xids = xids.as_slice();
             out.push(4)?;
-            put_length(out, xids.len())?;
-            put_names(out, xids)
+            put_list(out, xids.as_slice())
         }
         Body::Branches(branches) => {
-            let branches = branches.as_slice();
             out.push(5)?;
-            put_length(out, branches.len())?;
-            put_branches(out, branches)
+            put_list(out, branches.as_slice())
         }
         Body::Status(status) => {
             out.push(6)?;

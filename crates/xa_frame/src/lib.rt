@@ -4,9 +4,8 @@
 //! The values:
 //!
 //! - `request`: `Request`, with what each call is given
-//! - `reply`: `Reply`; `body`: `Body`, what a reply carries; `xids`: `Xids`, that contracts see as a list
-//! - `known_branch`: `KnownBranch`, what is told of a branch, with its `BranchState` and `AssociationCounts`;
-//!   `known_branches`: `KnownBranches`, that contracts see as a list
+//! - `reply`: `Reply`; `body`: `Body`, what a reply carries
+//! - `known_branch`: `KnownBranch`, what is told of a branch, with its `BranchState` and `AssociationCounts`
 //! - `question`: `Question`, a request or a question for the status; `status`: `Status`, how a server is doing
 //! - `making`: `Reply::plain`, `detailed`, `carrying` and `bad_frame`; `copying`: `Request::copied` and
 //!   `KnownBranch::copied`, and `hold`, what a request's parts hold
@@ -17,6 +16,7 @@
 //! - `encode`: `encode_request`, `encode_reply` and `put_reply`, of values within the limits
 //! - `fields`: what a content is made of, read from the front: numbers, codes, details, known branches; keys, values and
 //!   XIDs are `xa_fields`'
+//! - `listed`: `Listed`, what a reply lists: XIDs, known branches
 //! - `request_decoder`: `decode_request`; `reply_decoder`: `decode_reply`; `question`: `decode_question`, of all that may
 //!   stand in a frame, and `encode_question`
 //! - `fault`: `FrameFault`, the first fault of a content, read from left to right
@@ -32,8 +32,8 @@ mod encode;
 mod fault;
 mod fields;
 mod known_branch;
-mod known_branches;
 mod laws;
+mod listed;
 mod making;
 mod numbers;
 mod question;
@@ -42,13 +42,11 @@ mod reply_decoder;
 mod request;
 mod request_decoder;
 mod status;
-mod xids;
 
-pub use body::Body;
+pub use body::{Body, KnownBranches, Xids};
 pub use encode::{encode_reply, encode_request, put_reply};
 pub use fault::FrameFault;
 pub use known_branch::{AssociationCounts, BranchState, KnownBranch};
-pub use known_branches::KnownBranches;
 pub use laws::{one_question, one_reply, one_request, worked_contents};
 pub use question::{Question, decode_question, encode_question};
 pub use reply::Reply;
@@ -56,4 +54,3 @@ pub use reply_decoder::decode_reply;
 pub use request::Request;
 pub use request_decoder::decode_request;
 pub use status::Status;
-pub use xids::Xids;

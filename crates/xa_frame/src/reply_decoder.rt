@@ -6,20 +6,19 @@ ghost use Rattle.xa_frame.specs.declared.fault.FrameFault.TheVariants.{Memory};
 ghost use Rattle.xa_frame.specs.declared.reply.Reply.{Reply};
 ghost use Rattle.xa_frame.specs.Spelling.{SpellsReply};
 ghost use Rattle.xa_frame.specs.Faults.{fault_of_reply};
-ghost use Rattle.xa_frame.specs.Reading.{made, one_of, rest_of, value_of_first, number_at, value_at, name_at};
-ghost use Rattle.xa_frame.specs.Reading.{each_at, counted_at, branch_at, status_at, body_at, answer_at, reply_at};
+ghost use Rattle.xa_frame.specs.Reading.{made, one_of, rest_of, value_of_first, number_at, value_at};
+ghost use Rattle.xa_frame.specs.Reading.{each_at, counted_at, status_at, body_at, answer_at, reply_at};
 
 use crate::body::Body;
 use crate::fault::FrameFault;
-use crate::fields::{branch_front, code_of, detail_front, end, u16_at, u64_at};
-use crate::known_branches::KnownBranches;
+use crate::fields::{code_of, detail_front, end, u16_at, u64_at};
+use crate::listed::Listed;
 use crate::reply::Reply;
 use crate::request_decoder::versioned;
 use crate::status::{Status, status_front};
-use crate::xids::Xids;
 use std::alloc::Global;
-use xa_codes::Bytes;
-use xa_fields::{take_value, take_xid};
+use xa_codes::{Bytes, Listing};
+use xa_fields::take_value;
 use xa_limits::MOST_XIDS;
 
 fn number_alone(bytes: &[u8]) -> Result<u64, FrameFault>
@@ -38,82 +37,47 @@ fn value_alone(bytes: &[u8]) -> Result<&[u8], FrameFault>
     Ok(value)
 }
 
-/// What stands behind so many XIDs.
-fn behind_names(count: u16, bytes: &[u8]) -> Result<&[u8], FrameFault>
-    ensures { Gives (λ x. x.now) result (rest_of (each_at name_at count bytes.now)) }
+/// What stands behind so many.
+fn behind<T: Listed + Drop>(count: u16, bytes: &[u8]) -> Result<&[u8], FrameFault>
+    ensures { Gives (λ x. x.now) result (rest_of (each_at T.at count bytes.now)) }
 {
     let mut rest = bytes;
     for _ in 0..count {
-        let (_, after) = take_xid(rest)?;
+        let (_, after) = T::take_front(rest)?;
         rest = after;
     }
     Ok(rest)
 }
 
-/// So many XIDs, which stand there.
-fn names_of(alloc: Global, count: u16, bytes: &[u8]) -> Result<Xids, FrameFault>
-    requires { IsOk (each_at name_at count bytes.now) }
-    ensures { Answers result (value_of_first (each_at name_at count bytes.now)) }
+/// So many, which stand there.
+fn list_of<T: Listed + Drop>(
+    alloc: Global,
+    count: u16,
+    bytes: &[u8],
+) -> Result<Listing<T>, FrameFault>
+    requires { IsOk (each_at T.at count bytes.now) }
+    ensures { Answers result (value_of_first (each_at T.at count bytes.now)) }
 {
-    let mut xids = Vec::with_capacity(alloc, usize::from(count))?;
+    let mut list = Vec::with_capacity(alloc, usize::from(count))?;
     let mut rest = bytes;
     for _ in 0..count {
-        let (xid, after) = take_xid(rest)?;
-        xids.push(xid)?;
+        let (item, after) = T::take_front(rest)?;
+        list.push(item)?;
         rest = after;
     }
-    Ok(Xids::new(xids))
+    Ok(Listing::new(list))
 }
 
 #[tactic(auto, unfolding(crate::specs::Reading::counted_at))]
-fn xids_alone(alloc: Global, bytes: &[u8]) -> Result<Xids, FrameFault>
-    ensures { Answers result (one_of (counted_at name_at) bytes.now) }
+fn list_alone<T: Listed + Drop>(alloc: Global, bytes: &[u8]) -> Result<Listing<T>, FrameFault>
+    ensures { Answers result (one_of (counted_at T.at) bytes.now) }
 {
-    let (count, names) = u16_at(bytes)?;
+    let (count, list) = u16_at(bytes)?;
     if usize::from(count) > MOST_XIDS {
         return Err(FrameFault::Field);
     }
-    end(behind_names(count, names)?)?;
-    names_of(alloc, count, names)
-}
-
-/// What stands behind so many known branches.
-fn behind_branches(count: u16, bytes: &[u8]) -> Result<&[u8], FrameFault>
-    ensures { Gives (λ x. x.now) result (rest_of (each_at branch_at count bytes.now)) }
-{
-    let mut rest = bytes;
-    for _ in 0..count {
-        let (_, after) = branch_front(rest)?;
-        rest = after;
-    }
-    Ok(rest)
-}
-
-/// So many known branches, which stand there.
-fn branches_of(alloc: Global, count: u16, bytes: &[u8]) -> Result<KnownBranches, FrameFault>
-    requires { IsOk (each_at branch_at count bytes.now) }
-    ensures { Answers result (value_of_first (each_at branch_at count bytes.now)) }
-{
-    let mut branches = Vec::with_capacity(alloc, usize::from(count))?;
-    let mut rest = bytes;
-    for _ in 0..count {
-        let (branch, after) = branch_front(rest)?;
-        branches.push(branch)?;
-        rest = after;
-    }
-    Ok(KnownBranches::new(branches))
-}
-
-#[tactic(auto, unfolding(crate::specs::Reading::counted_at))]
-fn branches_alone(alloc: Global, bytes: &[u8]) -> Result<KnownBranches, FrameFault>
-    ensures { Answers result (one_of (counted_at branch_at) bytes.now) }
-{
-    let (count, branches) = u16_at(bytes)?;
-    if usize::from(count) > MOST_XIDS {
-        return Err(FrameFault::Field);
-    }
-    end(behind_branches(count, branches)?)?;
-    branches_of(alloc, count, branches)
+    end(behind::<T>(count, list)?)?;
+    list_of(alloc, count, list)
 }
 
 fn status_alone(bytes: &[u8]) -> Result<Status, FrameFault>
@@ -148,11 +112,11 @@ fn body_of(alloc: Global, bytes: &[u8]) -> Result<Body, FrameFault>
             Ok(Body::Absent)
         }
         [4, rest @ ..] => {
-            let xids = xids_alone(alloc, rest)?;
+            let xids = list_alone(alloc, rest)?;
             Ok(Body::Xids(xids))
         }
         [5, rest @ ..] => {
-            let branches = branches_alone(alloc, rest)?;
+            let branches = list_alone(alloc, rest)?;
             Ok(Body::Branches(branches))
         }
         [6, rest @ ..] => {
