@@ -1,45 +1,27 @@
 -- A known branch as a field: its state, its counts, and all of it.
-use Rattle.std.proofs.Common.{◌≡◌, ℕ, ℤ, ◌^◌, ◌<◌, List, [], ◌∷◌, ◌++◌, Result, Ok, Err, refl, ap, subst, append_assoc, ◌∙◌}
+use Rattle.std.proofs.Common.{◌≡◌, ℕ, ℤ, ◌^◌, ◌<◌, List, refl}
 use Rattle.std.specs.Int.{w16, w64, to_be_bytes}
 use Rattle.std.specs.Prelude.{FitsSigned}
 use Rattle.std.specs.Int.{w32}
 use Rattle.xa_xid.specs.Triple.{Triple, IsWithinLimits}
-use Rattle.xa_xid.specs.Spelling.{bytes_of}
-use Rattle.xa_bytes.proofs.Digits.{IsBytes, IsBytes-rest, Takes, wide16}
-use Rattle.xa_frame.specs.declared.fault.FrameFault.{FrameFault}
+use Rattle.xa_bytes.proofs.Digits.{wide16}
 use Rattle.xa_frame.specs.declared.known_branch.AssociationCounts.{AssociationCounts}
 use Rattle.xa_frame.specs.declared.known_branch.BranchState.{BranchState}
 use Rattle.xa_frame.specs.declared.known_branch.BranchState.TheVariants as state
 use Rattle.xa_frame.specs.declared.known_branch.KnownBranch.{KnownBranch}
 use Rattle.xa_frame.specs.Limits.{HoldsCounts, HoldsBranch}
-use Rattle.xa_frame.specs.Spelling.{code_bytes, state_byte, state_bytes, states, state_numbered, counts_bytes, branch_bytes}
-use Rattle.xa_frame.specs.Faults.{After, after_bytes, after_xid, after_both, after_state, after_counts, after_branch}
-use Rattle.xa_frame.specs.Reading.{Reads, rest_of, number_at, name_at, both_at, field_as, code_at, state_at, counts_of, counts_at, branch_of, branch_at}
+use Rattle.xa_frame.specs.Spelling.{state_byte, state_bytes, states, state_numbered, counts_bytes, branch_bytes}
+use Rattle.xa_frame.specs.Faults.{After, after_bytes, after_state, after_counts, after_branch}
+use Rattle.xa_frame.specs.Reading.{Reads, number_at, name_at, both_at, field_as, code_at, state_at, counts_of, counts_at, branch_of, branch_at}
 use Rattle.xa_frame.proofs.Digits.{number_takes, number_again, number_fault}
-use Rattle.xa_frame.proofs.Readers.{IsField, number64, name, both, as_made, code, byte_found, standing_fault}
+use Rattle.xa_frame.proofs.Readers.{IsField, number64, name, both, as_made, code, by_number}
 
 number16 : IsField ℕ (number_at w16) (to_be_bytes w16) (λ n. n < 2 ^ 16) (after_bytes 2)
 number16 = record { takes = number_takes w16 (2 ^ 16) wide16; again = number_again w16 (2 ^ 16) wide16; fault = number_fault w16 }
 
-state_takes : (bytes : List ℕ) (s : BranchState) (rest : List ℕ) → IsBytes bytes → state_at bytes ≡ Ok (s, rest) → Takes bytes (state_bytes s) rest × Unit {0}
-unfolding state_at
-state_takes [] s rest fits e = absurd cc
-state_takes (b ∷ bytes) s rest fits e = (byte_found state_byte states b (state_numbered b) bytes s rest refl (IsBytes-rest b bytes fits) e, tt)
-
-state_again : (s : BranchState) (rest : List ℕ) → Unit {0} → state_at (state_bytes s ++ rest) ≡ Ok (s, rest)
-unfolding state_at
-state_again state.Working rest h = refl
-state_again state.Prepared rest h = refl
-state_again state.Committed rest h = refl
-state_again state.RolledBack rest h = refl
-
-state_fault : (bytes : List ℕ) → rest_of (state_at bytes) ≡ after_state bytes
-unfolding state_at
-state_fault [] = refl
-state_fault (b ∷ bytes) = standing_fault (state_numbered b) bytes
-
 standing : IsField BranchState state_at state_bytes (λ s. Unit {0}) after_state
-standing = record { takes = state_takes; again = state_again; fault = state_fault }
+unfolding state_at
+standing = by_number state_byte states (elim [ state.Working ↦ refl | state.Prepared ↦ refl | state.Committed ↦ refl | state.RolledBack ↦ refl ])
 
 abbrev counts_parts : AssociationCounts → ℕ × (ℕ × ℕ)
 counts_parts c = (c.active, (c.suspended, c.loose))

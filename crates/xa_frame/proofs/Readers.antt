@@ -26,9 +26,9 @@ use Rattle.xa_frame.specs.declared.fault.FrameFault.{FrameFault}
 use Rattle.xa_frame.specs.declared.fault.FrameFault.TheVariants.{Short, Field}
 use Rattle.xa_frame.specs.Limits.{IsKey, IsValue, IsInfo, HoldsCursor}
 use Rattle.xa_frame.specs.Spelling.{counted_bytes, cursor_bytes, code_bytes, detail_byte, detail_bytes, details, detail_numbered}
-use Rattle.xa_frame.specs.Faults.{After, after_bytes, after_info, after_key, after_value, after_direction, after_detail, after_xid, and_then, after_both, after_cursor, after_each, after_counted, if_some}
+use Rattle.xa_frame.specs.Faults.{After, after_bytes, after_info, after_key, after_value, after_direction, after_number, after_detail, after_xid, and_then, after_both, after_cursor, after_each, after_counted, if_some}
 use Rattle.xa_frame.specs.Fields.{of_field}
-use Rattle.xa_frame.specs.Reading.{Reads, rest_of, number_at, info_at, key_at, value_at, direction_at, name_at, both_at, field_as, each_at, counted_at, cursor_at, code_at, standing_for, detail_at}
+use Rattle.xa_frame.specs.Reading.{Reads, rest_of, number_at, info_at, key_at, value_at, direction_at, name_at, both_at, field_as, each_at, counted_at, cursor_at, code_at, standing_for, numbered_at, detail_at}
 use Rattle.xa_frame.proofs.Digits.{done, number_takes, number_again, number_fault}
 use Rattle.xa_frame.proofs.FieldFaults.{info_fault, key_fault, value_fault, direction_fault, name_fault}
 
@@ -307,35 +307,44 @@ found_holds p [] x e = absurd cc
 found_holds p (y ∷ xs) x e = found_first p y (p y) (find p xs) x refl (found_holds p xs x) e
 
 -- a byte that stands for a member of a table
-pub byte_found : {A : Type 0} (spell : A → ℕ) (all : List A) (b : ℕ) (o : Option A) (bytes : List ℕ) (y : A) (rest : List ℕ) → find (λ x. eqb (spell x) b) all ≡ o → IsBytes bytes
+byte_found : {A : Type 0} (spell : A → ℕ) (all : List A) (b : ℕ) (o : Option A) (bytes : List ℕ) (y : A) (rest : List ℕ) → find (λ x. eqb (spell x) b) all ≡ o → IsBytes bytes
     → standing_for o bytes ≡ Ok (y, rest) → Takes (b ∷ bytes) (spell y ∷ []) rest
 byte_found spell all b None bytes y rest h fits e = absurd cc
 byte_found spell all b (Some x) bytes y rest h fits e = one_byte spell b bytes x y rest (sym (eqb_true (spell x) b (found_holds (λ z. eqb (spell z) b) all x h))) fits e
 
-pub standing_fault : {A : Type 0} (o : Option A) (bytes : List ℕ) → rest_of (standing_for o bytes) ≡ if_some o bytes
+standing_fault : {A : Type 0} (o : Option A) (bytes : List ℕ) → rest_of (standing_for o bytes) ≡ if_some o bytes
 standing_fault None bytes = refl
 standing_fault (Some x) bytes = refl
 
-detail_takes : (bytes : List ℕ) (d : Detail) (rest : List ℕ) → IsBytes bytes → detail_at bytes ≡ Ok (d, rest) → Takes bytes (detail_bytes d) rest × Unit {0}
-unfolding detail_at
-detail_takes [] d rest fits e = absurd cc
-detail_takes (b ∷ bytes) d rest fits e = (byte_found detail_byte details b (detail_numbered b) bytes d rest refl (IsBytes-rest b bytes fits) e, tt)
+numbered_takes : {A : Type 0} (spell : A → ℕ) (all : List A) (bytes : List ℕ) (x : A) (rest : List ℕ) → IsBytes bytes → numbered_at (λ n. find (λ y. eqb (spell y) n) all) bytes ≡ Ok (x, rest)
+    → Takes bytes (spell x ∷ []) rest × Unit {0}
+numbered_takes spell all [] x rest fits e = absurd cc
+numbered_takes spell all (b ∷ bytes) x rest fits e = (byte_found spell all b (find (λ y. eqb (spell y) b) all) bytes x rest refl (IsBytes-rest b bytes fits) e, tt)
 
-detail_again : (d : Detail) (rest : List ℕ) → Unit {0} → detail_at (detail_bytes d ++ rest) ≡ Ok (d, rest)
-unfolding detail_at
-detail_again detail.Nothing rest h = refl
-detail_again detail.Memory rest h = refl
-detail_again detail.Device rest h = refl
-detail_again detail.Busy rest h = refl
-detail_again detail.Late rest h = refl
-detail_again detail.Limit rest h = refl
-detail_again detail.Frame rest h = refl
-detail_again detail.LogFull rest h = refl
+numbered_fault : {A : Type 0} (numbered : ℕ → Option A) (bytes : List ℕ) → rest_of (numbered_at numbered bytes) ≡ after_number numbered bytes
+numbered_fault numbered [] = refl
+numbered_fault numbered (b ∷ bytes) = standing_fault (numbered b) bytes
 
-detail_fault : (bytes : List ℕ) → rest_of (detail_at bytes) ≡ after_detail bytes
-unfolding detail_at
-detail_fault [] = refl
-detail_fault (b ∷ bytes) = standing_fault (detail_numbered b) bytes
+-- a byte that stands for a member of a table, each by another number
+pub by_number : {A : Type 0} (spell : A → ℕ) (all : List A) → ((x : A) → find (λ y. eqb (spell y) (spell x)) all ≡ Some x)
+    → IsField A (numbered_at (λ n. find (λ y. eqb (spell y) n) all)) (λ x. spell x ∷ []) (λ x. Unit {0}) (after_number (λ n. find (λ y. eqb (spell y) n) all))
+by_number {A} spell all again = record {
+  takes = numbered_takes spell all;
+  again = λ x rest h. ap (λ (o : Option A). standing_for o rest) (again x);
+  fault = numbered_fault (λ n. find (λ y. eqb (spell y) n) all);
+}
 
 pub about : IsField Detail detail_at detail_bytes (λ d. Unit {0}) after_detail
-about = record { takes = detail_takes; again = detail_again; fault = detail_fault }
+unfolding detail_at
+about =
+    by_number detail_byte details
+    (elim [
+      | detail.Nothing ↦ refl
+      | detail.Memory ↦ refl
+      | detail.Device ↦ refl
+      | detail.Busy ↦ refl
+      | detail.Late ↦ refl
+      | detail.Limit ↦ refl
+      | detail.Frame ↦ refl
+      | detail.LogFull ↦ refl
+    ])

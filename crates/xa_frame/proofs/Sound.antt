@@ -9,7 +9,7 @@ use Rattle.xa_limits.specs.declared.TheConstants.{MOST_VALUE}
 use Rattle.xa_frame.specs.declared.fault.FrameFault.{FrameFault}
 use Rattle.xa_frame.specs.declared.fault.FrameFault.TheVariants.{Short, Long, Version, Field, Trailing, Memory}
 use Rattle.xa_frame.specs.Spelling.{numbered, detail_numbered, state_numbered}
-use Rattle.xa_frame.specs.Faults.{After, after_bytes, after_info, after_key, after_value, after_direction, after_detail, behind, after_xid, and_then, after_both, after_cursor, after_state, after_counts, after_branch, after_each, after_counted, if_some, after_body, go_on, fault_in, fields, fault_of_fields, fault_of_operation, fault_behind_version, fault_unless_long, fault_of_request, fault_of_reply}
+use Rattle.xa_frame.specs.Faults.{After, after_bytes, after_info, after_key, after_value, after_direction, after_detail, behind, after_number, after_xid, and_then, after_both, after_cursor, after_state, after_counts, after_branch, after_each, after_counted, if_some, after_body, go_on, fault_in, fields, fault_of_fields, fault_of_operation, fault_behind_version, fault_unless_long, fault_of_request, fault_of_reply}
 
 abbrev IsSound : Result (List ℕ) FrameFault → Type 0
 IsSound r = r ≡ Err Memory → ⊥
@@ -55,9 +55,9 @@ sound_some : {A : Type 0} (o : Option A) (rest : List ℕ) → IsSound (if_some 
 sound_some None rest = field
 sound_some (Some x) rest = ok rest
 
-sound_detail : AreSound after_detail
-sound_detail [] = short
-sound_detail (b ∷ rest) = sound_some (detail_numbered b) rest
+sound_number : {A : Type 0} (numbered : ℕ → Option A) → AreSound (after_number numbered)
+sound_number numbered [] = short
+sound_number numbered (b ∷ rest) = sound_some (numbered b) rest
 
 sound_behind : (bytes : List ℕ) (o : Option (Triple × ℕ)) → IsSound (behind bytes o)
 sound_behind bytes None = field
@@ -77,17 +77,13 @@ sound_cursor : AreSound after_cursor
 sound_cursor [] = short
 sound_cursor (b ∷ rest) = either (eqb b 0) (Ok rest) (cond (eqb b 1) (after_xid rest) (Err Field)) (ok rest) (either (eqb b 1) (after_xid rest) (Err Field) (sound_xid rest) field)
 
-sound_state : AreSound after_state
-sound_state [] = short
-sound_state (b ∷ rest) = sound_some (state_numbered b) rest
-
 sound_counts : AreSound after_counts
 sound_counts = sound_both (after_bytes 2) (after_both (after_bytes 2) (after_bytes 2)) (sound_bytes 2) (sound_both (after_bytes 2) (after_bytes 2) (sound_bytes 2) (sound_bytes 2))
 
 sound_branch : AreSound after_branch
 sound_branch =
     sound_both after_xid (after_both after_state (after_both (after_bytes 4) (after_both (after_bytes 8) after_counts))) sound_xid
-    (sound_both after_state (after_both (after_bytes 4) (after_both (after_bytes 8) after_counts)) sound_state
+    (sound_both after_state (after_both (after_bytes 4) (after_both (after_bytes 8) after_counts)) (sound_number state_numbered)
     (sound_both (after_bytes 4) (after_both (after_bytes 8) after_counts) (sound_bytes 4) (sound_both (after_bytes 8) after_counts (sound_bytes 8) sound_counts)))
 
 sound_each : (after : After) → AreSound after → (n : ℕ) → AreSound (after_each after n)
@@ -183,4 +179,4 @@ pub request_sound : (bytes : List ℕ) → fault_of_request bytes ≡ Some Memor
 request_sound = of_length fault_of_operation of_operation
 
 pub reply_sound : (bytes : List ℕ) → fault_of_reply bytes ≡ Some Memory → ⊥
-reply_sound = of_length (fault_in (after_bytes 4 ∷ after_detail ∷ after_bytes 8 ∷ after_body ∷ [])) (in_fields (after_bytes 4 ∷ after_detail ∷ after_bytes 8 ∷ after_body ∷ []) (sound_bytes 4, (sound_detail, (sound_bytes 8, (sound_body, tt)))))
+reply_sound = of_length (fault_in (after_bytes 4 ∷ after_detail ∷ after_bytes 8 ∷ after_body ∷ [])) (in_fields (after_bytes 4 ∷ after_detail ∷ after_bytes 8 ∷ after_body ∷ []) (sound_bytes 4, (sound_number detail_numbered, (sound_bytes 8, (sound_body, tt)))))

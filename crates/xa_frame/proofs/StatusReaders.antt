@@ -1,15 +1,14 @@
 -- A status as a field: ten numbers, one behind another.
-use Rattle.std.proofs.Common.{◌≡◌, ℕ, ◌+◌, ◌-◌, ◌^◌, ◌<◌, ◌≤◌, Bool, true, false, cond, ltb, List, ◌++◌, length, drop, Result, Ok, Err, refl, sym, ap, ◌∙◌, arith}
+use Rattle.std.proofs.Common.{◌≡◌, ℕ, ◌+◌, ◌-◌, ◌^◌, ◌<◌, ◌≤◌, Bool, true, false, cond, ltb, List, ◌++◌, length, drop, Ok, Err, refl, sym, ◌∙◌, arith}
 use Rattle.std.specs.Int.{w64, to_be_bytes}
 use Rattle.std.proofs.lemmas.Bool.Decides.{nat_tests}
 use Rattle.std.proofs.lemmas.List.{drop-drop, length-append, length-drop}
-use Rattle.xa_frame.specs.declared.fault.FrameFault.{FrameFault}
 use Rattle.xa_frame.specs.declared.fault.FrameFault.TheVariants.{Short}
 use Rattle.xa_frame.specs.declared.status.Status.{Status}
 use Rattle.xa_frame.specs.Limits.{HoldsStatus}
 use Rattle.xa_frame.specs.Spelling.{status_bytes}
-use Rattle.xa_frame.specs.Faults.{After, after_bytes, after_both, and_then}
-use Rattle.xa_frame.specs.Reading.{Reads, number_at, both_at, field_as, and_number, ten, status_of, status_at}
+use Rattle.xa_frame.specs.Faults.{after_bytes, after_both, and_then}
+use Rattle.xa_frame.specs.Reading.{Reads, number_at, field_as, and_number, ten, status_of, status_at}
 use Rattle.xa_frame.proofs.Readers.{IsField, number64, both, as_made}
 use Rattle.xa_frame.proofs.BranchReaders.{other_facts}
 

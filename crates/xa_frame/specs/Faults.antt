@@ -44,10 +44,13 @@ abbrev pub if_some : {A : Type 0} → Option A → List ℕ → Result (List ℕ
 if_some None rest = Err Field
 if_some (Some x) rest = Ok rest
 
--- one byte, a detail's
+-- one byte, a number that stands for something
+abbrev pub after_number : {A : Type 0} → (ℕ → Option A) → After
+after_number numbered [] = Err Short
+after_number numbered (b ∷ rest) = if_some (numbered b) rest
+
 abbrev pub after_detail : After
-after_detail [] = Err Short
-after_detail (b ∷ rest) = if_some (detail_numbered b) rest
+after_detail = after_number detail_numbered
 
 abbrev pub behind : List ℕ → Option (Triple × ℕ) → Result (List ℕ) FrameFault
 behind bytes None = Err Field
@@ -69,10 +72,8 @@ abbrev pub after_cursor : After
 after_cursor [] = Err Short
 after_cursor (b ∷ rest) = if b == 0 then Ok rest else if b == 1 then after_xid rest else Err Field
 
--- one byte, a state's
 abbrev pub after_state : After
-after_state [] = Err Short
-after_state (b ∷ rest) = if_some (state_numbered b) rest
+after_state = after_number state_numbered
 
 -- three counts
 abbrev pub after_counts : After

@@ -171,15 +171,18 @@ abbrev pub standing_for : {A : Type 0} → Option A → List ℕ → Result (A �
 standing_for None bytes = Err Field
 standing_for (Some x) bytes = Ok (x, bytes)
 
+-- one byte, a number that stands for something
+abbrev pub numbered_at : {A : Type 0} → (ℕ → Option A) → Reads A
+numbered_at numbered [] = Err Short
+numbered_at numbered (b ∷ rest) = standing_for (numbered b) rest
+
 unfoldable pub detail_at : Reads Detail
-detail_at [] = Err Short
-detail_at (b ∷ rest) = standing_for (detail_numbered b) rest
+detail_at = numbered_at detail_numbered
 
 -- Known branches
 
 unfoldable pub state_at : Reads BranchState
-state_at [] = Err Short
-state_at (b ∷ rest) = standing_for (state_numbered b) rest
+state_at = numbered_at state_numbered
 
 abbrev pub counts_of : ℕ × (ℕ × ℕ) → AssociationCounts
 counts_of x = record { active = x.0; suspended = x.1.0; loose = x.1.1 }

@@ -3,8 +3,10 @@ use crate::status::Status;
 use xa_codes::{Bytes, Listing};
 use xa_xid::Xid;
 
+/// XIDs that contracts see as a list.
 pub type Xids = Listing<Xid>;
 
+/// Known branches that contracts see as a list.
 pub type KnownBranches = Listing<KnownBranch>;
 
 /// What a reply carries beside its code. A value has at most `MOST_VALUE` bytes; there are at most `MOST_XIDS` XIDs or
