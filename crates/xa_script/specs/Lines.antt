@@ -2,7 +2,7 @@
 use Rattle.std.specs.Prelude.{ℕ, ◌==◌, Bool, true, if◌then◌else◌, bytes_eq, codes}
 use Rattle.std.specs.Prelude.{List, [], ◌∷◌, Option, Some, None, option_and_then, unwrap_or}
 use Rattle.std.specs.Option.{option_map}
-use Rattle.xa_script.specs.Parts.{alone, by_two, one_of, words}
+use Rattle.xa_script.specs.Parts.{alone, by_one, by_two, words}
 use Rattle.xa_script.specs.Numbers.{byte_count_of, call_number_of, number_of}
 use Rattle.xa_script.specs.Requests.{verb_of, request_of}
 use Rattle.xa_script.specs.declared.call_effect.CallEffect.{CallEffect}
@@ -45,11 +45,11 @@ fail_of file words = by_two call_number_of effect_of (λ call effect. Fail file 
 
 -- the first device call that is to fail of that file's disk
 abbrev pub stop_of : LogFile → List (List ℕ) → Option Line
-stop_of file words = option_map (λ call. Stop file call) (option_and_then call_number_of (one_of words))
+stop_of file words = by_one call_number_of (λ call. Stop file call) words
 
 -- how many bytes of that file's disk a crash keeps
 abbrev pub crash_of : LogFile → List (List ℕ) → Option Line
-crash_of file words = option_map (λ keeps. Crash file keeps) (option_and_then byte_count_of (one_of words))
+crash_of file words = by_one byte_count_of (λ keeps. Crash file keeps) words
 
 -- which log file words speak of, and what they say of it: the other one after the word `other`, else the current one
 abbrev pub file_of : List (List ℕ) → LogFile × List (List ℕ)

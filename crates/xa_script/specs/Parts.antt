@@ -34,6 +34,10 @@ abbrev pub two_of : List (List ℕ) → Option (List ℕ × List ℕ)
 two_of (first ∷ second ∷ []) = Some (first, second)
 two_of _ = None
 
+-- what is asked by one word
+abbrev pub by_one : {A X : Type 0} → (List ℕ → Option A) → (A → X) → List (List ℕ) → Option X
+by_one read asked words = option_map asked (option_and_then read (one_of words))
+
 -- what is asked by two words, each of which is read by itself
 abbrev pub by_two : {A B X : Type 0} → (List ℕ → Option A) → (List ℕ → Option B) → (A → B → X) → List (List ℕ)
     → Option X

@@ -5,7 +5,7 @@
 //! `Line::Unknown`.
 //!
 //! - `line`: `Line` and `read_line`
-//! - `verb`: what a session asks for, by its word; `request`: the request of a verb and the words behind it
+//! - `verb`: the call that a word names; `request`: the request of a call and the words behind it
 //! - words: `parts`, where a text is cut, with `first_part`; `numbers`; `flags`; `hexadecimal`, bytes by their digits
 //! - `log_file`: `LogFile`, which file such a line speaks of; `call_effect`: `CallEffect`, what a device call that is to
 //!   fail does all the same

@@ -1,56 +1,57 @@
 ghost use Rattle.std.specs.Option.{option_copied, option_map};
 ghost use Rattle.std.specs.Prelude.{◌≡◌, ℕ, IfOk, IfSome, List, Option, Some, option_and_then};
+ghost use Rattle.xa_frame.specs.declared.request.Request.{Request};
 ghost use Rattle.xa_frame.specs.Limits.{IsKey, IsRequest, IsValue};
 ghost use Rattle.xa_xid.specs.Triple.{Triple};
-ghost use Rattle.xa_script.specs.Parts.{alone, one_of, words_behind};
-ghost use Rattle.xa_script.specs.Requests.{ReadsTexts, branch_pair, branches_by, close_by, cursor_of, decide_by, delete_by};
-ghost use Rattle.xa_script.specs.Requests.{direction_of, doom_by, get_by, is_graphic, is_name, key_of, open_by};
-ghost use Rattle.xa_script.specs.Requests.{put_by, recover_by, request_of, tick_by, timeout_by, value_of};
+ghost use Rattle.xa_script.specs.Flags.{flags_of};
+ghost use Rattle.xa_script.specs.Numbers.{count_of, moment_of};
+ghost use Rattle.xa_script.specs.Parts.{alone, by_one, by_two, one_of, words_behind};
+ghost use Rattle.xa_script.specs.Requests.{ReadsTexts, branch_pair, branches_by, cursor_of, direction_of, is_graphic};
+ghost use Rattle.xa_script.specs.Requests.{is_name, key_of, open_by, request_of, value_of};
 
 use crate::flags::read_flags;
 use crate::hexadecimal::read_bytes;
 use crate::numbers::{read_count, read_moment};
 use crate::parts::{first_part, only_word, two_words};
-use crate::verb::Verb;
 use std::alloc::{AllocError, Global};
-use xa_codes::{Bytes, Direction};
+use xa_codes::{Bytes, Call, Direction};
 use xa_fields::Key;
 use xa_frame::Request;
 use xa_limits::{MOST_INFO, MOST_KEY, MOST_VALUE};
 use xa_xid::Xid;
 
-/// The request of a verb and the words behind it, where they are as it wants them.
+/// The request of a call and the words behind it, where they are as it wants them.
 pub fn read_request(
     alloc: Global,
-    verb: Verb,
+    call: Call,
     words: Option<&[u8]>,
 ) -> Result<Option<Request>, AllocError>
     ensures value { (xid_of : List ℕ → Option Triple) → ReadsTexts xid_of →
-        IfOk result (λ request. request ≡ request_of xid_of verb (words_behind (option_copied words.entry))) }
+        IfOk result (λ request. request ≡ request_of xid_of call (words_behind (option_copied words.entry))) }
     ensures limits { IfOk result (λ request. IfSome request IsRequest) }
 {
-    match verb {
-        Verb::Open => read_open(alloc, words),
-        Verb::Close => Ok(read_close(words)),
-        Verb::Start => Ok(read_branch(words).map(|(flags, xid)| Request::Start { flags, xid })),
-        Verb::End => Ok(read_branch(words).map(|(flags, xid)| Request::End { flags, xid })),
-        Verb::Prepare => Ok(read_branch(words).map(|(flags, xid)| Request::Prepare { flags, xid })),
-        Verb::Commit => Ok(read_branch(words).map(|(flags, xid)| Request::Commit { flags, xid })),
-        Verb::Rollback => {
+    match call {
+        Call::Open => read_open(alloc, words),
+        Call::Close => Ok(read_close(words)),
+        Call::Start => Ok(read_branch(words).map(|(flags, xid)| Request::Start { flags, xid })),
+        Call::End => Ok(read_branch(words).map(|(flags, xid)| Request::End { flags, xid })),
+        Call::Prepare => Ok(read_branch(words).map(|(flags, xid)| Request::Prepare { flags, xid })),
+        Call::Commit => Ok(read_branch(words).map(|(flags, xid)| Request::Commit { flags, xid })),
+        Call::Rollback => {
             Ok(read_branch(words).map(|(flags, xid)| Request::Rollback { flags, xid }))
         }
-        Verb::Forget => Ok(read_branch(words).map(|(flags, xid)| Request::Forget { flags, xid })),
-        Verb::Recover => Ok(read_recover(words)),
-        Verb::Get => read_get(alloc, words),
-        Verb::Put => read_put(alloc, words),
-        Verb::Delete => read_delete(alloc, words),
-        Verb::Decide => Ok(read_decide(words)),
-        Verb::Doom => Ok(read_doom(words)),
-        Verb::Restart => Ok(read_alone(Request::Restart, words)),
-        Verb::Timeout => Ok(read_timeout(words)),
-        Verb::Tick => Ok(read_tick(words)),
-        Verb::Trim => Ok(read_alone(Request::Trim, words)),
-        Verb::Branches => Ok(read_branches(words)),
+        Call::Forget => Ok(read_branch(words).map(|(flags, xid)| Request::Forget { flags, xid })),
+        Call::Recover => Ok(read_recover(words)),
+        Call::Get => Ok(read_only_key(alloc, words)?.map(|key| Request::Get { key })),
+        Call::Put => read_put(alloc, words),
+        Call::Delete => Ok(read_only_key(alloc, words)?.map(|key| Request::Delete { key })),
+        Call::Decide => Ok(read_decide(words)),
+        Call::Doom => Ok(read_doom(words)),
+        Call::Restart => Ok(read_alone(Request::Restart, words)),
+        Call::Timeout => Ok(read_timeout(words)),
+        Call::Tick => Ok(read_tick(words)),
+        Call::Trim => Ok(read_alone(Request::Trim, words)),
+        Call::Branches => Ok(read_branches(words)),
     }
 }
 
@@ -63,14 +64,14 @@ fn read_branch(words: Option<&[u8]>) -> Option<(u32, Xid)>
 }
 
 fn read_close(words: Option<&[u8]>) -> Option<Request>
-    ensures { result ≡ close_by (words_behind (option_copied words.entry)) }
+    ensures { result ≡ by_one flags_of (λ flags. Request.Close flags) (words_behind (option_copied words.entry)) }
 {
     let flags = read_flags(only_word(words)?)?;
     Some(Request::Close { flags })
 }
 
 fn read_recover(words: Option<&[u8]>) -> Option<Request>
-    ensures value { result ≡ recover_by (words_behind (option_copied words.entry)) }
+    ensures value { result ≡ by_two flags_of count_of (λ flags count. Request.Recover flags count) (words_behind (option_copied words.entry)) }
     ensures limits { IfSome result IsRequest }
 {
     let (flags, count) = two_words(words)?;
@@ -82,7 +83,7 @@ fn read_recover(words: Option<&[u8]>) -> Option<Request>
 
 fn read_decide(words: Option<&[u8]>) -> Option<Request>
     ensures value { (xid_of : List ℕ → Option Triple) → ReadsTexts xid_of →
-        result ≡ decide_by xid_of (words_behind (option_copied words.entry)) }
+        result ≡ by_two direction_of xid_of (λ direction xid. Request.Decide direction xid) (words_behind (option_copied words.entry)) }
     ensures limits { IfSome result IsRequest }
 {
     let (direction, xid) = two_words(words)?;
@@ -104,7 +105,7 @@ fn read_direction(word: &[u8]) -> Option<Direction>
     }
 }
 
-/// The request, if no words stand behind its verb.
+/// The request, if no words stand behind its call.
 fn read_alone(request: Request, words: Option<&[u8]>) -> Option<Request>
     requires { IsRequest request }
     ensures value { result ≡ alone request (words_behind (option_copied words.entry)) }
@@ -117,7 +118,7 @@ fn read_alone(request: Request, words: Option<&[u8]>) -> Option<Request>
 }
 
 fn read_timeout(words: Option<&[u8]>) -> Option<Request>
-    ensures value { result ≡ timeout_by (words_behind (option_copied words.entry)) }
+    ensures value { result ≡ by_one count_of (λ seconds. Request.Timeout seconds) (words_behind (option_copied words.entry)) }
     ensures limits { IfSome result IsRequest }
 {
     let seconds = read_count(only_word(words)?)?;
@@ -125,7 +126,7 @@ fn read_timeout(words: Option<&[u8]>) -> Option<Request>
 }
 
 fn read_tick(words: Option<&[u8]>) -> Option<Request>
-    ensures value { result ≡ tick_by (words_behind (option_copied words.entry)) }
+    ensures value { result ≡ by_one moment_of (λ moment. Request.Tick moment) (words_behind (option_copied words.entry)) }
     ensures limits { IfSome result IsRequest }
 {
     let moment = read_moment(only_word(words)?)?;
@@ -166,7 +167,7 @@ fn read_xid(words: Option<&[u8]>) -> Option<Xid>
 
 fn read_doom(words: Option<&[u8]>) -> Option<Request>
     ensures value { (xid_of : List ℕ → Option Triple) → ReadsTexts xid_of →
-        result ≡ doom_by xid_of (words_behind (option_copied words.entry)) }
+        result ≡ by_one xid_of (λ xid. Request.Doom xid) (words_behind (option_copied words.entry)) }
     ensures limits { IfSome result IsRequest }
 {
     let xid = Xid::take_text(only_word(words)?)?;
@@ -203,28 +204,20 @@ fn is_graphic(word: &[u8]) -> bool
     word.iter().all(|byte| byte.is_ascii_graphic())
 }
 
-fn read_get(alloc: Global, words: Option<&[u8]>) -> Result<Option<Request>, AllocError>
-    ensures value { IfOk result (λ request. request ≡ get_by (words_behind (option_copied words.entry))) }
-    ensures limits { IfOk result (λ request. IfSome request IsRequest) }
+/// The key, if it is all of the words.
+fn read_only_key(alloc: Global, words: Option<&[u8]>) -> Result<Option<Key>, AllocError>
+    ensures value { IfOk result
+        (λ key. key ≡ option_and_then key_of (one_of (words_behind (option_copied words.entry)))) }
+    ensures limits { IfOk result (λ key. IfSome key IsKey) }
 {
-    let Some(key) = only_word(words) else {
-        return Ok(None);
-    };
-    Ok(read_key(alloc, key)?.map(|key| Request::Get { key }))
-}
-
-fn read_delete(alloc: Global, words: Option<&[u8]>) -> Result<Option<Request>, AllocError>
-    ensures value { IfOk result (λ request. request ≡ delete_by (words_behind (option_copied words.entry))) }
-    ensures limits { IfOk result (λ request. IfSome request IsRequest) }
-{
-    let Some(key) = only_word(words) else {
-        return Ok(None);
-    };
-    Ok(read_key(alloc, key)?.map(|key| Request::Delete { key }))
+    match only_word(words) {
+        Some(word) => read_key(alloc, word),
+        None => Ok(None),
+    }
 }
 
 fn read_put(alloc: Global, words: Option<&[u8]>) -> Result<Option<Request>, AllocError>
-    ensures value { IfOk result (λ request. request ≡ put_by (words_behind (option_copied words.entry))) }
+    ensures value { IfOk result (λ request. request ≡ by_two key_of value_of (λ key value. Request.Put key value) (words_behind (option_copied words.entry))) }
     ensures limits { IfOk result (λ request. IfSome request IsRequest) }
 {
     let Some((key, value)) = two_words(words) else {
