@@ -1,8 +1,7 @@
 -- What an answer XA_OK says of all that a crash may leave.
 use Rattle.std.proofs.Common.{◌≡◌, ℕ, ℤ, Bool, true, false, not, ◌&&◌, ◌||◌, cond, List, [], ◌∷◌, ◌++◌, Option, Some, None, refl, sym, ◌∙◌, subst}
-use Rattle.std.specs.Prelude.{is_none}
 use Rattle.std.specs.List.{AllByRecursion}
-use Rattle.xa_codes.specs.declared.codes.TheConstants.{XA_OK, XAER_NOTA, XAER_PROTO, XAER_RMFAIL, XAER_ASYNC, XAER_INVAL, XA_HEURCOM, XA_HEURRB}
+use Rattle.xa_codes.specs.declared.codes.TheConstants.{XA_OK, XAER_NOTA, XAER_PROTO, XA_HEURCOM, XA_HEURRB}
 use Rattle.xa_codes.specs.declared.direction.Direction.TheVariants as direction
 use Rattle.xa_frame.specs.declared.reply.Reply.{Reply}
 use Rattle.xa_frame.specs.declared.request.Request.{Request}
@@ -12,7 +11,7 @@ use Rattle.xa_model.specs.declared.outcome.Appending.{Appending}
 use Rattle.xa_model.specs.declared.outcome.Appending.TheVariants.{Kept, Refused, Lost}
 use Rattle.xa_model.specs.State.{State, Standing, Up, Down, Ended, Known, Unknown, AtWork, InDoubt, Completed}
 use Rattle.xa_model.specs.Answer.{Answer, plain, first}
-use Rattle.xa_model.specs.Early.{early_refusal, passes_down, call_of, needs_open, is_opened, is_async, flags_of, is_invalid, Context}
+use Rattle.xa_model.specs.Early.{early_refusal, passes_down, call_of, Context, early_checks}
 use Rattle.xa_model.specs.Associations.{is_unknown, is_lasting}
 use Rattle.xa_model.specs.Phases.{unprepared_refusal, two_phase_refusal, rollback_refusal, heuristic_refusal}
 use Rattle.xa_model.specs.Completions.{forget_refusal, is_completed}
@@ -53,13 +52,7 @@ one_phase_bad k held reply e ok =
 
 pub early_bad : (c : Context) (request : Request) (reply : Reply) → early_refusal c request ≡ Some reply → reply.code ≡ XA_OK → ⊥
 early_bad c request reply e ok =
-    refused (
-    (not c.up && not (passes_down (call_of request)), plain XAER_RMFAIL)
-    ∷ (is_none c.session, plain XAER_PROTO)
-    ∷ (needs_open (call_of request) && not (is_opened c.session), plain XAER_PROTO)
-    ∷ (is_async (call_of request) (flags_of request), plain XAER_ASYNC)
-    ∷ (is_invalid c.name c.moment request, plain XAER_INVAL)
-    ∷ []) reply ((λ ok. cc ok), ((λ ok. cc ok), ((λ ok. cc ok), ((λ ok. cc ok), ((λ ok. cc ok), tt))))) e ok
+    refused (early_checks c request) reply ((λ ok. cc ok), ((λ ok. cc ok), ((λ ok. cc ok), ((λ ok. cc ok), ((λ ok. cc ok), tt))))) e ok
 
 other_bad : (k : Known) (reply : Reply) → heuristic_refusal k ≡ Some reply → IsDone reply → ⊥
 other_bad Unknown reply e ok = cc e

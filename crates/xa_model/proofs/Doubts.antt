@@ -1,5 +1,5 @@
 -- A state stays sound where a branch is prepared, where the operator completes it, and where that is forgotten.
-use Rattle.std.proofs.Common.{◌≡◌, ◌+◌, ◌≤◌, Bool, true, false, cond, List, [], ◌∷◌, length, Option, Some, None, refl, ap, ◌∙◌, subst, arith}
+use Rattle.std.proofs.Common.{◌≡◌, ◌+◌, ◌≤◌, Bool, true, false, cond, List, [], ◌∷◌, length, Option, Some, None, refl, ap, ◌∙◌, arith}
 use Rattle.std.specs.Prelude.{is_some}
 use Rattle.std.specs.List.{list_any}
 use Rattle.xa_codes.specs.declared.direction.Direction.{Direction}
@@ -12,7 +12,7 @@ use Rattle.xa_model.specs.Invariants.Sound.{IsSound, named, most_known}
 use Rattle.xa_model.proofs.Counts.{count_same, count_without}
 use Rattle.xa_model.proofs.Leaving.{count_left, count_turned, found_any}
 use Rattle.xa_model.proofs.Lists.{find_change_other}
-use Rattle.xa_model.proofs.Names.{called_apart, gone_sound, committed_sound}
+use Rattle.xa_model.proofs.Names.{called_apart, gone_sound, committed_sound, bound_beside}
 use Rattle.xa_model.proofs.Order.{KeepsTimestamp, change_descends}
 use Rattle.xa_model.proofs.Parts.{with_branches, with_decided}
 
@@ -29,21 +29,15 @@ prepared_known xid b = ap (λ (o : Option Triple). is_with xid o) (prepared_name
 prepared_keeps : KeepsTimestamp as_prepared
 prepared_keeps = record { same = λ b. refl }
 
-prepared_bound_by : (s : State) (xid q : Triple) (c : Bool) → xid_eq xid q ≡ c → IsSound s → holders_of s.associations xid ≡ 0
-    → is_at_work (known_of (change (is_known_as xid) as_prepared s.branches) q) ≡ false → holders_of s.associations q ≡ 0
-prepared_bound_by s xid q true e h free none = subst (λ (x : Triple). holders_of s.associations x ≡ 0) (xid_same xid q e) free
-prepared_bound_by s xid q false e h free none =
-    let same : known_of (change (is_known_as xid) as_prepared s.branches) q ≡ known_of s.branches q
-    = find_change_other (is_known_as xid) (is_known_as q) as_prepared (λ b is. (called_apart xid q b e is, prepared_known q b ∙ called_apart xid q b e is)) s.branches in
-    h.bound q (subst (λ (o : Option Branch). is_at_work o ≡ false) same none)
-
 -- a branch that nobody holds
 pub prepared_sound : (s : State) (xid : Triple) → IsSound s → holders_of s.associations xid ≡ 0 → IsSound (prepared s xid)
 prepared_sound s xid h free = with_branches s (change (is_known_as xid) as_prepared s.branches) h (record {
   descends = change_descends as_prepared prepared_keeps (is_known_as xid) (timestamp_of s.boot s.given + 1) s.branches h.descends;
   names = λ q. omega (arith, count_same (is_known_as xid) as_prepared (is_known_as q) (prepared_known q) s.branches);
   known = omega (arith, count_same (is_known_as xid) as_prepared (λ b. is_some (name_of b.phase)) (λ b. ap (λ (o : Option Triple). is_some o) (prepared_name b.phase)) s.branches);
-  bound = λ q none. prepared_bound_by s xid q (xid_eq xid q) refl h free none;
+  bound = λ q none. bound_beside s (change (is_known_as xid) as_prepared s.branches) xid q h free
+      (λ e. find_change_other (is_known_as xid) (is_known_as q) as_prepared (λ b is. (called_apart xid q b e is, prepared_known q b ∙ called_apart xid q b e is)) s.branches)
+      none;
 })
 
 -- Completed by the operator

@@ -85,6 +85,7 @@ pub mod RisingMoments
 pub mod Preparing
 pub mod Unlisted
 pub mod Grouped
+pub mod OfAnswers
 pub mod OfTurns
 pub mod Together
 pub mod RoomTogether

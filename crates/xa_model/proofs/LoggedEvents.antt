@@ -5,7 +5,6 @@ use Rattle.std.specs.List.{list_any, AllByRecursion}
 use Rattle.xa_codes.specs.Flags.{has}
 use Rattle.xa_codes.specs.declared.codes.TheConstants.{XA_RBTRANSIENT, XA_RBOTHER, XA_RBROLLBACK, XA_RBCOMMFAIL, XA_RBTIMEOUT}
 use Rattle.xa_codes.specs.declared.flags.TheConstants.{TMONEPHASE, TMJOIN, TMRESUME, TMSUSPEND, TMMIGRATE, TMFAIL}
-use Rattle.xa_frame.specs.declared.reply.Reply.{Reply}
 use Rattle.xa_frame.specs.declared.request.Request.{Request}
 use Rattle.xa_frame.specs.declared.request.Request.TheVariants.{Open, Close, Start, End, Prepare, Commit, Rollback, Forget, Recover, Get, Put, Delete, Decide, Doom, Restart, Timeout, Tick, Trim, Branches}
 use Rattle.xa_xid.specs.Triple.{Triple, xid_eq}
@@ -13,7 +12,7 @@ use Rattle.xa_xid.proofs.Same.{xid_eq_itself}
 use Rattle.xa_model.specs.declared.event.Event.TheVariants as event
 use Rattle.xa_model.specs.State.{State, Session, Association, Read, Branch, Got, Wrote, Phase, Working, Prepared, Committed, known_as, known_of, is_known_as, is_active, active_of, branch_with, own_branch, mark_of, change, session_of, suspends, is_loose_with, known_in, is_working, is_at_work}
 use Rattle.xa_model.specs.Source.{Version, source, is_late}
-use Rattle.xa_model.specs.Answer.{Answer, ok, unless, marked}
+use Rattle.xa_model.specs.Answer.{ok}
 use Rattle.xa_model.specs.Early.{early_refusal}
 use Rattle.xa_model.specs.Associations.{connect_refusal, connected, connect_by, hang_up_by, open_by, close_refusal, close_by, as_opened, is_of_session, with_mark, marked_phase, left_behind, is_worked_by, start_refusal, begun, begin_by, is_taken, join_refusal, joined, join_by, resume_refusal, resumed, not_resumed, resume_by, start_by, end_refusal, loose_refusal, suspended, not_suspended, suspend_by, can_end, ended, failed, leave_by, end_by, mark_in}
 use Rattle.xa_model.specs.Phases.{doom_refusal, doomed, doom_by}
@@ -34,6 +33,7 @@ use Rattle.xa_model.proofs.Working.{start_sound, end_sound}
 use Rattle.xa_model.proofs.Soundness.{close_sound, doom_sound, get_sound, put_sound, recover_sound, tick_sound, timeout_sound, reached}
 use Rattle.xa_model.proofs.LoggedTurns.{unless_logs, cond_logs, prepares, commits, commits_in_doubt, rolls_back, decides, forgets}
 use Rattle.xa_model.proofs.LoggedTurns.{itself as logged_itself}
+use Rattle.xa_model.proofs.OfAnswers.{cond_after, if_late_after, marked_after, unless_after}
 
 -- what is the same of the log
 record IsSame (s t : State) : Type 0 where
@@ -63,18 +63,6 @@ alike s given sessions held reads = kept s given sessions held s.branches reads 
 
 itself : (s : State) → IsSame s s
 itself s = record { lasts = refl; end = refl; boot = refl; logged_boot = refl; open_records = refl; standing = refl }
-
-unless_same : (o : Option Reply) (s : State) (a : Answer) → (o ≡ None → IsSame s a.after) → IsSame s (unless o s a).after
-unless_same None s a k = k refl
-unless_same (Some reply) s a k = itself s
-
-marked_same : (o : Option ℤ) (s left : State) (a : Answer) → IsSame s left → IsSame s a.after → IsSame s (marked o left a).after
-marked_same None s left a h k = k
-marked_same (Some code) s left a h k = h
-
-cond_same : (c : Bool) (s : State) (a b : Answer) → IsSame s a.after → IsSame s b.after → IsSame s (cond c a b).after
-cond_same true s a b h k = h
-cond_same false s a b h k = k
 
 -- branches
 
@@ -137,30 +125,30 @@ ticked_same s moment =
 
 start_same : (s : State) (n flags : ℕ) (xid : Triple) → IsSame s (start_by s n flags xid).after
 start_same s n flags xid =
-    cond_same (has flags TMJOIN) s (join_by s n xid) (cond (has flags TMRESUME) (resume_by s n xid) (begin_by s n xid))
-    (unless_same (join_refusal (is_some (active_of s.associations n)) (list_any (suspends n xid) s.associations) (known_as s xid)) s _
-    (λ none. marked_same (mark_in (known_as s xid)) s s (joined s n xid) (itself s) (alike s s.given s.sessions _ s.reads)))
-    (cond_same (has flags TMRESUME) s (resume_by s n xid) (begin_by s n xid)
-    (unless_same (resume_refusal (is_some (active_of s.associations n)) (known_as s xid) (list_any (suspends n xid) s.associations) (list_any (is_loose_with xid) s.associations)) s _
-    (λ none. marked_same (mark_in (known_as s xid)) s (not_resumed s n xid) (resumed s n xid) (alike s s.given s.sessions _ s.reads) (alike s s.given s.sessions _ s.reads)))
-    (unless_same (start_refusal (is_some (active_of s.associations n)) (is_taken (known_as s xid)) (known_in s) s.given) s (begun s n xid)
+    cond_after (IsSame s) (has flags TMJOIN) (join_by s n xid) (cond (has flags TMRESUME) (resume_by s n xid) (begin_by s n xid))
+    (unless_after (IsSame s) (join_refusal (is_some (active_of s.associations n)) (list_any (suspends n xid) s.associations) (known_as s xid)) s _ (itself s)
+    (λ none. marked_after (IsSame s) (mark_in (known_as s xid)) s (joined s n xid) (itself s) (alike s s.given s.sessions _ s.reads)))
+    (cond_after (IsSame s) (has flags TMRESUME) (resume_by s n xid) (begin_by s n xid)
+    (unless_after (IsSame s) (resume_refusal (is_some (active_of s.associations n)) (known_as s xid) (list_any (suspends n xid) s.associations) (list_any (is_loose_with xid) s.associations)) s _ (itself s)
+    (λ none. marked_after (IsSame s) (mark_in (known_as s xid)) (not_resumed s n xid) (resumed s n xid) (alike s s.given s.sessions _ s.reads) (alike s s.given s.sessions _ s.reads)))
+    (unless_after (IsSame s) (start_refusal (is_some (active_of s.associations n)) (is_taken (known_as s xid)) (known_in s) s.given) s (begun s n xid) (itself s)
     (λ none. kept s (s.given + 1) s.sessions _ _ s.reads refl refl)))
 
 suspend_same : (s : State) (n : ℕ) (migrates : Bool) (xid : Triple) → IsSame s (suspend_by s n migrates xid).after
 suspend_same s n migrates xid =
-    unless_same (end_refusal (known_as s xid) (_)) s _
-    (λ none. marked_same (mark_in (known_as s xid)) s (not_suspended s n xid) _ (alike s s.given s.sessions _ s.reads)
-    (unless_same (loose_refusal migrates _) s (ok (suspended s n migrates xid)) (λ free. alike s s.given s.sessions _ s.reads)))
+    unless_after (IsSame s) (end_refusal (known_as s xid) (_)) s _ (itself s)
+    (λ none. marked_after (IsSame s) (mark_in (known_as s xid)) (not_suspended s n xid) _ (alike s s.given s.sessions _ s.reads)
+    (unless_after (IsSame s) (loose_refusal migrates _) s (ok (suspended s n migrates xid)) (itself s) (λ free. alike s s.given s.sessions _ s.reads)))
 
 leave_same : (s : State) (n : ℕ) (fails : Bool) (xid : Triple) → IsSame s (leave_by s n fails xid).after
 leave_same s n fails xid =
-    unless_same (end_refusal (known_as s xid) (can_end s.associations n xid)) s _
-    (λ none. marked_same (mark_in (known_as s xid)) s (ended s n xid) (cond fails (failed s n xid) (ok (ended s n xid))) (alike s s.given s.sessions _ s.reads)
-    (cond_same fails s (failed s n xid) (ok (ended s n xid)) (with_mark_same s s.given s.sessions _ xid XA_RBROLLBACK s.reads) (alike s s.given s.sessions _ s.reads)))
+    unless_after (IsSame s) (end_refusal (known_as s xid) (can_end s.associations n xid)) s _ (itself s)
+    (λ none. marked_after (IsSame s) (mark_in (known_as s xid)) (ended s n xid) (cond fails (failed s n xid) (ok (ended s n xid))) (alike s s.given s.sessions _ s.reads)
+    (cond_after (IsSame s) fails (failed s n xid) (ok (ended s n xid)) (with_mark_same s s.given s.sessions _ xid XA_RBROLLBACK s.reads) (alike s s.given s.sessions _ s.reads)))
 
 end_same : (s : State) (n flags : ℕ) (xid : Triple) → IsSame s (end_by s n flags xid).after
 end_same s n flags xid =
-    cond_same (has flags TMSUSPEND) s (suspend_by s n (has flags TMMIGRATE) xid) (leave_by s n (has flags TMFAIL) xid) (suspend_same s n (has flags TMMIGRATE) xid) (leave_same s n (has flags TMFAIL) xid)
+    cond_after (IsSame s) (has flags TMSUSPEND) (suspend_by s n (has flags TMMIGRATE) xid) (leave_by s n (has flags TMFAIL) xid) (suspend_same s n (has flags TMMIGRATE) xid) (leave_same s n (has flags TMFAIL) xid)
 
 -- recoveries
 
@@ -180,7 +168,7 @@ get_same : (s : State) (key : List ℕ) (o : Option (Triple × Branch)) → IsSa
 get_same s key None = itself s
 get_same s key (Some (xid, b)) =
     let v = source key b.timestamp s.branches in
-    marked_same (mark_of b.phase) s s (get_from s key xid b v) (itself s) (unless_same (busy_refusal b.timestamp v) s (got s key xid b v) (λ none. got_same s key xid b v))
+    marked_after (IsSame s) (mark_of b.phase) s (get_from s key xid b v) (itself s) (unless_after (IsSame s) (busy_refusal b.timestamp v) s (got s key xid b v) (itself s) (λ none. got_same s key xid b v))
 
 unmade_by : (b : Branch) (p : Phase) → is_working p ≡ true → (committed_part b.timestamp (writes_of b.operations) p ≡ None) × (prepared_part b.timestamp (writes_of b.operations) p ≡ None)
 unmade_by b (Working x work) works = (refl, refl)
@@ -237,17 +225,13 @@ written_same s key value xid b own =
     (unmade committed_of (having_done (Wrote key value)) xid b s.branches own.found none.0 still.0)
     (unmade prepared_of (having_done (Wrote key value)) xid b s.branches own.found none.1 still.1)
 
-if_late_same : (late : Bool) (s : State) (a b : Answer) → IsSame s a.after → IsSame s b.after → IsSame s (if_late late a b).after
-if_late_same true s a b h k = h
-if_late_same false s a b h k = k
-
 put_same : (s : State) (n : ℕ) (key : List ℕ) (value : Option (List ℕ)) (o : Option (Triple × Branch)) → own_branch s n ≡ o → IsSound s → IsSame s (put_by s key value o).after
 put_same s n key value None e h = itself s
 put_same s n key value (Some (xid, b)) e h =
-    marked_same (mark_of b.phase) s s (put_from s key value xid b) (itself s)
-    (unless_same (limit_refusal (is_full key b.operations)) s (if_late (is_late key b.timestamp s.reads) (came_late s xid) (written s key value xid))
-    (λ none. if_late_same (is_late key b.timestamp s.reads) s (came_late s xid) (written s key value xid)
-    (with_mark_same s s.given s.sessions s.associations xid XA_RBTRANSIENT s.reads) (written_same s key value xid b (owned s n xid b e h))))
+    marked_after (IsSame s) (mark_of b.phase) s (put_from s key value xid b) (itself s)
+    (unless_after (IsSame s) (limit_refusal (is_full key b.operations)) s (if_late (is_late key b.timestamp s.reads) (came_late s xid) (written s key value xid)) (itself s)
+    (λ none. if_late_after (IsSame s) (is_late key b.timestamp s.reads) (came_late s xid) (written s key value xid)
+    (with_mark_same s s.given s.sessions s.associations xid XA_RBTRANSIENT s.reads) (λ timely. written_same s key value xid b (owned s n xid b e h))))
 
 -- all rows, of a session that is connected
 
@@ -265,7 +249,7 @@ keeps s t same sound = record {
 row_logs : (s : State) (n : ℕ) (request : Request) → IsSound s → is_some (session_of s.sessions n) ≡ true → asks_boot request ≡ false → LogsWhatLasts s (row s n request)
 row_logs s n (Open flags info) h seated other = keeps s (open_by s n).after (alike s s.given _ s.associations s.reads) (seat_sound s n as_opened (λ x. refl) h)
 row_logs s n (Close flags) h seated other =
-    keeps s (close_by s n).after (unless_same (close_refusal (list_any (is_of_session n) s.associations)) s _ (λ none. alike s s.given _ s.associations s.reads)) (close_sound s n h)
+    keeps s (close_by s n).after (unless_after (IsSame s) (close_refusal (list_any (is_of_session n) s.associations)) s _ (itself s) (λ none. alike s s.given _ s.associations s.reads)) (close_sound s n h)
 row_logs s n (Start flags xid) h seated other = keeps s (start_by s n flags xid).after (start_same s n flags xid) (start_sound s n flags xid h seated)
 row_logs s n (End flags xid) h seated other = keeps s (end_by s n flags xid).after (end_same s n flags xid) (end_sound s n flags xid h)
 row_logs s n (Prepare flags xid) h seated other = prepares s xid h
@@ -282,7 +266,7 @@ row_logs s n (Delete key) h seated other =
     keeps s (put_by s key None (own_branch s n)).after (put_same s n key None (own_branch s n) refl h) (put_sound s key None (own_branch s n) h)
 row_logs s n (Decide direction xid) h seated other = decides s direction xid h
 row_logs s n (Doom xid) h seated other =
-    keeps s (doom_by s xid).after (unless_same (doom_refusal (known_as s xid)) s (ok (doomed s xid)) (λ none. with_mark_same s s.given s.sessions s.associations xid XA_RBOTHER s.reads)) (doom_sound s xid h)
+    keeps s (doom_by s xid).after (unless_after (IsSame s) (doom_refusal (known_as s xid)) s (ok (doomed s xid)) (itself s) (λ none. with_mark_same s s.given s.sessions s.associations xid XA_RBOTHER s.reads)) (doom_sound s xid h)
 row_logs s n Restart h seated other = absurd (cc other)
 row_logs s n (Timeout seconds) h seated other = keeps s (timeout_by s n seconds).after (alike s s.given _ s.associations s.reads) (timeout_sound s n seconds h)
 row_logs s n (Tick moment) h seated other = keeps s (tick_by s moment).after (ticked_same s moment) (tick_sound s moment h)
@@ -290,7 +274,7 @@ row_logs s n Trim h seated other = absurd (cc other)
 row_logs s n (Branches count after) h seated other = keeps s s (alike s s.given s.sessions s.associations s.reads) h
 
 pub events_log_what_lasts : EventsLogWhatLasts
-events_log_what_lasts s event.Connect h other = keeps s (connect_by s).after (unless_same (connect_refusal _) s (connected s) (λ none. alike s s.given _ s.associations s.reads)) (connected_sound s h)
+events_log_what_lasts s event.Connect h other = keeps s (connect_by s).after (unless_after (IsSame s) (connect_refusal _) s (connected s) (itself s) (λ none. alike s s.given _ s.associations s.reads)) (connected_sound s h)
 events_log_what_lasts s (event.Hangup n) h other = keeps s (hang_up_by s n).after (hung_up_same s n _ _) (hung_up_sound s n h)
 events_log_what_lasts s (event.Call n request) h other =
     unless_logs (early_refusal (context_of s n) request) s (row s n request) (logged_itself s h)

@@ -1,6 +1,6 @@
 -- Lists in order with the same members are one; so prepared branches and completed XIDs are told by what is found by XID.
 use Rattle.std.proofs.Common.{◌≡◌, ◌⊎◌, inl, inr, ℕ, Bool, true, false, not, cond, List, [], ◌∷◌, Some, refl, ap, subst, sym, ◌∙◌, arith}
-use Rattle.std.specs.Prelude.{find, nat_lt}
+use Rattle.std.specs.Prelude.{find, nat_lt, bytes_eq}
 use Rattle.std.specs.Cmp.Lexicographic.{slice_cmp}
 use Rattle.std.specs.List.{AllByRecursion}
 use Rattle.std.specs.Ordering.{nat_cmp, is_lt}
@@ -9,12 +9,14 @@ use Rattle.std.specs.declared.cmp.Ordering.TheVariants.{Less, Equal, Greater}
 use Rattle.std.proofs.lemmas.Bool.{not-true, not_from_false}
 use Rattle.std.proofs.lemmas.Bool.Decides.{nat_tests}
 use Rattle.std.proofs.lemmas.Cmp.{nat_list_cmp_total, tied_itself}
+use Rattle.xa_codes.specs.declared.write.Write.{Write}
 use Rattle.xa_xid.specs.Triple.{Triple, xid_eq, xid_cmp}
 use Rattle.xa_xid.proofs.Same.{xid_eq_itself}
 use Rattle.xa_model.specs.State.{Decided}
 use Rattle.xa_model.specs.Durable.{PreparedBranch, Pairwise, commits_before, prepares_before, named_before, named_apart, keys_before}
 use Rattle.xa_model.proofs.Inserts.{IsTransitive, all_imply}
 use Rattle.xa_model.proofs.Tests.{prepares_transitive, names_transitive, below_apart}
+use Rattle.std.proofs.lemmas.Slice.Eq.{bytes_eq-Decides}
 
 -- members
 
@@ -97,6 +99,17 @@ pub keys_transitive : IsTransitive keys_before
 keys_transitive = record {
   trans = λ x y z e f. ap is_lt (nat_list_cmp_total.trans x.key y.key z.key (less_is (slice_cmp nat_cmp x.key y.key) e) (less_is (slice_cmp nat_cmp y.key z.key) f));
 }
+
+other_key_by : (w v : Write) (c : Bool) → bytes_eq v.key w.key ≡ c → keys_before w v ≡ true → c ≡ false
+other_key_by w v false e h = refl
+other_key_by w v true e h =
+    let same : v.key ≡ w.key = (bytes_eq-Decides v.key w.key).0 e in
+    let itself : is_lt (slice_cmp nat_cmp w.key w.key) ≡ true = subst (λ (k : List ℕ). is_lt (slice_cmp nat_cmp w.key k) ≡ true) same h in
+    absurd (cc (itself, keys_strict.never w))
+
+-- a write behind another is of another key
+pub other_key : (w v : Write) → keys_before w v ≡ true → bytes_eq v.key w.key ≡ false
+other_key w v h = other_key_by w v (bytes_eq v.key w.key) refl h
 
 -- what is found by a name is a member, and a member is found by its name
 

@@ -16,11 +16,9 @@ use Rattle.xa_xid.specs.Triple.{Triple, xid_eq}
 use Rattle.xa_xid.proofs.Same.{xid_eq_itself}
 use Rattle.xa_model.specs.declared.event.Event.{Event}
 use Rattle.xa_model.specs.declared.event.Event.TheVariants as event
-use Rattle.xa_model.specs.declared.outcome.Appending.{Appending}
-use Rattle.xa_model.specs.declared.outcome.Appending.TheVariants.{Kept, Refused, Lost}
 use Rattle.xa_model.specs.State.{State, Association, Branch, Phase, Working, Prepared, Committed, Known, Unknown, AtWork, InDoubt, Completed, count, known_as, known_in, known_of, is_known_as, is_committed, active_of, is_active, branch_with, own_branch, mark_of, change, without, suspends, is_loose_with, loose_of, holders_of, is_with, limit_of, is_working, is_at_work}
 use Rattle.xa_model.specs.Source.{source, is_late}
-use Rattle.xa_model.specs.Answer.{Answer, plain, answer, ok, unless, marked}
+use Rattle.xa_model.specs.Answer.{Answer, plain, answer, ok}
 use Rattle.xa_model.specs.Early.{early_refusal}
 use Rattle.xa_model.specs.Associations.{connect_refusal, connected, close_refusal, is_of_session, with_mark, marked_phase, or_mark, left_behind, is_worked_by, start_refusal, begun, begin_by, is_taken, join_refusal, joined, join_by, resume_refusal, resumed, not_resumed, resume_by, start_by, end_refusal, loose_refusal, suspended, not_suspended, suspend_by, can_end, ended, failed, leave_by, end_by, mark_in, timestamp_in}
 use Rattle.xa_model.specs.Phases.{rolled_back, committed, as_committed, as_prepared, prepared_phase, unprepared_refusal, two_phase_refusal, rollback_refusal, heuristic_refusal, doom_refusal, doomed, is_associated}
@@ -36,13 +34,17 @@ use Rattle.xa_model.specs.Fold.{is_empty}
 use Rattle.xa_model.specs.Invariants.Loggable.{IsRecoverable}
 use Rattle.xa_model.specs.Events.{begins_boot}
 use Rattle.xa_model.proofs.Rows.{passed}
-use Rattle.xa_model.proofs.Replies.{AllOf, unless_all, marked_all, cond_all}
+use Rattle.xa_model.proofs.Replies.{AllOf, unless_all, marked_all, cond_all, each_fate}
 use Rattle.xa_model.proofs.AppliedAll.{applied_changes}
 use Rattle.xa_model.proofs.Moves.{core, GoesOn, Remain, Moves, remains, begins, gets, puts, as_it_is, all_remain, changed_remain, mapped_remain, left_remain}
+use Rattle.xa_model.proofs.OfAnswers.{cond_after, if_late_after, marked_after, unless_after}
 
 -- the state after the answer is a move away
+abbrev MovesTo : State → State → Type 0
+MovesTo s t = Moves (core s) (core t)
+
 abbrev pub Moved : State → Answer → Type 0
-Moved s a = Moves (core s) (core a.after)
+Moved s a = MovesTo s a.after
 
 pub itself : (s : State) → Moves (core s) (core s)
 itself s = remains s.branches (all_remain s.branches)
@@ -152,31 +154,10 @@ applied_core s r = ap core (applied_changes s r)
 applies : (s : State) (r : Record) → Moves (core s) (core (applied r s))
 applies s r = subst (Moves (core s)) (sym (applied_core s r)) (remains (applied r s).branches (applied_remain s r))
 
--- answers
-
-unless_moved : (o : Option Reply) (s : State) (a : Answer) → (o ≡ None → Moved s a) → Moved s (unless o s a)
-unless_moved None s a h = h refl
-unless_moved (Some reply) s a h = itself s
-
-marked_moved : (o : Option ℤ) (s left : State) (a : Answer) → Moves (core s) (core left) → Moved s a → Moved s (marked o left a)
-marked_moved None s left a h k = k
-marked_moved (Some code) s left a h k = h
-
-cond_moved : (c : Bool) (s : State) (a b : Answer) → Moved s a → Moved s b → Moved s (cond c a b)
-cond_moved true s a b h k = h
-cond_moved false s a b h k = k
-
-if_late_moved : (late : Bool) (s : State) (a b : Answer) → Moved s a → (late ≡ false → Moved s b) → Moved s (if_late late a b)
-if_late_moved true s a b h k = h
-if_late_moved false s a b h k = k refl
+-- turns
 
 logs_moved : (s : State) (r : Record) (code : ℤ) (left : State) → Moves (core s) (core left) → AllOf (Moved s) (logs s r code left)
-logs_moved s r code left h = by_fate
-  where
-    by_fate : (x : Appending) → Moved s (append_became s r code left x)
-    by_fate Kept = applies s r
-    by_fate Refused = h
-    by_fate Lost = itself s
+logs_moved s r code left h = each_fate (λ x. Moved s (append_became s r code left x)) (applies s r) h (itself s)
 
 unless_turns : (o : Option Reply) (s : State) (t : Turn) → AllOf (Moved s) t → AllOf (Moved s) (unless_now o s t)
 unless_turns o s t h = unless_all (Moved s) o s t (λ reply e. itself s) h
@@ -185,31 +166,31 @@ unless_turns o s t h = unless_all (Moved s) o s t (λ reply e. itself s) h
 
 start_moved : (s : State) (n flags : ℕ) (xid : Triple) → Moved s (start_by s n flags xid)
 start_moved s n flags xid =
-    cond_moved (has flags TMJOIN) s (join_by s n xid) (cond (has flags TMRESUME) (resume_by s n xid) (begin_by s n xid))
-    (unless_moved (join_refusal (is_some (active_of s.associations n)) (list_any (suspends n xid) s.associations) (known_as s xid)) s _
-    (λ none. marked_moved (mark_in (known_as s xid)) s s (joined s n xid) (itself s) (itself s)))
-    (cond_moved (has flags TMRESUME) s (resume_by s n xid) (begin_by s n xid)
-    (unless_moved (resume_refusal (is_some (active_of s.associations n)) (known_as s xid) (list_any (suspends n xid) s.associations)
-    (list_any (is_loose_with xid) s.associations)) s _
-    (λ none. marked_moved (mark_in (known_as s xid)) s (not_resumed s n xid) (resumed s n xid) (itself s) (itself s)))
-    (unless_moved (start_refusal (is_some (active_of s.associations n)) (is_taken (known_as s xid)) (known_in s) s.given) s (begun s n xid)
+    cond_after (MovesTo s) (has flags TMJOIN) (join_by s n xid) (cond (has flags TMRESUME) (resume_by s n xid) (begin_by s n xid))
+    (unless_after (MovesTo s) (join_refusal (is_some (active_of s.associations n)) (list_any (suspends n xid) s.associations) (known_as s xid)) s _ (itself s)
+    (λ none. marked_after (MovesTo s) (mark_in (known_as s xid)) s (joined s n xid) (itself s) (itself s)))
+    (cond_after (MovesTo s) (has flags TMRESUME) (resume_by s n xid) (begin_by s n xid)
+    (unless_after (MovesTo s) (resume_refusal (is_some (active_of s.associations n)) (known_as s xid) (list_any (suspends n xid) s.associations)
+    (list_any (is_loose_with xid) s.associations)) s _ (itself s)
+    (λ none. marked_after (MovesTo s) (mark_in (known_as s xid)) (not_resumed s n xid) (resumed s n xid) (itself s) (itself s)))
+    (unless_after (MovesTo s) (start_refusal (is_some (active_of s.associations n)) (is_taken (known_as s xid)) (known_in s) s.given) s (begun s n xid) (itself s)
     (λ none. begins xid s.moment (limit_of s n))))
 
 suspend_moved : (s : State) (n : ℕ) (migrates : Bool) (xid : Triple) → Moved s (suspend_by s n migrates xid)
 suspend_moved s n migrates xid =
-    unless_moved (end_refusal (known_as s xid) (is_with xid (active_of s.associations n))) s _
-    (λ none. marked_moved (mark_in (known_as s xid)) s (not_suspended s n xid) _ (itself s)
-    (unless_moved (loose_refusal migrates (loose_of s.associations xid)) s (ok (suspended s n migrates xid)) (λ none. itself s)))
+    unless_after (MovesTo s) (end_refusal (known_as s xid) (is_with xid (active_of s.associations n))) s _ (itself s)
+    (λ none. marked_after (MovesTo s) (mark_in (known_as s xid)) (not_suspended s n xid) _ (itself s)
+    (unless_after (MovesTo s) (loose_refusal migrates (loose_of s.associations xid)) s (ok (suspended s n migrates xid)) (itself s) (λ none. itself s)))
 
 leave_moved : (s : State) (n : ℕ) (fails : Bool) (xid : Triple) → Moved s (leave_by s n fails xid)
 leave_moved s n fails xid =
-    unless_moved (end_refusal (known_as s xid) (can_end s.associations n xid)) s _
-    (λ none. marked_moved (mark_in (known_as s xid)) s (ended s n xid) (cond fails (failed s n xid) (ok (ended s n xid))) (itself s)
-    (cond_moved fails s (failed s n xid) (ok (ended s n xid)) (marks s XA_RBROLLBACK xid (λ e. cc e)) (itself s)))
+    unless_after (MovesTo s) (end_refusal (known_as s xid) (can_end s.associations n xid)) s _ (itself s)
+    (λ none. marked_after (MovesTo s) (mark_in (known_as s xid)) (ended s n xid) (cond fails (failed s n xid) (ok (ended s n xid))) (itself s)
+    (cond_after (MovesTo s) fails (failed s n xid) (ok (ended s n xid)) (marks s XA_RBROLLBACK xid (λ e. cc e)) (itself s)))
 
 end_moved : (s : State) (n flags : ℕ) (xid : Triple) → Moved s (end_by s n flags xid)
 end_moved s n flags xid =
-    cond_moved (has flags TMSUSPEND) s (suspend_by s n (has flags TMMIGRATE) xid) (leave_by s n (has flags TMFAIL) xid)
+    cond_after (MovesTo s) (has flags TMSUSPEND) (suspend_by s n (has flags TMMIGRATE) xid) (leave_by s n (has flags TMFAIL) xid)
     (suspend_moved s n (has flags TMMIGRATE) xid) (leave_moved s n (has flags TMFAIL) xid)
 
 -- gets and puts, by the branch that the session works for
@@ -264,17 +245,17 @@ get_moved : (s : State) (n : ℕ) (key : List ℕ) (o : Option (Triple × Branch
 get_moved s n key None e = itself s
 get_moved s n key (Some (xid, b)) e =
     let v = source key b.timestamp s.branches in
-    marked_moved (mark_of b.phase) s s (get_from s key xid b v) (itself s)
-    (unless_moved (busy_refusal b.timestamp v) s (got s key xid b v)
+    marked_after (MovesTo s) (mark_of b.phase) s (get_from s key xid b v) (itself s)
+    (unless_after (MovesTo s) (busy_refusal b.timestamp v) s (got s key xid b v) (itself s)
     (λ none. gets key xid b (own s n xid b e).found (passed _ _ _ none).0))
 
 put_moved : (s : State) (n : ℕ) (key : List ℕ) (value : Option (List ℕ)) (o : Option (Triple × Branch)) → own_branch s n ≡ o → IsRecoverable s
     → Moved s (put_by s key value o)
 put_moved s n key value None e h = itself s
 put_moved s n key value (Some (xid, b)) e h =
-    marked_moved (mark_of b.phase) s s (put_from s key value xid b) (itself s)
-    (unless_moved (limit_refusal (is_full key b.operations)) s (if_late (is_late key b.timestamp s.reads) (came_late s xid) (written s key value xid))
-    (λ none. if_late_moved (is_late key b.timestamp s.reads) s (came_late s xid) (written s key value xid) (marks s XA_RBTRANSIENT xid (λ e. cc e))
+    marked_after (MovesTo s) (mark_of b.phase) s (put_from s key value xid b) (itself s)
+    (unless_after (MovesTo s) (limit_refusal (is_full key b.operations)) s (if_late (is_late key b.timestamp s.reads) (came_late s xid) (written s key value xid)) (itself s)
+    (λ none. if_late_after (MovesTo s) (is_late key b.timestamp s.reads) (came_late s xid) (written s key value xid) (marks s XA_RBTRANSIENT xid (λ e. cc e))
     (λ on_time. puts key value xid b (own s n xid b e).found (own_works s n xid b h.sound (own s n xid b e)) on_time)))
 
 -- the calls that log
@@ -321,7 +302,7 @@ recovered_moved s n flags count (Some cursor) = itself s
 row_moved : (s : State) (n : ℕ) (request : Request) → IsRecoverable s → begins_boot (event.Call n request) ≡ false
     → AllOf (Moved s) (row s n request)
 row_moved s n (Open flags info) h e = itself s
-row_moved s n (Close flags) h e = unless_moved (close_refusal (list_any (is_of_session n) s.associations)) s _ (λ none. itself s)
+row_moved s n (Close flags) h e = unless_after (MovesTo s) (close_refusal (list_any (is_of_session n) s.associations)) s _ (itself s) (λ none. itself s)
 row_moved s n (Start flags xid) h e = start_moved s n flags xid
 row_moved s n (End flags xid) h e = end_moved s n flags xid
 row_moved s n (Prepare flags xid) h e = prepare_moved s xid
@@ -339,7 +320,7 @@ row_moved s n (Delete key) h e = put_moved s n key None (own_branch s n) refl h
 row_moved s n (Decide way xid) h e =
     unless_turns (decide_refusal (known_as s xid)) s (logs s (logged.Decided xid way) XAER_RMERR s)
     (logs_moved s (logged.Decided xid way) XAER_RMERR s (itself s))
-row_moved s n (Doom xid) h e = unless_moved (doom_refusal (known_as s xid)) s (ok (doomed s xid)) (λ none. marks s XA_RBOTHER xid (λ e. cc e))
+row_moved s n (Doom xid) h e = unless_after (MovesTo s) (doom_refusal (known_as s xid)) s (ok (doomed s xid)) (itself s) (λ none. marks s XA_RBOTHER xid (λ e. cc e))
 row_moved s n Restart h e = absurd (cc e)
 row_moved s n (Timeout seconds) h e = itself s
 row_moved s n (Tick moment) h e = remains (map (timed_out moment) s.branches) (mapped_remain (timed_out moment) (timed_goes moment) s.branches)
@@ -347,7 +328,7 @@ row_moved s n Trim h e = absurd (cc e)
 row_moved s n (Branches count after) h e = itself s
 
 pub event_moved : (s : State) (e : Event) → IsRecoverable s → begins_boot e ≡ false → AllOf (Moved s) (respond s e)
-event_moved s event.Connect h e = unless_moved (connect_refusal _) s (connected s) (λ none. itself s)
+event_moved s event.Connect h e = unless_after (MovesTo s) (connect_refusal _) s (connected s) (itself s) (λ none. itself s)
 event_moved s (event.Hangup n) h e =
     remains (map (left_behind s.associations n) s.branches) (mapped_remain (left_behind s.associations n) (left_goes s.associations n) s.branches)
 event_moved s (event.Call n request) h e =

@@ -1,32 +1,28 @@
 -- Every step is a move, and so every history keeps what moves keep.
 use Rattle.std.proofs.Common.{◌≡◌, ◌∙◌, ℕ, zero, suc, ◌+◌, ◌≤◌, Bool, true, false, ◌&&◌, cond, List, [], ◌∷◌, Option, Some, None, refl, sym, ap, subst, arith}
 use Rattle.std.specs.Prelude.{IfSome, filter, nat_lt, option_map}
-use Rattle.xa_codes.specs.declared.codes.TheConstants.{XAER_RMFAIL}
-use Rattle.xa_codes.specs.declared.detail.Detail.TheVariants as detail
 use Rattle.xa_frame.specs.declared.request.Request.{Request}
 use Rattle.xa_frame.specs.declared.request.Request.TheVariants.{Restart, Trim}
 use Rattle.xa_record.specs.declared.record.Record.{Record}
 use Rattle.xa_record.specs.declared.record.Record.TheVariants as logged
 use Rattle.xa_model.specs.declared.event.Event.{Event}
 use Rattle.xa_model.specs.declared.event.Event.TheVariants as event
-use Rattle.xa_model.specs.declared.outcome.Appending.{Appending}
-use Rattle.xa_model.specs.declared.outcome.Appending.TheVariants.{Kept, Refused, Lost}
 use Rattle.xa_model.specs.State.{State}
-use Rattle.xa_model.specs.Answer.{Answer, answer, detailed, ok}
+use Rattle.xa_model.specs.Answer.{Answer, ok}
 use Rattle.xa_model.specs.Early.{early_refusal}
 use Rattle.xa_model.specs.Turn.{Happening, Asked, Reopened, Stops, Opens}
 use Rattle.xa_model.specs.Step.{respond, asked, turn, context_of, further_record}
 use Rattle.xa_model.specs.Events.{HaveHappened, begins_boot}
 use Rattle.xa_model.specs.History.{Entry, Leads}
-use Rattle.xa_model.specs.Logging.{applied, down}
+use Rattle.xa_model.specs.Logging.{applied}
 use Rattle.xa_model.specs.Invariants.Loggable.{IsRecoverable}
 use Rattle.xa_model.specs.Trimming.{trim_refusal, trim_became, trim_turn}
-use Rattle.xa_model.specs.Restarting.{with_first, looked, lasts, survived, restarted, boot_became, restarting, restart_turn, refused_opening, reopen_became, reopening, reopen_turn, can_open}
+use Rattle.xa_model.specs.Restarting.{with_first, looked, lasts, survived, restarted, restarting, restart_turn, refused_opening, reopen_became, reopening, reopen_turn, can_open}
 use Rattle.xa_model.proofs.AppliedAll.{IsFirst, if_imply}
 use Rattle.xa_model.proofs.Restarts.{open_first, found_boots}
 use Rattle.xa_model.proofs.Restores.{idle}
 use Rattle.xa_model.proofs.Recoveries.{keeps_recoverable}
-use Rattle.xa_model.proofs.Replies.{AllOf, AllOfReading, taken_all, asked_all, joins_all, unless_all}
+use Rattle.xa_model.proofs.Replies.{AllOf, AllOfReading, taken_all, asked_all, joins_all, unless_all, each_fate, restarting_all}
 use Rattle.xa_model.proofs.Moves.{Core, core, Remain, Moves, remains, restarts, trims, all_remain, remain_on, lasting_remain}
 use Rattle.xa_model.proofs.MovingRows.{Moved, itself, applied_remain, applied_core, event_moved}
 
@@ -45,28 +41,12 @@ boots s x h =
     restarts (x.logged_boot + 1) (filter lasts x.branches) (omega (arith, same, h.boots)) (remain_on h.remain (lasting_remain x.branches))
     (idle x.branches)
 
-restarts_by : (s x : State) (c : Bool) → Stems s x
-    → AllOfReading (Moved s)
-    (cond c (Opens (logged.Opened (x.logged_boot + 1)) (boot_became x (x.logged_boot + 1)))
-    (Stops (answer (detailed XAER_RMFAIL detail.Limit) (down x))))
-restarts_by s x true h = by_fate
-  where
-    by_fate : (a : Appending) → Moved s (boot_became x (x.logged_boot + 1) a)
-    by_fate Kept = boots s x h
-    by_fate Refused = still s x h
-    by_fate Lost = still s x h
-restarts_by s x false h = still s x h
-
 reopens_by : (s x : State) (name : List ℕ) (log_bytes : ℕ) (c : Bool) → Stems s x
     → AllOfReading (Moved s)
     (cond c (Opens (logged.Opened (x.logged_boot + 1)) (reopen_became x name log_bytes (x.logged_boot + 1)))
     (Stops (ok (refused_opening x name log_bytes))))
-reopens_by s x name log_bytes true h = by_fate
-  where
-    by_fate : (a : Appending) → Moved s (reopen_became x name log_bytes (x.logged_boot + 1) a)
-    by_fate Kept = boots s x h
-    by_fate Refused = still s x h
-    by_fate Lost = still s x h
+reopens_by s x name log_bytes true h =
+    each_fate (λ a. Moved s (reopen_became x name log_bytes (x.logged_boot + 1) a)) (boots s x h) (still s x h) (still s x h)
 reopens_by s x name log_bytes false h = still s x h
 
 -- the state with the first of the open records
@@ -98,7 +78,8 @@ survived_stems s k h =
 restart_moved : (s : State) → IsRecoverable s → AllOf (Moved s) (restart_turn s)
 restart_moved s h = (
   itself s,
-  λ k. found_boots (Stems s) (AllOfReading (Moved s)) s k restarting (λ x f. restarts_by s x (nat_lt x.logged_boot 4294967295) f) (survived_stems s k h),
+  λ k. found_boots (Stems s) (AllOfReading (Moved s)) s k restarting
+      (λ x f. restarting_all (Moved s) x (boots s x f) (still s x f) (still s x f) (still s x f)) (survived_stems s k h),
 )
 
 reopen_moved : (s : State) (name : List ℕ) (log_bytes : ℕ) → IsRecoverable s → AllOf (Moved s) (reopen_turn s name log_bytes)
@@ -109,12 +90,9 @@ reopen_moved s name log_bytes h = (
 )
 
 pub trim_moved : (s : State) → IsRecoverable s → AllOf (Moved s) (trim_turn s)
-trim_moved s h = unless_all (Moved s) (trim_refusal s) s _ (λ reply is. itself s) by_fate
-  where
-    by_fate : (x : Appending) → Moved s (trim_became s (s.logged_boot + 1) x)
-    by_fate Kept = trims (s.logged_boot + 1) (omega (arith, h.loggable.boots))
-    by_fate Refused = itself s
-    by_fate Lost = itself s
+trim_moved s h =
+    unless_all (Moved s) (trim_refusal s) s _ (λ reply is. itself s)
+    (each_fate (λ x. Moved s (trim_became s (s.logged_boot + 1) x)) (trims (s.logged_boot + 1) (omega (arith, h.loggable.boots))) (itself s) (itself s))
 
 restart_only : (s : State) (n : ℕ) (request : Request) → begins_boot (event.Call n request) ≡ true → IsRecoverable s
     → AllOf (Moved s) (respond s (event.Call n request))

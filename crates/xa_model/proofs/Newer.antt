@@ -17,7 +17,7 @@ use Rattle.xa_model.specs.declared.event.Event.TheVariants as event
 use Rattle.xa_model.specs.declared.outcome.Appending.TheVariants.{Refused}
 use Rattle.xa_model.specs.State.{State, Session, Association, Read, Branch, Operation, Got, Wrote, Phase, Working, Prepared, Committed, Known, Unknown, AtWork, InDoubt, Completed, known_as, known_in, is_known_as, active_of, own_branch, mark_of, change, without, suspends, is_loose_with, loose_of, is_with, timestamp_of, is_working}
 use Rattle.xa_model.specs.Source.{source, is_late}
-use Rattle.xa_model.specs.Answer.{Answer, plain, answer, ok, unless, marked}
+use Rattle.xa_model.specs.Answer.{plain, answer, ok}
 use Rattle.xa_model.specs.Early.{early_refusal}
 use Rattle.xa_model.specs.Associations.{connect_refusal, connected, close_refusal, is_of_session, with_mark, marked_phase, left_behind, is_worked_by, start_refusal, begun, begin_by, is_taken, join_refusal, joined, join_by, resume_refusal, resumed, not_resumed, resume_by, start_by, end_refusal, loose_refusal, suspended, not_suspended, suspend_by, can_end, ended, failed, leave_by, end_by, mark_in, timestamp_in}
 use Rattle.xa_model.specs.Phases.{rolled_back, committed, as_committed, unprepared_refusal, two_phase_refusal, rollback_refusal, heuristic_refusal, doom_refusal, doomed, is_associated}
@@ -31,6 +31,7 @@ use Rattle.xa_model.specs.Completions.{prepare_turn, prepare_written, commit_one
 use Rattle.xa_model.specs.Fold.{is_empty, is_used}
 use Rattle.xa_model.specs.Events.{begins_boot}
 use Rattle.xa_model.proofs.Lists.{change_all, without_all}
+use Rattle.xa_model.proofs.OfAnswers.{cond_after, if_late_after, marked_after, unless_after}
 
 -- no branch at work has one of the timestamps
 abbrev pub AreUnused : List ℕ → List Branch → Type 0
@@ -153,54 +154,36 @@ begun_newer s n xid = record {
   unused = λ ts given h. ((λ works. unused_above (timestamp_of s.boot s.given) (timestamp_of s.boot (s.given + 1)) ts (omega arith) given), h);
 }
 
--- answers
-
-unless_newer : (o : Option Reply) (s : State) (a : Answer) → IsNewer s a.after → IsNewer s (unless o s a).after
-unless_newer None s a h = h
-unless_newer (Some reply) s a h = itself s
-
-marked_newer : (o : Option ℤ) (s left : State) (a : Answer) → IsNewer s left → IsNewer s a.after → IsNewer s (marked o left a).after
-marked_newer None s left a h k = k
-marked_newer (Some code) s left a h k = h
-
-cond_newer : (c : Bool) (s : State) (a b : Answer) → IsNewer s a.after → IsNewer s b.after → IsNewer s (cond c a b).after
-cond_newer true s a b h k = h
-cond_newer false s a b h k = k
-
-if_late_newer : (late : Bool) (s : State) (a b : Answer) → IsNewer s a.after → IsNewer s b.after → IsNewer s (if_late late a b).after
-if_late_newer true s a b h k = h
-if_late_newer false s a b h k = k
-
 -- the association table
 
 start_newer : (s : State) (n flags : ℕ) (xid : Triple) → IsNewer s (start_by s n flags xid).after
 start_newer s n flags xid =
-    cond_newer (has flags TMJOIN) s (join_by s n xid) (cond (has flags TMRESUME) (resume_by s n xid) (begin_by s n xid))
-    (unless_newer (join_refusal (is_some (active_of s.associations n)) (list_any (suspends n xid) s.associations) (known_as s xid)) s _
-    (marked_newer (mark_in (known_as s xid)) s s (joined s n xid) (itself s) (alike s s.sessions _ s.reads)))
-    (cond_newer (has flags TMRESUME) s (resume_by s n xid) (begin_by s n xid)
-    (unless_newer (resume_refusal (is_some (active_of s.associations n)) (known_as s xid) (list_any (suspends n xid) s.associations)
-    (list_any (is_loose_with xid) s.associations)) s _
-    (marked_newer (mark_in (known_as s xid)) s (not_resumed s n xid) (resumed s n xid) (alike s s.sessions _ s.reads) (alike s s.sessions _ s.reads)))
-    (unless_newer (start_refusal (is_some (active_of s.associations n)) (is_taken (known_as s xid)) (known_in s) s.given) s (begun s n xid)
-    (begun_newer s n xid)))
+    cond_after (IsNewer s) (has flags TMJOIN) (join_by s n xid) (cond (has flags TMRESUME) (resume_by s n xid) (begin_by s n xid))
+    (unless_after (IsNewer s) (join_refusal (is_some (active_of s.associations n)) (list_any (suspends n xid) s.associations) (known_as s xid)) s _ (itself s)
+    (λ none. marked_after (IsNewer s) (mark_in (known_as s xid)) s (joined s n xid) (itself s) (alike s s.sessions _ s.reads)))
+    (cond_after (IsNewer s) (has flags TMRESUME) (resume_by s n xid) (begin_by s n xid)
+    (unless_after (IsNewer s) (resume_refusal (is_some (active_of s.associations n)) (known_as s xid) (list_any (suspends n xid) s.associations)
+    (list_any (is_loose_with xid) s.associations)) s _ (itself s)
+    (λ none. marked_after (IsNewer s) (mark_in (known_as s xid)) (not_resumed s n xid) (resumed s n xid) (alike s s.sessions _ s.reads) (alike s s.sessions _ s.reads)))
+    (unless_after (IsNewer s) (start_refusal (is_some (active_of s.associations n)) (is_taken (known_as s xid)) (known_in s) s.given) s (begun s n xid) (itself s)
+    (λ none. begun_newer s n xid)))
 
 suspend_newer : (s : State) (n : ℕ) (migrates : Bool) (xid : Triple) → IsNewer s (suspend_by s n migrates xid).after
 suspend_newer s n migrates xid =
-    unless_newer (end_refusal (known_as s xid) (is_with xid (active_of s.associations n))) s _
-    (marked_newer (mark_in (known_as s xid)) s (not_suspended s n xid) _ (alike s s.sessions _ s.reads)
-    (unless_newer (loose_refusal migrates (loose_of s.associations xid)) s (ok (suspended s n migrates xid)) (alike s s.sessions _ s.reads)))
+    unless_after (IsNewer s) (end_refusal (known_as s xid) (is_with xid (active_of s.associations n))) s _ (itself s)
+    (λ none. marked_after (IsNewer s) (mark_in (known_as s xid)) (not_suspended s n xid) _ (alike s s.sessions _ s.reads)
+    (unless_after (IsNewer s) (loose_refusal migrates (loose_of s.associations xid)) s (ok (suspended s n migrates xid)) (itself s) (λ none. alike s s.sessions _ s.reads)))
 
 leave_newer : (s : State) (n : ℕ) (fails : Bool) (xid : Triple) → IsNewer s (leave_by s n fails xid).after
 leave_newer s n fails xid =
-    unless_newer (end_refusal (known_as s xid) (can_end s.associations n xid)) s _
-    (marked_newer (mark_in (known_as s xid)) s (ended s n xid) (cond fails (failed s n xid) (ok (ended s n xid))) (alike s s.sessions _ s.reads)
-    (cond_newer fails s (failed s n xid) (ok (ended s n xid)) (with_mark_newer s s.sessions _ XA_RBROLLBACK xid s.reads)
+    unless_after (IsNewer s) (end_refusal (known_as s xid) (can_end s.associations n xid)) s _ (itself s)
+    (λ none. marked_after (IsNewer s) (mark_in (known_as s xid)) (ended s n xid) (cond fails (failed s n xid) (ok (ended s n xid))) (alike s s.sessions _ s.reads)
+    (cond_after (IsNewer s) fails (failed s n xid) (ok (ended s n xid)) (with_mark_newer s s.sessions _ XA_RBROLLBACK xid s.reads)
     (alike s s.sessions _ s.reads)))
 
 end_newer : (s : State) (n flags : ℕ) (xid : Triple) → IsNewer s (end_by s n flags xid).after
 end_newer s n flags xid =
-    cond_newer (has flags TMSUSPEND) s (suspend_by s n (has flags TMMIGRATE) xid) (leave_by s n (has flags TMFAIL) xid)
+    cond_after (IsNewer s) (has flags TMSUSPEND) (suspend_by s n (has flags TMMIGRATE) xid) (leave_by s n (has flags TMFAIL) xid)
     (suspend_newer s n (has flags TMMIGRATE) xid) (leave_newer s n (has flags TMFAIL) xid)
 
 -- gets and puts
@@ -209,19 +192,19 @@ get_newer : (s : State) (key : List ℕ) (o : Option (Triple × Branch)) → IsN
 get_newer s key None = itself s
 get_newer s key (Some (xid, b)) =
     let v = source key b.timestamp s.branches in
-    marked_newer (mark_of b.phase) s s (get_from s key xid b v) (itself s)
-    (unless_newer (busy_refusal b.timestamp v) s (got s key xid b v)
-    (moved s s.sessions s.associations _ _
+    marked_after (IsNewer s) (mark_of b.phase) s (get_from s key xid b v) (itself s)
+    (unless_after (IsNewer s) (busy_refusal b.timestamp v) s (got s key xid b v) (itself s)
+    (λ none. moved s s.sessions s.associations _ _
     (λ ts h. changed_unused xid (having_done (Got key v.value v.timestamp)) (done_still (Got key v.value v.timestamp)) ts s.branches h)))
 
 put_newer : (s : State) (key : List ℕ) (value : Option (List ℕ)) (o : Option (Triple × Branch)) → IsNewer s (put_by s key value o).after
 put_newer s key value None = itself s
 put_newer s key value (Some (xid, b)) =
-    marked_newer (mark_of b.phase) s s (put_from s key value xid b) (itself s)
-    (unless_newer (limit_refusal (is_full key b.operations)) s (if_late (is_late key b.timestamp s.reads) (came_late s xid) (written s key value xid))
-    (if_late_newer (is_late key b.timestamp s.reads) s (came_late s xid) (written s key value xid)
+    marked_after (IsNewer s) (mark_of b.phase) s (put_from s key value xid b) (itself s)
+    (unless_after (IsNewer s) (limit_refusal (is_full key b.operations)) s (if_late (is_late key b.timestamp s.reads) (came_late s xid) (written s key value xid)) (itself s)
+    (λ none. if_late_after (IsNewer s) (is_late key b.timestamp s.reads) (came_late s xid) (written s key value xid)
     (with_mark_newer s s.sessions s.associations XA_RBTRANSIENT xid s.reads)
-    (moved s s.sessions s.associations _ s.reads
+    (λ timely. moved s s.sessions s.associations _ s.reads
     (λ ts h. changed_unused xid (having_done (Wrote key value)) (done_still (Wrote key value)) ts s.branches h))))
 
 -- the calls that log
@@ -276,7 +259,7 @@ recovered_newer s n flags count (Some cursor) = alike s _ s.associations s.reads
 
 row_continues : (s : State) (n : ℕ) (request : Request) → begins_boot (event.Call n request) ≡ false → Continues s (row s n request)
 row_continues s n (Open flags info) e = alike s _ s.associations s.reads
-row_continues s n (Close flags) e = unless_newer (close_refusal (list_any (is_of_session n) s.associations)) s _ (alike s _ s.associations s.reads)
+row_continues s n (Close flags) e = unless_after (IsNewer s) (close_refusal (list_any (is_of_session n) s.associations)) s _ (itself s) (λ none. alike s _ s.associations s.reads)
 row_continues s n (Start flags xid) e = start_newer s n flags xid
 row_continues s n (End flags xid) e = end_newer s n flags xid
 row_continues s n (Prepare flags xid) e = prepare_continues s xid
@@ -291,7 +274,7 @@ row_continues s n (Put key value) e = put_newer s key (Some value) (own_branch s
 row_continues s n (Delete key) e = put_newer s key None (own_branch s n)
 row_continues s n (Decide way xid) e = unless_continues (decide_refusal (known_as s xid)) s (logs s (logged.Decided xid way) XAER_RMERR s) (itself s)
 row_continues s n (Doom xid) e =
-    unless_newer (doom_refusal (known_as s xid)) s (ok (doomed s xid)) (with_mark_newer s s.sessions s.associations XA_RBOTHER xid s.reads)
+    unless_after (IsNewer s) (doom_refusal (known_as s xid)) s (ok (doomed s xid)) (itself s) (λ none. with_mark_newer s s.sessions s.associations XA_RBOTHER xid s.reads)
 row_continues s n Restart e = absurd (cc e)
 row_continues s n (Timeout seconds) e = alike s _ s.associations s.reads
 row_continues s n (Tick moment) e = ticked_newer s moment
@@ -299,7 +282,7 @@ row_continues s n Trim e = absurd (cc e)
 row_continues s n (Branches count after) e = itself s
 
 pub event_continues : (s : State) (e : Event) → begins_boot e ≡ false → Continues s (respond s e)
-event_continues s event.Connect e = unless_newer (connect_refusal _) s (connected s) (alike s _ s.associations s.reads)
+event_continues s event.Connect e = unless_after (IsNewer s) (connect_refusal _) s (connected s) (itself s) (λ none. alike s _ s.associations s.reads)
 event_continues s (event.Hangup n) e =
     moved s _ _ _ s.reads (λ ts h. mapped_unused (left_behind s.associations n) (behind_still s.associations n) ts s.branches h)
 event_continues s (event.Call n request) e =

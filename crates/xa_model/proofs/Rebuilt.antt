@@ -1,17 +1,16 @@
 -- What branches, writes and XIDs of what lasted come to again, once a state is built of them.
-use Rattle.std.proofs.Common.{◌≡◌, ℕ, ◌<◌, ◌==◌, Bool, true, false, List, [], ◌∷◌, ◌++◌, Some, refl, ap, ◌∙◌, subst}
+use Rattle.std.proofs.Common.{◌≡◌, ℕ, ◌<◌, ◌==◌, Bool, true, false, List, [], ◌∷◌, ◌++◌, Some, refl, ap, ◌∙◌}
 use Rattle.std.specs.Prelude.{map, bytes_eq}
 use Rattle.std.specs.List.{AllByRecursion}
 use Rattle.std.specs.Cmp.Lexicographic.{slice_cmp}
 use Rattle.std.specs.Ordering.{nat_cmp, is_lt}
 use Rattle.std.proofs.lemmas.Bool.{ltb-true}
-use Rattle.std.proofs.lemmas.Slice.Eq.{bytes_eq-Decides}
 use Rattle.xa_codes.specs.declared.write.Write.{Write}
 use Rattle.xa_model.specs.State.{Branch, Decided}
 use Rattle.xa_model.specs.Durable.{CommittedBranch, PreparedBranch, Pairwise, insert, commits_before, prepares_before, named_before, keys_before, by_name, put_write, writes_of}
 use Rattle.xa_model.specs.Restarting.{wrote, committed_branch, prepared_branch, by_time}
 use Rattle.xa_model.proofs.Inserts.{all_imply, IsTransitive}
-use Rattle.xa_model.proofs.Members.{IsStrict, keys_strict, keys_transitive, names_strict}
+use Rattle.xa_model.proofs.Members.{IsStrict, keys_strict, keys_transitive, names_strict, other_key}
 use Rattle.xa_model.proofs.Tests.{names_transitive, less_apart}
 use Rattle.xa_model.proofs.Splits.{parts, insert_front, all_append}
 use Rattle.xa_model.proofs.Applied.{committed_of, prepared_of, committed_time, prepared_time}
@@ -42,17 +41,10 @@ by_name_same (d ∷ ds) h =
 
 -- writes
 
-other_key_by : (w v : Write) (c : Bool) → bytes_eq v.key w.key ≡ c → keys_before w v ≡ true → c ≡ false
-other_key_by w v false e h = refl
-other_key_by w v true e h =
-    let same : v.key ≡ w.key = (bytes_eq-Decides v.key w.key).0 e in
-    let itself : is_lt (slice_cmp nat_cmp w.key w.key) ≡ true = subst (λ (k : List ℕ). is_lt (slice_cmp nat_cmp w.key k) ≡ true) same h in
-    absurd (cc (itself, keys_strict.never w))
-
 put_first : (w : Write) (vs : List Write) → AllByRecursion (λ v. keys_before w v ≡ true) vs → put_write w vs ≡ w ∷ vs
 put_first w [] h = refl
 put_first w (v ∷ vs) h =
-    let other : bytes_eq v.key w.key ≡ false = other_key_by w v (bytes_eq v.key w.key) refl h.0 in
+    let other : bytes_eq v.key w.key ≡ false = other_key w v h.0 in
     let behind : is_lt (slice_cmp nat_cmp v.key w.key) ≡ false = not_back keys_before keys_transitive keys_strict w v h.0 in
     rw (other, behind) refl
 

@@ -21,7 +21,7 @@ use Rattle.xa_model.specs.declared.event.Event.TheVariants as event
 use Rattle.xa_model.specs.declared.outcome.Appending.TheVariants.{Refused}
 use Rattle.xa_model.specs.State.{State, Association, Branch, Operation, Got, Wrote, Known, Unknown, AtWork, InDoubt, Completed, known_as, known_in, known_of, is_known_as, active_of, branch_with, own_branch, mark_of, change, suspends, is_loose_with, timestamp_of}
 use Rattle.xa_model.specs.Source.{Version, source, is_late}
-use Rattle.xa_model.specs.Answer.{Answer, plain, detailed, answer, ok, unless, marked}
+use Rattle.xa_model.specs.Answer.{plain, detailed, answer, ok}
 use Rattle.xa_model.specs.Early.{early_refusal}
 use Rattle.xa_model.specs.Associations.{connect_refusal, connected, close_refusal, is_of_session, with_mark, marked_phase, left_behind, is_worked_by, start_refusal, begun, begin_by, is_taken, join_refusal, joined, join_by, resume_refusal, resumed, not_resumed, resume_by, start_by, end_refusal, loose_refusal, suspended, not_suspended, suspend_by, can_end, ended, failed, leave_by, end_by, mark_in, timestamp_by, timestamp_in}
 use Rattle.xa_limits.specs.declared.TheConstants.{MOST_BOOTS, MOST_BRANCHES, MOST_GIVEN}
@@ -41,6 +41,7 @@ use Rattle.xa_model.proofs.Lists.{change_all, without_all, found_all}
 use Rattle.xa_model.proofs.Rows.{passed, below}
 use Rattle.xa_model.proofs.Recordable.{IsRecordable, AreRecordable, recordable, with_phase, committed_recordable}
 use Rattle.xa_model.proofs.ShortWrites.{wrote_short, are_writes}
+use Rattle.xa_model.proofs.OfAnswers.{cond_after, if_late_after, marked_after, unless_after}
 
 -- what a turn leaves where its record isn't kept, and the record, which is no boot's
 abbrev pub KeepsRecordable : State → Turn → Type 0
@@ -50,20 +51,6 @@ KeepsRecordable s _ = ⊥
 
 abbrev Fits : State → State → Type 0
 Fits s t = AreRecordable s.logged_boot t.branches
-
--- answers
-
-unless_fits : (o : Option Reply) (s : State) (a : Answer) → Fits s s → (o ≡ None → Fits s a.after) → Fits s (unless o s a).after
-unless_fits None s a h k = k refl
-unless_fits (Some reply) s a h k = h
-
-marked_fits : (o : Option ℤ) (s left : State) (a : Answer) → Fits s left → Fits s a.after → Fits s (marked o left a).after
-marked_fits None s left a h k = k
-marked_fits (Some code) s left a h k = h
-
-cond_fits : (c : Bool) (s : State) (a b : Answer) → Fits s a.after → Fits s b.after → Fits s (cond c a b).after
-cond_fits true s a b h k = h
-cond_fits false s a b h k = k
 
 -- turns
 
@@ -134,29 +121,29 @@ room false false known given e =
 start_fits : (s : State) (n flags : ℕ) (xid : Triple) → IsLoggable s → Fits s (start_by s n flags xid).after
 start_fits s n flags xid loggable =
     let h = recordable s loggable in
-    cond_fits (has flags TMJOIN) s (join_by s n xid) (cond (has flags TMRESUME) (resume_by s n xid) (begin_by s n xid))
-    (unless_fits (join_refusal (is_some (active_of s.associations n)) (list_any (suspends n xid) s.associations) (known_as s xid)) s _ h
-    (λ none. marked_fits (mark_in (known_as s xid)) s s (joined s n xid) h h))
-    (cond_fits (has flags TMRESUME) s (resume_by s n xid) (begin_by s n xid)
-    (unless_fits (resume_refusal (is_some (active_of s.associations n)) (known_as s xid) (list_any (suspends n xid) s.associations) (list_any (is_loose_with xid) s.associations)) s _ h
-    (λ none. marked_fits (mark_in (known_as s xid)) s (not_resumed s n xid) (resumed s n xid) h h))
-    (unless_fits (start_refusal (is_some (active_of s.associations n)) (is_taken (known_as s xid)) (known_in s) s.given) s (begun s n xid) h
+    cond_after (Fits s) (has flags TMJOIN) (join_by s n xid) (cond (has flags TMRESUME) (resume_by s n xid) (begin_by s n xid))
+    (unless_after (Fits s) (join_refusal (is_some (active_of s.associations n)) (list_any (suspends n xid) s.associations) (known_as s xid)) s _ h
+    (λ none. marked_after (Fits s) (mark_in (known_as s xid)) s (joined s n xid) h h))
+    (cond_after (Fits s) (has flags TMRESUME) (resume_by s n xid) (begin_by s n xid)
+    (unless_after (Fits s) (resume_refusal (is_some (active_of s.associations n)) (known_as s xid) (list_any (suspends n xid) s.associations) (list_any (is_loose_with xid) s.associations)) s _ h
+    (λ none. marked_after (Fits s) (mark_in (known_as s xid)) (not_resumed s n xid) (resumed s n xid) h h))
+    (unless_after (Fits s) (start_refusal (is_some (active_of s.associations n)) (is_taken (known_as s xid)) (known_in s) s.given) s (begun s n xid) h
     (λ allowed. begun_fits s n xid loggable (room (is_some (active_of s.associations n)) (is_taken (known_as s xid)) (known_in s) s.given allowed))))
 
 suspend_fits : (s : State) (n : ℕ) (migrates : Bool) (xid : Triple) → Fits s s → Fits s (suspend_by s n migrates xid).after
 suspend_fits s n migrates xid h =
-    unless_fits (end_refusal (known_as s xid) (_)) s _ h
-    (λ none. marked_fits (mark_in (known_as s xid)) s (not_suspended s n xid) _ h (unless_fits (loose_refusal migrates _) s (ok (suspended s n migrates xid)) h (λ free. h)))
+    unless_after (Fits s) (end_refusal (known_as s xid) (_)) s _ h
+    (λ none. marked_after (Fits s) (mark_in (known_as s xid)) (not_suspended s n xid) _ h (unless_after (Fits s) (loose_refusal migrates _) s (ok (suspended s n migrates xid)) h (λ free. h)))
 
 leave_fits : (s : State) (n : ℕ) (fails : Bool) (xid : Triple) → Fits s s → Fits s (leave_by s n fails xid).after
 leave_fits s n fails xid h =
-    unless_fits (end_refusal (known_as s xid) (can_end s.associations n xid)) s _ h
-    (λ none. marked_fits (mark_in (known_as s xid)) s (ended s n xid) (cond fails (failed s n xid) (ok (ended s n xid))) h
-    (cond_fits fails s (failed s n xid) (ok (ended s n xid)) (mark_fits s xid XA_RBROLLBACK h) h))
+    unless_after (Fits s) (end_refusal (known_as s xid) (can_end s.associations n xid)) s _ h
+    (λ none. marked_after (Fits s) (mark_in (known_as s xid)) (ended s n xid) (cond fails (failed s n xid) (ok (ended s n xid))) h
+    (cond_after (Fits s) fails (failed s n xid) (ok (ended s n xid)) (mark_fits s xid XA_RBROLLBACK h) h))
 
 end_fits : (s : State) (n flags : ℕ) (xid : Triple) → Fits s s → Fits s (end_by s n flags xid).after
 end_fits s n flags xid h =
-    cond_fits (has flags TMSUSPEND) s (suspend_by s n (has flags TMMIGRATE) xid) (leave_by s n (has flags TMFAIL) xid) (suspend_fits s n (has flags TMMIGRATE) xid h) (leave_fits s n (has flags TMFAIL) xid h)
+    cond_after (Fits s) (has flags TMSUSPEND) (suspend_by s n (has flags TMMIGRATE) xid) (leave_by s n (has flags TMFAIL) xid) (suspend_fits s n (has flags TMMIGRATE) xid h) (leave_fits s n (has flags TMFAIL) xid h)
 
 -- recovery
 
@@ -197,12 +184,8 @@ get_fits : (s : State) (n : ℕ) (key : List ℕ) (o : Option (Triple × Branch)
 get_fits s n key None e h = h
 get_fits s n key (Some (xid, b)) e h =
     let v = source key b.timestamp s.branches in
-    marked_fits (mark_of b.phase) s s (get_from s key xid b v) h
-    (unless_fits (busy_refusal b.timestamp v) s (got s key xid b v) h (λ none. got_fits s key xid b v (owned_by xid b s.branches (active_of s.associations n) e) h))
-
-if_late_fits : (late : Bool) (s : State) (a b : Answer) → Fits s a.after → Fits s b.after → Fits s (if_late late a b).after
-if_late_fits true s a b h k = h
-if_late_fits false s a b h k = k
+    marked_after (Fits s) (mark_of b.phase) s (get_from s key xid b v) h
+    (unless_after (Fits s) (busy_refusal b.timestamp v) s (got s key xid b v) h (λ none. got_fits s key xid b v (owned_by xid b s.branches (active_of s.associations n) e) h))
 
 wrote_fits : (s : State) (key : List ℕ) (value : Option (List ℕ)) (xid : Triple) (b : Branch) → IsWrite (record { key = key; value = value }) → is_full key b.operations ≡ false
     → known_of s.branches xid ≡ Some b → Fits s s → Fits s (written s key value xid).after
@@ -213,10 +196,10 @@ put_fits : (s : State) (n : ℕ) (key : List ℕ) (value : Option (List ℕ)) (o
     → Fits s (put_by s key value o).after
 put_fits s n key value None limits e h = h
 put_fits s n key value (Some (xid, b)) limits e h =
-    marked_fits (mark_of b.phase) s s (put_from s key value xid b) h
-    (unless_fits (limit_refusal (is_full key b.operations)) s (if_late (is_late key b.timestamp s.reads) (came_late s xid) (written s key value xid)) h
-    (λ room. if_late_fits (is_late key b.timestamp s.reads) s (came_late s xid) (written s key value xid) (mark_fits s xid XA_RBTRANSIENT h)
-    (wrote_fits s key value xid b limits (passed _ _ _ room).0 (owned_by xid b s.branches (active_of s.associations n) e) h)))
+    marked_after (Fits s) (mark_of b.phase) s (put_from s key value xid b) h
+    (unless_after (Fits s) (limit_refusal (is_full key b.operations)) s (if_late (is_late key b.timestamp s.reads) (came_late s xid) (written s key value xid)) h
+    (λ room. if_late_after (Fits s) (is_late key b.timestamp s.reads) (came_late s xid) (written s key value xid) (mark_fits s xid XA_RBTRANSIENT h)
+    (λ timely. wrote_fits s key value xid b limits (passed _ _ _ room).0 (owned_by xid b s.branches (active_of s.associations n) e) h)))
 
 -- the calls that log
 
@@ -237,6 +220,13 @@ branch_limits s xid h name some = record {
   stamped = stamped_by s.logged_boot (known_of s.branches xid) h.last some (known_fits_by s.logged_boot xid s.branches (known_of s.branches xid) refl (recordable s h));
 }
 
+-- a branch is logged where there is room, and else rolled back
+written_keeps : (s : State) (xid : Triple) (r : Record) (more : ℕ) (left : State) → IsRecord r → is_boot r ≡ false → Fits s left
+    → Fits s s → KeepsRecordable s (cond (has_room s r more) (logs s r XAER_RMERR left) (Now (log_full s xid)))
+written_keeps s xid r more left is other fits h =
+    cond_keeps (has_room s r more) s (logs s r XAER_RMERR left) (Now (log_full s xid))
+    (λ room. logs_keeps s r XAER_RMERR left is other fits) (λ full. gone_fits s xid h)
+
 prepare_keeps : (s : State) (xid : Triple) → IsLoggable s → IsWithinLimits xid → KeepsRecordable s (prepare_turn s xid)
 prepare_keeps s xid loggable name =
     let h = recordable s loggable in
@@ -244,7 +234,7 @@ prepare_keeps s xid loggable name =
     unless_keeps (unprepared_refusal (known_as s xid) (is_associated s xid)) s _ h
     (λ allowed. marked_keeps (mark_in (known_as s xid)) s (rolled_back s xid) _ (gone_fits s xid h)
     (cond_keeps (is_empty (writes_in s xid)) s (Now (answer (plain XA_RDONLY) (committed s xid))) (prepare_written s xid) (λ empty. committed_fits s xid h)
-    (λ some. cond_keeps (has_room s r 1) s (logs s r XAER_RMERR s) (Now (log_full s xid)) (λ room. logs_keeps s r XAER_RMERR s (branch_limits s xid loggable name some) refl h) (λ full. gone_fits s xid h))))
+    (λ some. written_keeps s xid r 1 s (branch_limits s xid loggable name some) refl h h)))
 
 commit_one_keeps : (s : State) (xid : Triple) → IsLoggable s → IsWithinLimits xid → KeepsRecordable s (commit_one_phase_turn s xid)
 commit_one_keeps s xid loggable name =
@@ -253,8 +243,7 @@ commit_one_keeps s xid loggable name =
     unless_keeps (unprepared_refusal (known_as s xid) (is_associated s xid)) s _ h
     (λ allowed. marked_keeps (mark_in (known_as s xid)) s (rolled_back s xid) _ (gone_fits s xid h)
     (cond_keeps (is_empty (writes_in s xid)) s (Now (ok (committed s xid))) (commit_written s xid) (λ empty. committed_fits s xid h)
-    (λ some. cond_keeps (has_room s r 0) s (logs s r XAER_RMERR (rolled_back s xid)) (Now (log_full s xid))
-    (λ room. logs_keeps s r XAER_RMERR (rolled_back s xid) (branch_limits s xid loggable name some) refl (gone_fits s xid h)) (λ full. gone_fits s xid h))))
+    (λ some. written_keeps s xid r 0 (rolled_back s xid) (branch_limits s xid loggable name some) refl (gone_fits s xid h) h)))
 
 commit_keeps : (s : State) (flags : ℕ) (xid : Triple) → IsLoggable s → IsWithinLimits xid → KeepsRecordable s (commit_turn s flags xid)
 commit_keeps s flags xid loggable name =
@@ -273,7 +262,7 @@ roll_back_keeps s xid (Completed direction) name h = gone_fits s xid h
 
 row_keeps : (s : State) (n : ℕ) (request : Request) → IsAsked request → IsLoggable s → asks_boot request ≡ false → KeepsRecordable s (row s n request)
 row_keeps s n (Open flags info) is h other = recordable s h
-row_keeps s n (Close flags) is h other = unless_fits (close_refusal (list_any (is_of_session n) s.associations)) s _ (recordable s h) (λ none. recordable s h)
+row_keeps s n (Close flags) is h other = unless_after (Fits s) (close_refusal (list_any (is_of_session n) s.associations)) s _ (recordable s h) (λ none. recordable s h)
 row_keeps s n (Start flags xid) is h other = start_fits s n flags xid h
 row_keeps s n (End flags xid) is h other = end_fits s n flags xid (recordable s h)
 row_keeps s n (Prepare flags xid) is h other = prepare_keeps s xid h is.held.1
@@ -290,7 +279,7 @@ row_keeps s n (Put key value) is h other =
 row_keeps s n (Delete key) is h other = put_fits s n key None (own_branch s n) (record { some = is.limits.0; short = is.limits.1; value = tt }) refl (recordable s h)
 row_keeps s n (Decide direction xid) is h other =
     unless_keeps (decide_refusal (known_as s xid)) s _ (recordable s h) (λ allowed. logs_keeps s (logged.Decided xid direction) XAER_RMERR s is.held refl (recordable s h))
-row_keeps s n (Doom xid) is h other = unless_fits (doom_refusal (known_as s xid)) s (ok (doomed s xid)) (recordable s h) (λ none. mark_fits s xid XA_RBOTHER (recordable s h))
+row_keeps s n (Doom xid) is h other = unless_after (Fits s) (doom_refusal (known_as s xid)) s (ok (doomed s xid)) (recordable s h) (λ none. mark_fits s xid XA_RBOTHER (recordable s h))
 row_keeps s n Restart is h other = absurd (cc other)
 row_keeps s n (Timeout seconds) is h other = recordable s h
 row_keeps s n (Tick moment) is h other = timed_recordable moment s.logged_boot s.branches (recordable s h)
@@ -298,7 +287,7 @@ row_keeps s n Trim is h other = absurd (cc other)
 row_keeps s n (Branches count after) is h other = recordable s h
 
 pub events_keep_recordable : (s : State) (e : Event) → IsEvent e → IsLoggable s → begins_boot e ≡ false → KeepsRecordable s (respond s e)
-events_keep_recordable s event.Connect is h other = unless_fits (connect_refusal (length s.sessions)) s (connected s) (recordable s h) (λ none. recordable s h)
+events_keep_recordable s event.Connect is h other = unless_after (Fits s) (connect_refusal (length s.sessions)) s (connected s) (recordable s h) (λ none. recordable s h)
 events_keep_recordable s (event.Hangup n) is h other = left_recordable s.associations n s.logged_boot s.branches (recordable s h)
 events_keep_recordable s (event.Call n request) is h other =
     unless_keeps (early_refusal (context_of s n) request) s (row s n request) (recordable s h) (λ allowed. row_keeps s n request is h other)

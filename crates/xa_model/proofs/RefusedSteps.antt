@@ -119,13 +119,17 @@ refused_alone s n request xid r after e up appends =
 
 -- one after another
 
-bytes_by : (c : Bool) (s : State) (x : Triple) → (cond c (rolled_back s x) s).log_bytes ≡ s.log_bytes
-bytes_by true s x = refl
-bytes_by false s x = refl
+-- what a rollback leaves as it is, a refused call leaves so
+left_same : {A : Type 0} (f : State → A) (s : State) (request : Request) → ((x : Triple) → f (rolled_back s x) ≡ f s) → f (left_by request s) ≡ f s
+left_same f s (Commit flags x) same = by_phases (has flags TMONEPHASE)
+  where
+    by_phases : (c : Bool) → f (cond c (rolled_back s x) s) ≡ f s
+    by_phases true = same x
+    by_phases false = refl
+left_same f s request same = refl
 
 left_bytes : (request : Request) (s : State) → (left_by request s).log_bytes ≡ s.log_bytes
-left_bytes (Commit flags x) s = bytes_by (has flags TMONEPHASE) s x
-left_bytes request s = refl
+left_bytes request s = left_same (λ (t : State). t.log_bytes) s request (λ x. refl)
 
 keeps_then : (s t u : State) → KeepsLog s t → KeepsLog t u → KeepsLog s u
 keeps_then s t u h k = record {
@@ -254,13 +258,8 @@ one_refused s t p e o is up of_xid asks steps =
       ap (λ (b : Answer). b.after) a,
     )
 
-standing_by : (c : Bool) (s : State) (x : Triple) → (cond c (rolled_back s x) s).standing ≡ s.standing
-standing_by true s x = refl
-standing_by false s x = refl
-
 left_standing : (request : Request) (s : State) → (left_by request s).standing ≡ s.standing
-left_standing (Commit flags x) s = standing_by (has flags TMONEPHASE) s x
-left_standing request s = refl
+left_standing request s = left_same (λ (t : State). t.standing) s request (λ x. refl)
 
 rest_refused : (s t : State) (ps : List Part) (es : List Entry) → s.standing ≡ Up → AllByRecursion (λ (q : Part). xid_of q.request ≡ Some q.xid) ps
     → AskEach (Joined Refused) ps es → Leads s es t → (es ≡ map (entry_of (Joined Refused) Refused) ps) × (t ≡ left_by_all ps s)

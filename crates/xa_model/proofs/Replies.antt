@@ -1,17 +1,22 @@
 -- What holds of each answer of a turn holds of the one that is taken.
-use Rattle.std.proofs.Common.{◌≡◌, ℕ, ℤ, Bool, true, false, cond, Option, Some, None, refl, subst}
-use Rattle.std.specs.Prelude.{IfSome, option_and_then}
+use Rattle.std.proofs.Common.{◌≡◌, ℕ, ℤ, Bool, true, false, cond, Option, Some, None, refl, subst, ◌+◌}
+use Rattle.std.specs.Prelude.{IfSome, nat_lt, option_and_then}
 use Rattle.xa_frame.specs.declared.reply.Reply.{Reply}
 use Rattle.xa_model.specs.declared.outcome.Outcome.{Outcome}
 use Rattle.xa_model.specs.declared.outcome.Outcome.TheVariants.{Quiet, Appended, Joined, Failed, Reread}
 use Rattle.xa_model.specs.declared.outcome.Appending.{Appending}
 use Rattle.xa_model.specs.declared.outcome.Appending.TheVariants.{Kept, Refused, Lost}
 use Rattle.xa_model.specs.State.{State, Standing, Up, Down, Ended}
-use Rattle.xa_model.specs.Answer.{Answer, plain, answer}
+use Rattle.xa_model.specs.Answer.{Answer, plain, answer, detailed}
 use Rattle.xa_model.specs.Turn.{Turn, Nobody, Now, Appends, Checkpoints, Rereads, Joins, Rereading, Stops, Opens, going_on, taken, unless_now, marked_now}
-use Rattle.xa_model.specs.Logging.{lost_too}
+use Rattle.xa_model.specs.Logging.{lost_too, down}
 use Rattle.xa_model.specs.Step.{asked, or_joins}
 use Rattle.xa_record.specs.declared.record.Record.{Record}
+use Rattle.xa_model.specs.Restarting.{boot_became, restarting}
+use Rattle.xa_limits.specs.declared.TheConstants.{MOST_BOOTS}
+use Rattle.xa_codes.specs.declared.codes.TheConstants.{XAER_RMFAIL}
+use Rattle.xa_record.specs.declared.record.Record.TheVariants as logged
+use Rattle.xa_codes.specs.declared.detail.Detail.TheVariants as detail
 
 abbrev pub AllOfReading : (Answer → Type 0) → Rereading → Type 0
 AllOfReading Q (Stops a) = Q a
@@ -107,3 +112,18 @@ marked_all Q (Some code) s t h k = h code refl
 pub cond_all : (Q : Answer → Type 0) (c : Bool) (t u : Turn) → AllOf Q t → AllOf Q u → AllOf Q (cond c t u)
 cond_all Q true t u h k = h
 cond_all Q false t u h k = k
+
+-- what holds where the record was kept, refused and lost holds whatever became of it
+pub each_fate : (P : Appending → Type 0) → P Kept → P Refused → P Lost → (x : Appending) → P x
+each_fate P kept refused lost Kept = kept
+each_fate P kept refused lost Refused = refused
+each_fate P kept refused lost Lost = lost
+
+pub restarting_all : (Q : Answer → Type 0) (s : State) → Q (boot_became s (s.logged_boot + 1) Kept) → Q (boot_became s (s.logged_boot + 1) Refused)
+    → Q (boot_became s (s.logged_boot + 1) Lost) → Q (answer (detailed XAER_RMFAIL detail.Limit) (down s)) → AllOfReading Q (restarting s)
+restarting_all Q s kept refused lost stopped = by_boot (nat_lt s.logged_boot MOST_BOOTS)
+  where
+    by_boot : (c : Bool) → AllOfReading Q
+        (cond c (Opens (logged.Opened (s.logged_boot + 1)) (boot_became s (s.logged_boot + 1))) (Stops (answer (detailed XAER_RMFAIL detail.Limit) (down s))))
+    by_boot true = each_fate (λ x. Q (boot_became s (s.logged_boot + 1) x)) kept refused lost
+    by_boot false = stopped

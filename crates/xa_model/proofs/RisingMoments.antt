@@ -6,7 +6,6 @@ use Rattle.std.proofs.lemmas.Bool.Decides.{nat_tests}
 use Rattle.xa_codes.specs.Flags.{has}
 use Rattle.xa_codes.specs.declared.call.Call.TheVariants as call
 use Rattle.xa_codes.specs.declared.codes.TheConstants.{XAER_RMERR, XAER_RMFAIL, XAER_PROTO, XAER_ASYNC, XAER_INVAL, XA_RETRY, XA_RDONLY}
-use Rattle.xa_codes.specs.declared.detail.Detail.TheVariants as detail
 use Rattle.xa_codes.specs.declared.direction.Direction.TheVariants as direction
 use Rattle.xa_codes.specs.declared.flags.TheConstants.{TMONEPHASE, TMJOIN, TMRESUME, TMSUSPEND, TMMIGRATE, TMFAIL}
 use Rattle.xa_frame.specs.declared.reply.Reply.{Reply}
@@ -22,7 +21,7 @@ use Rattle.xa_model.specs.declared.outcome.Appending.{Appending}
 use Rattle.xa_model.specs.declared.outcome.Appending.TheVariants.{Kept, Refused, Lost}
 use Rattle.xa_model.specs.State.{State, Branch, Known, Unknown, AtWork, InDoubt, Completed, Up, known_as, known_in, active_of, own_branch, mark_of, suspends, is_loose_with, loose_of, is_with}
 use Rattle.xa_model.specs.Source.{source, is_late}
-use Rattle.xa_model.specs.Answer.{Answer, plain, detailed, answer, ok, unless, marked}
+use Rattle.xa_model.specs.Answer.{Answer, plain, answer, ok}
 use Rattle.xa_model.specs.Early.{Context, early_refusal, passes_down, needs_open, is_opened, is_async, is_invalid}
 use Rattle.xa_model.specs.Associations.{connect_refusal, connected, close_refusal, is_of_session, start_refusal, begun, begin_by, is_taken, join_refusal, joined, join_by, resume_refusal, resumed, not_resumed, resume_by, start_by, end_refusal, loose_refusal, suspended, not_suspended, suspend_by, can_end, ended, failed, leave_by, end_by, mark_in, timestamp_in}
 use Rattle.xa_model.specs.Phases.{rolled_back, committed, unprepared_refusal, two_phase_refusal, rollback_refusal, heuristic_refusal, doom_refusal, doomed, is_associated}
@@ -30,40 +29,26 @@ use Rattle.xa_model.specs.Data.{got, get_from, get_by, busy_refusal, is_full, li
 use Rattle.xa_model.specs.Recovering.{recovered_from, scan_from, scan_of}
 use Rattle.xa_model.specs.Step.{row, respond, asked, turn, context_of, further_record}
 use Rattle.xa_model.specs.Turn.{Asked, Reopened, Turn, Now, Stops, Opens, unless_now}
-use Rattle.xa_model.specs.Logging.{logs, has_room, log_full, writes_in, applied, append_became, down}
+use Rattle.xa_model.specs.Logging.{logs, has_room, log_full, writes_in, applied, append_became}
 use Rattle.xa_model.specs.Completions.{prepare_turn, prepare_written, commit_one_phase_turn, commit_two_phase_turn, commit_written, rollback_turn, roll_back_turn, decide_refusal, forget_refusal}
-use Rattle.xa_model.specs.Restarting.{with_first, looked, survived, boot_became, restarting, restart_turn, refused_opening, reopen_became, reopening, can_open}
+use Rattle.xa_model.specs.Restarting.{with_first, looked, survived, restarting, restart_turn, refused_opening, reopen_became, reopening, can_open}
 use Rattle.xa_model.specs.Trimming.{trim_refusal, trim_became, trim_turn}
 use Rattle.xa_model.specs.Fold.{is_empty}
 use Rattle.xa_model.specs.Laws.Time.{MomentsRise, OpensAtZero}
 use Rattle.xa_model.proofs.Rows.{passed}
 use Rattle.xa_model.proofs.AppliedAll.{applied_changes, if_imply, if_mapped, if_some}
 use Rattle.xa_model.proofs.Restarts.{found_boots}
-use Rattle.xa_model.proofs.Replies.{AllOf, AllOfReading, taken_all, asked_all, joins_all, unless_all, marked_all, cond_all}
+use Rattle.xa_model.proofs.Replies.{AllOf, AllOfReading, taken_all, asked_all, joins_all, unless_all, marked_all, cond_all, each_fate, restarting_all}
+use Rattle.xa_model.proofs.OfAnswers.{cond_after, if_late_after, marked_after, unless_after}
+
+abbrev IsNoEarlier : State → State → Type 0
+IsNoEarlier s t = s.moment ≤ t.moment
 
 abbrev Rises : State → Answer → Type 0
-Rises s a = s.moment ≤ a.after.moment
+Rises s a = IsNoEarlier s a.after
 
 itself : (s : State) → s.moment ≤ s.moment
 itself s = omega arith
-
--- answers
-
-unless_rises : (o : Option Reply) (s : State) (a : Answer) → Rises s a → Rises s (unless o s a)
-unless_rises None s a h = h
-unless_rises (Some reply) s a h = itself s
-
-marked_rises : (o : Option ℤ) (s left : State) (a : Answer) → s.moment ≤ left.moment → Rises s a → Rises s (marked o left a)
-marked_rises None s left a h k = k
-marked_rises (Some code) s left a h k = h
-
-cond_rises : (c : Bool) (s : State) (a b : Answer) → Rises s a → Rises s b → Rises s (cond c a b)
-cond_rises true s a b h k = h
-cond_rises false s a b h k = k
-
-if_late_rises : (late : Bool) (s : State) (a b : Answer) → Rises s a → Rises s b → Rises s (if_late late a b)
-if_late_rises true s a b h k = h
-if_late_rises false s a b h k = k
 
 -- turns
 
@@ -78,42 +63,37 @@ applied_rises : (s : State) (r : Record) → s.moment ≤ (applied r s).moment
 applied_rises s r = let same = applied_moment s r in omega (arith, same)
 
 logs_rises : (s : State) (r : Record) (code : ℤ) (left : State) → s.moment ≤ left.moment → AllOf (Rises s) (logs s r code left)
-logs_rises s r code left h = by_fate
-  where
-    by_fate : (x : Appending) → Rises s (append_became s r code left x)
-    by_fate Kept = applied_rises s r
-    by_fate Refused = h
-    by_fate Lost = itself s
+logs_rises s r code left h = each_fate (λ x. Rises s (append_became s r code left x)) (applied_rises s r) h (itself s)
 
 -- the association table
 
 start_rises : (s : State) (n flags : ℕ) (xid : Triple) → Rises s (start_by s n flags xid)
 start_rises s n flags xid =
-    cond_rises (has flags TMJOIN) s (join_by s n xid) (cond (has flags TMRESUME) (resume_by s n xid) (begin_by s n xid))
-    (unless_rises (join_refusal (is_some (active_of s.associations n)) (list_any (suspends n xid) s.associations) (known_as s xid)) s _
-    (marked_rises (mark_in (known_as s xid)) s s (joined s n xid) (itself s) (itself s)))
-    (cond_rises (has flags TMRESUME) s (resume_by s n xid) (begin_by s n xid)
-    (unless_rises (resume_refusal (is_some (active_of s.associations n)) (known_as s xid) (list_any (suspends n xid) s.associations)
-    (list_any (is_loose_with xid) s.associations)) s _
-    (marked_rises (mark_in (known_as s xid)) s (not_resumed s n xid) (resumed s n xid) (itself s) (itself s)))
-    (unless_rises (start_refusal (is_some (active_of s.associations n)) (is_taken (known_as s xid)) (known_in s) s.given) s (begun s n xid)
-    (itself s)))
+    cond_after (IsNoEarlier s) (has flags TMJOIN) (join_by s n xid) (cond (has flags TMRESUME) (resume_by s n xid) (begin_by s n xid))
+    (unless_after (IsNoEarlier s) (join_refusal (is_some (active_of s.associations n)) (list_any (suspends n xid) s.associations) (known_as s xid)) s _ (itself s)
+    (λ none. marked_after (IsNoEarlier s) (mark_in (known_as s xid)) s (joined s n xid) (itself s) (itself s)))
+    (cond_after (IsNoEarlier s) (has flags TMRESUME) (resume_by s n xid) (begin_by s n xid)
+    (unless_after (IsNoEarlier s) (resume_refusal (is_some (active_of s.associations n)) (known_as s xid) (list_any (suspends n xid) s.associations)
+    (list_any (is_loose_with xid) s.associations)) s _ (itself s)
+    (λ none. marked_after (IsNoEarlier s) (mark_in (known_as s xid)) (not_resumed s n xid) (resumed s n xid) (itself s) (itself s)))
+    (unless_after (IsNoEarlier s) (start_refusal (is_some (active_of s.associations n)) (is_taken (known_as s xid)) (known_in s) s.given) s (begun s n xid) (itself s)
+    (λ none. itself s)))
 
 suspend_rises : (s : State) (n : ℕ) (migrates : Bool) (xid : Triple) → Rises s (suspend_by s n migrates xid)
 suspend_rises s n migrates xid =
-    unless_rises (end_refusal (known_as s xid) (is_with xid (active_of s.associations n))) s _
-    (marked_rises (mark_in (known_as s xid)) s (not_suspended s n xid) _ (itself s)
-    (unless_rises (loose_refusal migrates (loose_of s.associations xid)) s (ok (suspended s n migrates xid)) (itself s)))
+    unless_after (IsNoEarlier s) (end_refusal (known_as s xid) (is_with xid (active_of s.associations n))) s _ (itself s)
+    (λ none. marked_after (IsNoEarlier s) (mark_in (known_as s xid)) (not_suspended s n xid) _ (itself s)
+    (unless_after (IsNoEarlier s) (loose_refusal migrates (loose_of s.associations xid)) s (ok (suspended s n migrates xid)) (itself s) (λ none. itself s)))
 
 leave_rises : (s : State) (n : ℕ) (fails : Bool) (xid : Triple) → Rises s (leave_by s n fails xid)
 leave_rises s n fails xid =
-    unless_rises (end_refusal (known_as s xid) (can_end s.associations n xid)) s _
-    (marked_rises (mark_in (known_as s xid)) s (ended s n xid) (cond fails (failed s n xid) (ok (ended s n xid))) (itself s)
-    (cond_rises fails s (failed s n xid) (ok (ended s n xid)) (itself s) (itself s)))
+    unless_after (IsNoEarlier s) (end_refusal (known_as s xid) (can_end s.associations n xid)) s _ (itself s)
+    (λ none. marked_after (IsNoEarlier s) (mark_in (known_as s xid)) (ended s n xid) (cond fails (failed s n xid) (ok (ended s n xid))) (itself s)
+    (cond_after (IsNoEarlier s) fails (failed s n xid) (ok (ended s n xid)) (itself s) (itself s)))
 
 end_rises : (s : State) (n flags : ℕ) (xid : Triple) → Rises s (end_by s n flags xid)
 end_rises s n flags xid =
-    cond_rises (has flags TMSUSPEND) s (suspend_by s n (has flags TMMIGRATE) xid) (leave_by s n (has flags TMFAIL) xid)
+    cond_after (IsNoEarlier s) (has flags TMSUSPEND) (suspend_by s n (has flags TMMIGRATE) xid) (leave_by s n (has flags TMFAIL) xid)
     (suspend_rises s n (has flags TMMIGRATE) xid) (leave_rises s n (has flags TMFAIL) xid)
 
 -- recoveries, gets and puts
@@ -126,15 +106,15 @@ get_rises : (s : State) (key : List ℕ) (o : Option (Triple × Branch)) → Ris
 get_rises s key None = itself s
 get_rises s key (Some (xid, b)) =
     let v = source key b.timestamp s.branches in
-    marked_rises (mark_of b.phase) s s (get_from s key xid b v) (itself s)
-    (unless_rises (busy_refusal b.timestamp v) s (got s key xid b v) (itself s))
+    marked_after (IsNoEarlier s) (mark_of b.phase) s (get_from s key xid b v) (itself s)
+    (unless_after (IsNoEarlier s) (busy_refusal b.timestamp v) s (got s key xid b v) (itself s) (λ none. itself s))
 
 put_rises : (s : State) (key : List ℕ) (value : Option (List ℕ)) (o : Option (Triple × Branch)) → Rises s (put_by s key value o)
 put_rises s key value None = itself s
 put_rises s key value (Some (xid, b)) =
-    marked_rises (mark_of b.phase) s s (put_from s key value xid b) (itself s)
-    (unless_rises (limit_refusal (is_full key b.operations)) s (if_late (is_late key b.timestamp s.reads) (came_late s xid) (written s key value xid))
-    (if_late_rises (is_late key b.timestamp s.reads) s (came_late s xid) (written s key value xid) (itself s) (itself s)))
+    marked_after (IsNoEarlier s) (mark_of b.phase) s (put_from s key value xid b) (itself s)
+    (unless_after (IsNoEarlier s) (limit_refusal (is_full key b.operations)) s (if_late (is_late key b.timestamp s.reads) (came_late s xid) (written s key value xid)) (itself s)
+    (λ none. if_late_after (IsNoEarlier s) (is_late key b.timestamp s.reads) (came_late s xid) (written s key value xid) (itself s) (λ timely. itself s)))
 
 -- the calls that log
 
@@ -176,17 +156,8 @@ rollback_rises s xid =
 
 -- restarts
 
-boots : (s x : State) (c : Bool) → x.moment ≡ s.moment
-    → AllOfReading (Rises s)
-    (cond c (Opens (logged.Opened (x.logged_boot + 1)) (boot_became x (x.logged_boot + 1)))
-    (Stops (answer (detailed XAER_RMFAIL detail.Limit) (down x))))
-boots s x true same = by_fate
-  where
-    by_fate : (a : Appending) → Rises s (boot_became x (x.logged_boot + 1) a)
-    by_fate Kept = omega (arith, same)
-    by_fate Refused = omega (arith, same)
-    by_fate Lost = omega (arith, same)
-boots s x false same = omega (arith, same)
+boots : (s x : State) → x.moment ≡ s.moment → AllOfReading (Rises s) (restarting x)
+boots s x same = let later : IsNoEarlier s x = omega (arith, same) in restarting_all (Rises s) x later later later later
 
 first_moment : (k : ℕ) (rs : List Record) (s : State) → IfSome (with_first k rs s) (λ t. t.moment ≡ s.moment)
 first_moment zero rs s = refl
@@ -202,16 +173,13 @@ restart_rises : (s : State) → AllOf (Rises s) (restart_turn s)
 restart_rises s = (
   itself s,
   λ k. found_boots (λ (t : State). t.moment ≡ s.moment) (AllOfReading (Rises s)) s k restarting
-      (λ t same. boots s t (nat_lt t.logged_boot MOST_BOOTS) same) (survived_moment s k),
+      (boots s) (survived_moment s k),
 )
 
 trim_rises : (s : State) → AllOf (Rises s) (trim_turn s)
-trim_rises s = unless_all (Rises s) (trim_refusal s) s _ (λ reply is. itself s) by_fate
-  where
-    by_fate : (x : Appending) → Rises s (trim_became s (s.logged_boot + 1) x)
-    by_fate Kept = itself s
-    by_fate Refused = itself s
-    by_fate Lost = itself s
+trim_rises s =
+    unless_all (Rises s) (trim_refusal s) s _ (λ reply is. itself s)
+    (each_fate (λ x. Rises s (trim_became s (s.logged_boot + 1) x)) (itself s) (itself s) (itself s))
 
 -- a moment below the last one is refused
 
@@ -232,7 +200,7 @@ not_before c moment e =
 
 row_rises : (s : State) (n : ℕ) (request : Request) → early_refusal (context_of s n) request ≡ None → AllOf (Rises s) (row s n request)
 row_rises s n (Open flags info) e = itself s
-row_rises s n (Close flags) e = unless_rises (close_refusal (list_any (is_of_session n) s.associations)) s _ (itself s)
+row_rises s n (Close flags) e = unless_after (IsNoEarlier s) (close_refusal (list_any (is_of_session n) s.associations)) s _ (itself s) (λ none. itself s)
 row_rises s n (Start flags xid) e = start_rises s n flags xid
 row_rises s n (End flags xid) e = end_rises s n flags xid
 row_rises s n (Prepare flags xid) e = prepare_rises s xid
@@ -250,7 +218,7 @@ row_rises s n (Delete key) e = put_rises s key None (own_branch s n)
 row_rises s n (Decide way xid) e =
     unless_turns (decide_refusal (known_as s xid)) s (logs s (logged.Decided xid way) XAER_RMERR s)
     (λ none. logs_rises s (logged.Decided xid way) XAER_RMERR s (itself s))
-row_rises s n (Doom xid) e = unless_rises (doom_refusal (known_as s xid)) s (ok (doomed s xid)) (itself s)
+row_rises s n (Doom xid) e = unless_after (IsNoEarlier s) (doom_refusal (known_as s xid)) s (ok (doomed s xid)) (itself s) (λ none. itself s)
 row_rises s n Restart e = restart_rises s
 row_rises s n (Timeout seconds) e = itself s
 row_rises s n (Tick moment) e = not_before (context_of s n) moment e
@@ -258,7 +226,7 @@ row_rises s n Trim e = trim_rises s
 row_rises s n (Branches count after) e = itself s
 
 respond_rises : (s : State) (e : Event) → AllOf (Rises s) (respond s e)
-respond_rises s event.Connect = unless_rises (connect_refusal _) s (connected s) (itself s)
+respond_rises s event.Connect = unless_after (IsNoEarlier s) (connect_refusal _) s (connected s) (itself s) (λ none. itself s)
 respond_rises s (event.Hangup n) = itself s
 respond_rises s (event.Call n request) =
     unless_turns (early_refusal (context_of s n) request) s (row s n request) (row_rises s n request)

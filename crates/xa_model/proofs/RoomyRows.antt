@@ -16,7 +16,7 @@ use Rattle.xa_model.specs.declared.event.Event.TheVariants as event
 use Rattle.xa_model.specs.declared.outcome.Appending.TheVariants.{Refused}
 use Rattle.xa_model.specs.State.{State, Branch, Known, Unknown, AtWork, InDoubt, Completed, known_as, known_in, active_of, own_branch, mark_of, suspends, is_loose_with, loose_of, is_with}
 use Rattle.xa_model.specs.Source.{source, is_late}
-use Rattle.xa_model.specs.Answer.{Answer, plain, answer, ok, unless, marked}
+use Rattle.xa_model.specs.Answer.{Answer, plain, answer, ok}
 use Rattle.xa_model.specs.Early.{early_refusal}
 use Rattle.xa_model.specs.Associations.{connect_refusal, connected, close_refusal, is_of_session, start_refusal, begun, begin_by, is_taken, join_refusal, joined, join_by, resume_refusal, resumed, not_resumed, resume_by, start_by, end_refusal, loose_refusal, suspended, not_suspended, suspend_by, can_end, ended, failed, leave_by, end_by, mark_in, timestamp_in}
 use Rattle.xa_model.specs.Phases.{rolled_back, committed, unprepared_refusal, two_phase_refusal, rollback_refusal, heuristic_refusal, doom_refusal, doomed, is_associated}
@@ -29,6 +29,7 @@ use Rattle.xa_model.specs.Completions.{prepare_turn, prepare_written, commit_one
 use Rattle.xa_model.specs.Fold.{is_empty}
 use Rattle.xa_model.specs.Events.{asks_boot, begins_boot}
 use Rattle.xa_model.proofs.Rooms.{HasRoomFor}
+use Rattle.xa_model.proofs.OfAnswers.{cond_after, if_late_after, marked_after, unless_after}
 
 -- what is answered at once, and what a refused record leaves, has a log of as many bytes
 abbrev pub AsksRoom : State → Turn → Type 0
@@ -36,56 +37,41 @@ AsksRoom s (Now a) = a.after.log_bytes ≡ s.log_bytes
 AsksRoom s (Appends r after) = HasRoomFor s r × ((after Refused).after.log_bytes ≡ s.log_bytes)
 AsksRoom s _ = ⊥
 
+abbrev HasBytesOf : State → State → Type 0
+HasBytesOf s t = t.log_bytes ≡ s.log_bytes
+
 abbrev Same : State → Answer → Type 0
-Same s a = a.after.log_bytes ≡ s.log_bytes
-
--- answers
-
-unless_same : (o : Option Reply) (s : State) (a : Answer) → Same s a → Same s (unless o s a)
-unless_same None s a h = h
-unless_same (Some reply) s a h = refl
-
-marked_same : (o : Option ℤ) (s left : State) (a : Answer) → left.log_bytes ≡ s.log_bytes → Same s a → Same s (marked o left a)
-marked_same None s left a h k = k
-marked_same (Some code) s left a h k = h
-
-cond_same : (c : Bool) (s : State) (a b : Answer) → Same s a → Same s b → Same s (cond c a b)
-cond_same true s a b h k = h
-cond_same false s a b h k = k
-
-if_late_same : (late : Bool) (s : State) (a b : Answer) → Same s a → Same s b → Same s (if_late late a b)
-if_late_same true s a b h k = h
-if_late_same false s a b h k = k
+Same s a = HasBytesOf s a.after
 
 -- the association table
 
 start_same : (s : State) (n flags : ℕ) (xid : Triple) → Same s (start_by s n flags xid)
 start_same s n flags xid =
-    cond_same (has flags TMJOIN) s (join_by s n xid) (cond (has flags TMRESUME) (resume_by s n xid) (begin_by s n xid))
-    (unless_same (join_refusal (is_some (active_of s.associations n)) (list_any (suspends n xid) s.associations) (known_as s xid)) s _
-    (marked_same (mark_in (known_as s xid)) s s (joined s n xid) refl refl))
-    (cond_same (has flags TMRESUME) s (resume_by s n xid) (begin_by s n xid)
-    (unless_same
+    cond_after (HasBytesOf s) (has flags TMJOIN) (join_by s n xid) (cond (has flags TMRESUME) (resume_by s n xid) (begin_by s n xid))
+    (unless_after (HasBytesOf s) (join_refusal (is_some (active_of s.associations n)) (list_any (suspends n xid) s.associations) (known_as s xid)) s _ refl
+    (λ none. marked_after (HasBytesOf s) (mark_in (known_as s xid)) s (joined s n xid) refl refl))
+    (cond_after (HasBytesOf s) (has flags TMRESUME) (resume_by s n xid) (begin_by s n xid)
+    (unless_after (HasBytesOf s)
     (resume_refusal (is_some (active_of s.associations n)) (known_as s xid) (list_any (suspends n xid) s.associations)
-    (list_any (is_loose_with xid) s.associations)) s _
-    (marked_same (mark_in (known_as s xid)) s (not_resumed s n xid) (resumed s n xid) refl refl))
-    (unless_same (start_refusal (is_some (active_of s.associations n)) (is_taken (known_as s xid)) (known_in s) s.given) s (begun s n xid) refl))
+    (list_any (is_loose_with xid) s.associations)) s _ refl
+    (λ none. marked_after (HasBytesOf s) (mark_in (known_as s xid)) (not_resumed s n xid) (resumed s n xid) refl refl))
+    (unless_after (HasBytesOf s) (start_refusal (is_some (active_of s.associations n)) (is_taken (known_as s xid)) (known_in s) s.given) s (begun s n xid) refl (λ none. refl)))
 
 suspend_same : (s : State) (n : ℕ) (migrates : Bool) (xid : Triple) → Same s (suspend_by s n migrates xid)
 suspend_same s n migrates xid =
-    unless_same (end_refusal (known_as s xid) (is_with xid (active_of s.associations n))) s _
-    (marked_same (mark_in (known_as s xid)) s (not_suspended s n xid) _ refl
-    (unless_same (loose_refusal migrates (loose_of s.associations xid)) s (ok (suspended s n migrates xid)) refl))
+    unless_after (HasBytesOf s) (end_refusal (known_as s xid) (is_with xid (active_of s.associations n))) s _ refl
+    (λ none. marked_after (HasBytesOf s) (mark_in (known_as s xid)) (not_suspended s n xid) _ refl
+    (unless_after (HasBytesOf s) (loose_refusal migrates (loose_of s.associations xid)) s (ok (suspended s n migrates xid)) refl (λ none. refl)))
 
 leave_same : (s : State) (n : ℕ) (fails : Bool) (xid : Triple) → Same s (leave_by s n fails xid)
 leave_same s n fails xid =
-    unless_same (end_refusal (known_as s xid) (can_end s.associations n xid)) s _
-    (marked_same (mark_in (known_as s xid)) s (ended s n xid) (cond fails (failed s n xid) (ok (ended s n xid))) refl
-    (cond_same fails s (failed s n xid) (ok (ended s n xid)) refl refl))
+    unless_after (HasBytesOf s) (end_refusal (known_as s xid) (can_end s.associations n xid)) s _ refl
+    (λ none. marked_after (HasBytesOf s) (mark_in (known_as s xid)) (ended s n xid) (cond fails (failed s n xid) (ok (ended s n xid))) refl
+    (cond_after (HasBytesOf s) fails (failed s n xid) (ok (ended s n xid)) refl refl))
 
 end_same : (s : State) (n flags : ℕ) (xid : Triple) → Same s (end_by s n flags xid)
 end_same s n flags xid =
-    cond_same (has flags TMSUSPEND) s (suspend_by s n (has flags TMMIGRATE) xid) (leave_by s n (has flags TMFAIL) xid)
+    cond_after (HasBytesOf s) (has flags TMSUSPEND) (suspend_by s n (has flags TMMIGRATE) xid) (leave_by s n (has flags TMFAIL) xid)
     (suspend_same s n (has flags TMMIGRATE) xid) (leave_same s n (has flags TMFAIL) xid)
 
 -- recoveries, gets and puts
@@ -98,14 +84,14 @@ get_same : (s : State) (key : List ℕ) (o : Option (Triple × Branch)) → Same
 get_same s key None = refl
 get_same s key (Some (xid, b)) =
     let v = source key b.timestamp s.branches in
-    marked_same (mark_of b.phase) s s (get_from s key xid b v) refl (unless_same (busy_refusal b.timestamp v) s (got s key xid b v) refl)
+    marked_after (HasBytesOf s) (mark_of b.phase) s (get_from s key xid b v) refl (unless_after (HasBytesOf s) (busy_refusal b.timestamp v) s (got s key xid b v) refl (λ none. refl))
 
 put_same : (s : State) (key : List ℕ) (value : Option (List ℕ)) (o : Option (Triple × Branch)) → Same s (put_by s key value o)
 put_same s key value None = refl
 put_same s key value (Some (xid, b)) =
-    marked_same (mark_of b.phase) s s (put_from s key value xid b) refl
-    (unless_same (limit_refusal (is_full key b.operations)) s (if_late (is_late key b.timestamp s.reads) (came_late s xid) (written s key value xid))
-    (if_late_same (is_late key b.timestamp s.reads) s (came_late s xid) (written s key value xid) refl refl))
+    marked_after (HasBytesOf s) (mark_of b.phase) s (put_from s key value xid b) refl
+    (unless_after (HasBytesOf s) (limit_refusal (is_full key b.operations)) s (if_late (is_late key b.timestamp s.reads) (came_late s xid) (written s key value xid)) refl
+    (λ none. if_late_after (HasBytesOf s) (is_late key b.timestamp s.reads) (came_late s xid) (written s key value xid) refl (λ timely. refl)))
 
 -- the calls that log
 
@@ -157,7 +143,7 @@ rollback_asks s xid =
 
 row_asks : (s : State) (n : ℕ) (request : Request) → asks_boot request ≡ false → AsksRoom s (row s n request)
 row_asks s n (Open flags info) e = refl
-row_asks s n (Close flags) e = unless_same (close_refusal (list_any (is_of_session n) s.associations)) s _ refl
+row_asks s n (Close flags) e = unless_after (HasBytesOf s) (close_refusal (list_any (is_of_session n) s.associations)) s _ refl (λ none. refl)
 row_asks s n (Start flags xid) e = start_same s n flags xid
 row_asks s n (End flags xid) e = end_same s n flags xid
 row_asks s n (Prepare flags xid) e = prepare_asks s xid
@@ -173,7 +159,7 @@ row_asks s n (Put key value) e = put_same s key (Some value) (own_branch s n)
 row_asks s n (Delete key) e = put_same s key None (own_branch s n)
 row_asks s n (Decide direction xid) e =
     unless_asks (decide_refusal (known_as s xid)) s (logs s (logged.Decided xid direction) XAER_RMERR s) (tt, refl)
-row_asks s n (Doom xid) e = unless_same (doom_refusal (known_as s xid)) s (ok (doomed s xid)) refl
+row_asks s n (Doom xid) e = unless_after (HasBytesOf s) (doom_refusal (known_as s xid)) s (ok (doomed s xid)) refl (λ none. refl)
 row_asks s n Restart e = absurd (cc e)
 row_asks s n (Timeout seconds) e = refl
 row_asks s n (Tick moment) e = refl
@@ -181,7 +167,7 @@ row_asks s n Trim e = absurd (cc e)
 row_asks s n (Branches count after) e = refl
 
 pub events_ask_room : (s : State) (e : Event) → begins_boot e ≡ false → AsksRoom s (respond s e)
-events_ask_room s event.Connect e = unless_same (connect_refusal _) s (connected s) refl
+events_ask_room s event.Connect e = unless_after (HasBytesOf s) (connect_refusal _) s (connected s) refl (λ none. refl)
 events_ask_room s (event.Hangup n) e = refl
 events_ask_room s (event.Call n request) e =
     unless_asks (early_refusal (context_of s n) request) s (row s n request) (row_asks s n request e)

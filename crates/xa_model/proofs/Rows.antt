@@ -1,29 +1,15 @@
 -- What a row's refusals leave, and what is known of an XID then.
-use Rattle.std.proofs.Common.{◌≡◌, ℕ, ℤ, ◌<◌, nat_lt, Bool, true, false, not, ◌||◌, cond, List, Option, Some, None, refl, arith}
+use Rattle.std.proofs.Common.{◌≡◌, ℕ, ◌<◌, nat_lt, Bool, true, false, not, ◌||◌, cond, List, Option, Some, None, refl, arith}
 use Rattle.std.specs.Prelude.{find, is_some, option_map}
 use Rattle.std.proofs.lemmas.Bool.Decides.{nat_tests}
 use Rattle.xa_codes.specs.declared.direction.Direction.{Direction}
 use Rattle.xa_frame.specs.declared.reply.Reply.{Reply}
 use Rattle.xa_xid.specs.Triple.{Triple, xid_eq}
 use Rattle.xa_model.specs.State.{State, Branch, Phase, Working, Prepared, Committed, Decided, Association, count, is_known_as, known_of, decided_of, known_by, known_among, known_as, active_of, is_active, is_working, is_at_work}
-use Rattle.xa_model.specs.Answer.{Answer, unless, marked}
 use Rattle.xa_model.specs.Associations.{is_taken, is_unknown, is_lasting}
-use Rattle.xa_model.specs.Invariants.Sound.{IsSound, named}
+use Rattle.xa_model.specs.Invariants.Sound.{named}
 use Rattle.xa_model.proofs.Counts.{count_none}
 use Rattle.xa_model.proofs.Lists.{found_passes}
-
--- a refusal leaves the state, and else there was none
-pub unless_sound : (o : Option Reply) (s : State) (a : Answer) → IsSound s → (o ≡ None → IsSound a.after) → IsSound (unless o s a).after
-unless_sound None s a h k = k refl
-unless_sound (Some reply) s a h k = h
-
-pub marked_sound : (o : Option ℤ) (s : State) (a : Answer) → IsSound s → IsSound a.after → IsSound (marked o s a).after
-marked_sound None s a h k = k
-marked_sound (Some code) s a h k = h
-
-pub cond_sound : (c : Bool) (a b : Answer) → IsSound a.after → IsSound b.after → IsSound (cond c a b).after
-cond_sound true a b h k = h
-cond_sound false a b h k = k
 
 -- where nothing is refused, no check applies
 pub passed : (c : Bool) (r : Reply) (others : Option Reply) → cond c (Some r) others ≡ None → (c ≡ false) × (others ≡ None)

@@ -12,7 +12,8 @@ use Rattle.xa_model.proofs.Lists.{length-change}
 use Rattle.xa_model.proofs.Marks.{left_keeps}
 use Rattle.xa_model.proofs.Numbers.{free_number_free}
 use Rattle.xa_model.proofs.Parts.{with_branches, with_fewer_held, mapped_kept}
-use Rattle.xa_model.proofs.Rows.{unless_sound, passed, below}
+use Rattle.xa_model.proofs.Rows.{passed, below}
+use Rattle.xa_model.proofs.OfAnswers.{unless_after}
 
 -- what soundness asks of the sessions
 pub record AreSeated (s : State) (sessions : List Session) : Type 0 where
@@ -47,7 +48,7 @@ new_none x o false e = e
 
 pub connected_sound : (s : State) → IsSound s → IsSound (connect_by s).after
 connected_sound s h =
-    unless_sound (connect_refusal (length s.sessions)) s (connected s) h
+    unless_after IsSound (connect_refusal (length s.sessions)) s (connected s) h
     (λ allowed.
     let room : length s.sessions < MOST_SESSIONS = below (length s.sessions) MOST_SESSIONS (passed _ _ _ allowed).0 in
     let n = free_number s.sessions in

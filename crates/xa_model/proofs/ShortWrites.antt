@@ -5,7 +5,6 @@ use Rattle.std.specs.Cmp.Lexicographic.{slice_cmp}
 use Rattle.std.specs.List.{AllByRecursion}
 use Rattle.std.specs.Ordering.{nat_cmp, is_lt}
 use Rattle.std.proofs.lemmas.Bool.Decides.{nat_tests}
-use Rattle.std.proofs.lemmas.Slice.Eq.{bytes_eq-Decides}
 use Rattle.xa_codes.specs.declared.write.Write.{Write}
 use Rattle.xa_record.specs.Limits.{IsWrite, AscendsFrom, AreWrites}
 use Rattle.xa_model.specs.State.{Operation, Got, Wrote}
@@ -16,21 +15,14 @@ use Rattle.xa_model.specs.Data.{is_full}
 use Rattle.xa_limits.specs.declared.TheConstants.{MOST_WRITES}
 use Rattle.xa_model.specs.Invariants.Loggable.{AreShort}
 use Rattle.xa_model.proofs.Inserts.{all_imply}
-use Rattle.xa_model.proofs.Members.{less_is, keys_strict, keys_transitive}
+use Rattle.xa_model.proofs.Members.{less_is, keys_transitive, other_key}
 use Rattle.xa_model.proofs.LastOfKeys.{put_all, above, writes_of_law}
 
 -- a write of a further key is one more
 
-other_key_by : (w u : Write) (c : Bool) → bytes_eq u.key w.key ≡ c → keys_before w u ≡ true → c ≡ false
-other_key_by w u false e k = refl
-other_key_by w u true e k =
-    let same : u.key ≡ w.key = (bytes_eq-Decides u.key w.key).0 e in
-    let itself : is_lt (slice_cmp nat_cmp w.key w.key) ≡ true = subst (λ (x : List ℕ). is_lt (slice_cmp nat_cmp w.key x) ≡ true) same k in
-    absurd (cc (itself, keys_strict.never w))
-
 nowhere_above : (w : Write) (ws : List Write) → AllByRecursion (λ u. keys_before w u ≡ true) ws → value_in w.key ws ≡ None
 nowhere_above w [] h = refl
-nowhere_above w (u ∷ us) h = let other : bytes_eq u.key w.key ≡ false = other_key_by w u (bytes_eq u.key w.key) refl h.0 in rw other (nowhere_above w us h.1)
+nowhere_above w (u ∷ us) h = let other : bytes_eq u.key w.key ≡ false = other_key w u h.0 in rw other (nowhere_above w us h.1)
 
 one_more : (c : Bool) (m n : ℕ) → m ≡ cond c n (n + 1) → suc m ≡ cond c (suc n) (suc n + 1)
 one_more true m n e = omega (arith, e)

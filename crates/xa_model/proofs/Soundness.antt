@@ -1,5 +1,5 @@
 -- What the rows that log nothing leave of a sound state is sound.
-use Rattle.std.proofs.Common.{◌≡◌, ℕ, ◌==◌, Bool, true, false, not, ◌&&◌, List, Option, Some, None, refl}
+use Rattle.std.proofs.Common.{◌≡◌, ℕ, ◌==◌, true, not, ◌&&◌, List, Option, Some, None, refl}
 use Rattle.std.specs.Prelude.{is_some, map, option_map}
 use Rattle.std.specs.List.{list_any}
 use Rattle.xa_codes.specs.declared.codes.TheConstants.{XA_RBTRANSIENT, XA_RBOTHER}
@@ -7,7 +7,7 @@ use Rattle.xa_frame.specs.declared.request.Request.{Request}
 use Rattle.xa_xid.specs.Triple.{Triple}
 use Rattle.xa_model.specs.State.{State, Branch, Got, Wrote, Session, known_as, mark_of, change, session_of}
 use Rattle.xa_model.specs.Source.{Version, source, is_late}
-use Rattle.xa_model.specs.Answer.{Answer, ok}
+use Rattle.xa_model.specs.Answer.{ok}
 use Rattle.xa_model.specs.Early.{early_refusal, call_of, passes_down, Context}
 use Rattle.xa_model.specs.Associations.{as_closed, close_refusal, close_by, with_mark, is_of_session}
 use Rattle.xa_model.specs.Phases.{doom_refusal, doomed, doom_by}
@@ -19,15 +19,16 @@ use Rattle.xa_model.specs.Recovering.{scan_of, scan_from, scan_after, with_scan,
 use Rattle.xa_model.specs.Invariants.Sound.{IsSound}
 use Rattle.xa_model.proofs.Parts.{sound_beside, with_branches, mapped_kept}
 use Rattle.xa_model.proofs.Marks.{mark_keeps, done_keeps, timed_keeps, changed_sound}
-use Rattle.xa_model.proofs.Rows.{unless_sound, marked_sound, passed}
+use Rattle.xa_model.proofs.Rows.{passed}
 use Rattle.xa_model.proofs.Seats.{seat_sound}
 use Rattle.xa_model.specs.Step.{context_of}
+use Rattle.xa_model.proofs.OfAnswers.{if_late_after, marked_after, unless_after}
 
 -- the operator's mark
 
 pub doom_sound : (s : State) (xid : Triple) → IsSound s → IsSound (doom_by s xid).after
 doom_sound s xid h =
-    unless_sound (doom_refusal (known_as s xid)) s (ok (doomed s xid)) h (λ allowed. changed_sound s (with_mark XA_RBOTHER) xid (mark_keeps XA_RBOTHER) h)
+    unless_after IsSound (doom_refusal (known_as s xid)) s (ok (doomed s xid)) h (λ allowed. changed_sound s (with_mark XA_RBOTHER) xid (mark_keeps XA_RBOTHER) h)
 
 -- a moment
 
@@ -50,27 +51,23 @@ pub get_sound : (s : State) (key : List ℕ) (o : Option (Triple × Branch)) →
 get_sound s key None h = h
 get_sound s key (Some (xid, b)) h =
     let v = source key b.timestamp s.branches in
-    marked_sound (mark_of b.phase) s (get_from s key xid b v) h (unless_sound (busy_refusal b.timestamp v) s (got s key xid b v) h (λ none. got_sound s key xid b v h))
-
-if_late_sound : (late : Bool) (a b : Answer) → IsSound a.after → IsSound b.after → IsSound (if_late late a b).after
-if_late_sound true a b h k = h
-if_late_sound false a b h k = k
+    marked_after IsSound (mark_of b.phase) s (get_from s key xid b v) h (unless_after IsSound (busy_refusal b.timestamp v) s (got s key xid b v) h (λ none. got_sound s key xid b v h))
 
 pub put_sound : (s : State) (key : List ℕ) (value : Option (List ℕ)) (o : Option (Triple × Branch)) → IsSound s → IsSound (put_by s key value o).after
 put_sound s key value None h = h
 put_sound s key value (Some (xid, b)) h =
-    marked_sound (mark_of b.phase) s (put_from s key value xid b) h
-    (unless_sound (limit_refusal (is_full key b.operations)) s (if_late (is_late key b.timestamp s.reads) (came_late s xid) (written s key value xid)) h
+    marked_after IsSound (mark_of b.phase) s (put_from s key value xid b) h
+    (unless_after IsSound (limit_refusal (is_full key b.operations)) s (if_late (is_late key b.timestamp s.reads) (came_late s xid) (written s key value xid)) h
     (λ none.
-    if_late_sound (is_late key b.timestamp s.reads) (came_late s xid) (written s key value xid)
+    if_late_after IsSound (is_late key b.timestamp s.reads) (came_late s xid) (written s key value xid)
     (changed_sound s (with_mark XA_RBTRANSIENT) xid (mark_keeps XA_RBTRANSIENT) h)
-    (changed_sound s (having_done (Wrote key value)) xid (done_keeps (Wrote key value)) h)))
+    (λ timely. changed_sound s (having_done (Wrote key value)) xid (done_keeps (Wrote key value)) h)))
 
 -- sessions
 
 pub close_sound : (s : State) (n : ℕ) → IsSound s → IsSound (close_by s n).after
 close_sound s n h =
-    unless_sound (close_refusal (list_any (is_of_session n) s.associations)) s (ok (record s { sessions = change (λ x. x.number == n) as_closed s.sessions })) h
+    unless_after IsSound (close_refusal (list_any (is_of_session n) s.associations)) s (ok (record s { sessions = change (λ x. x.number == n) as_closed s.sessions })) h
     (λ allowed. seat_sound s n as_closed (λ x. refl) h)
 
 pub timeout_sound : (s : State) (n limit : ℕ) → IsSound s → IsSound (timeout_by s n limit).after

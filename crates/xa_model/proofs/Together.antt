@@ -260,20 +260,21 @@ one_phase_by t x k held time ws =
     (cond (is_empty ws) (Now (ok (committed t x)))
     (cond (has_room t (logged.Committed x time ws) 0) (logs t (logged.Committed x time ws) XAER_RMERR (rolled_back t x)) (Now (log_full t x)))))
 
--- of what is the same comes the same
-same_by : (f : Known → Bool → ℕ → List Write → Turn) (k l : Known) (c d : Bool) (m n : ℕ) (vs ws : List Write) → k ≡ l → c ≡ d → m ≡ n → vs ≡ ws
-    → f k c m vs ≡ f l d n ws
-same_by f k l c d m n vs ws e g i j =
-    ap (λ (x : Known). f x c m vs) e ∙ ap (λ (x : Bool). f l x m vs) g ∙ ap (λ (x : ℕ). f l d x vs) i ∙ ap (λ (x : List Write). f l d n x) j
-
 module _ (s t : State) (x : Triple) (h : IsSameFor x s t) where
+  -- of what is the same comes the same
+  turns_alike : (f : Known → Bool → ℕ → List Write → Turn)
+      → f (known_as s x) (is_associated s x) (timestamp_in s x) (writes_in s x) ≡ f (known_as t x) (is_associated t x) (timestamp_in t x) (writes_in t x)
+  turns_alike f =
+      ap (λ (k : Known). f k (is_associated s x) (timestamp_in s x) (writes_in s x)) (sym (same_known x s t h))
+      ∙ ap (λ (c : Bool). f (known_as t x) c (timestamp_in s x) (writes_in s x)) (sym h.associated)
+      ∙ ap (λ (time : ℕ). f (known_as t x) (is_associated t x) time (writes_in s x)) (sym (same_time x s t h))
+      ∙ ap (f (known_as t x) (is_associated t x) (timestamp_in t x)) (sym (same_writes x s t h))
+
   prepare_again : Again t (prepare_turn s x) (prepare_turn t x)
   prepare_again =
       let k = known_as s x in
       let r = logged.Prepared x (timestamp_in s x) (writes_in s x) in
-      subst (Again t (prepare_turn s x))
-      (same_by (prepare_by t x) k (known_as t x) (is_associated s x) (is_associated t x) (timestamp_in s x) (timestamp_in t x) (writes_in s x) (writes_in t x)
-      (sym (same_known x s t h)) (sym h.associated) (sym (same_time x s t h)) (sym (same_writes x s t h)))
+      subst (Again t (prepare_turn s x)) (turns_alike (prepare_by t x))
       (unless_again (unprepared_refusal k (is_associated s x)) s t _ _
       (marked_again (mark_in k) t (rolled_back s x) (rolled_back t x) _ _
       (cond_again (is_empty (writes_in s x)) t _ _ _ _ tt (room_again (has_room s r 1) (has_room t r 1) s t r XAER_RMERR s t _ _ (λ room. room)))))
@@ -282,9 +283,7 @@ module _ (s t : State) (x : Triple) (h : IsSameFor x s t) where
   one_phase_again =
       let k = known_as s x in
       let r = logged.Committed x (timestamp_in s x) (writes_in s x) in
-      subst (Again t (commit_one_phase_turn s x))
-      (same_by (one_phase_by t x) k (known_as t x) (is_associated s x) (is_associated t x) (timestamp_in s x) (timestamp_in t x) (writes_in s x) (writes_in t x)
-      (sym (same_known x s t h)) (sym h.associated) (sym (same_time x s t h)) (sym (same_writes x s t h)))
+      subst (Again t (commit_one_phase_turn s x)) (turns_alike (one_phase_by t x))
       (unless_again (unprepared_refusal k (is_associated s x)) s t _ _
       (marked_again (mark_in k) t (rolled_back s x) (rolled_back t x) _ _
       (cond_again (is_empty (writes_in s x)) t _ _ _ _ tt

@@ -20,7 +20,7 @@ use Rattle.xa_model.specs.State.{known_of, decided_of, is_known_as, is_with, is_
 use Rattle.xa_model.specs.State.{holders_of, loose_of, owns, works_in, suspends, is_loose, is_loose_with, is_own}
 use Rattle.xa_model.specs.State.{is_active, is_suspended, change, without}
 use Rattle.xa_model.specs.Source.{source, is_late}
-use Rattle.xa_model.specs.Answer.{Answer, answer, ok, unless, marked}
+use Rattle.xa_model.specs.Answer.{Answer, answer, ok}
 use Rattle.xa_model.specs.Associations.{with_mark, held_by, start_refusal, begun, begin_by, is_taken, join_refusal}
 use Rattle.xa_model.specs.Associations.{joined, join_by, resume_refusal, resumable, resumed, not_resumed, resume_by}
 use Rattle.xa_model.specs.Associations.{start_by, end_refusal, loose_refusal, suspended, not_suspended, suspend_by}
@@ -50,6 +50,7 @@ use Rattle.xa_model.proofs.RoomyRows.{AsksRoom, events_ask_room}
 use Rattle.xa_model.proofs.StillTogether.{rooms_still, appends_still}
 use Rattle.xa_model.proofs.Together.{same_for, itself}
 use Rattle.xa_model.proofs.Xids.{both_true, xid_apart}
+use Rattle.xa_model.proofs.OfAnswers.{cond_after, if_late_after, marked_after, unless_after}
 
 -- it is answered at once
 
@@ -82,25 +83,6 @@ begins_none request is = absurd (cc is)
 
 abbrev Spares : Triple → State → Answer → Type 0
 Spares other s a = IsSameFor other s a.after
-
-unless_spares : (other : Triple) (o : Option Reply) (s : State) (a : Answer) → Spares other s a → Spares other s (unless o s a)
-unless_spares other None s a h = h
-unless_spares other (Some reply) s a h = itself other s
-
-marked_spares : (other : Triple) (o : Option ℤ) (s left : State) (a : Answer) → IsSameFor other s left → Spares other s a
-    → Spares other s (marked o left a)
-marked_spares other None s left a h k = k
-marked_spares other (Some code) s left a h k = h
-
-cond_spares : (other : Triple) (c : Bool) (s : State) (a b : Answer) → Spares other s a → Spares other s b
-    → Spares other s (cond c a b)
-cond_spares other true s a b h k = h
-cond_spares other false s a b h k = k
-
-if_late_spares : (other : Triple) (late : Bool) (s : State) (a b : Answer) → Spares other s a → Spares other s b
-    → Spares other s (if_late late a b)
-if_late_spares other true s a b h k = h
-if_late_spares other false s a b h k = k
 
 of_resumable : (c : Bool) (n : ℕ) (x : Triple) (a : Association) → cond c (suspends n x a) (is_loose_with x a) ≡ true
     → xid_eq a.xid x ≡ true
@@ -151,28 +133,28 @@ module _ (s : State) (x other : Triple) (apart : xid_eq x other ≡ false) where
 
   start_spares : (n flags : ℕ) → Spares other s (start_by s n flags x)
   start_spares n flags =
-      cond_spares other (has flags TMJOIN) s (join_by s n x) (cond (has flags TMRESUME) (resume_by s n x) (begin_by s n x))
-      (unless_spares other
-      (join_refusal (is_some (active_of s.associations n)) (list_any (suspends n x) s.associations) (known_as s x)) s _
-      (marked_spares other (mark_in (known_as s x)) s s (joined s n x) (itself other s) (held _ (one_more n))))
-      (cond_spares other (has flags TMRESUME) s (resume_by s n x) (begin_by s n x)
-      (unless_spares other
+      cond_after (IsSameFor other s) (has flags TMJOIN) (join_by s n x) (cond (has flags TMRESUME) (resume_by s n x) (begin_by s n x))
+      (unless_after (IsSameFor other s)
+      (join_refusal (is_some (active_of s.associations n)) (list_any (suspends n x) s.associations) (known_as s x)) s _ (itself other s)
+      (λ none. marked_after (IsSameFor other s) (mark_in (known_as s x)) s (joined s n x) (itself other s) (held _ (one_more n))))
+      (cond_after (IsSameFor other s) (has flags TMRESUME) (resume_by s n x) (begin_by s n x)
+      (unless_after (IsSameFor other s)
       (resume_refusal (is_some (active_of s.associations n)) (known_as s x) (list_any (suspends n x) s.associations)
-      (list_any (is_loose_with x) s.associations)) s _
-      (marked_spares other (mark_in (known_as s x)) s (not_resumed s n x) (resumed s n x)
+      (list_any (is_loose_with x) s.associations)) s _ (itself other s)
+      (λ none. marked_after (IsSameFor other s) (mark_in (known_as s x)) (not_resumed s n x) (resumed s n x)
       (held _ (leave (resumable s.associations n x) (λ a is. of_resumable (list_any (suspends n x) s.associations) n x a is)))
       (handed (resumable s.associations n x) (Active n))))
-      (unless_spares other
-      (start_refusal (is_some (active_of s.associations n)) (is_taken (known_as s x)) (known_in s) s.given) s (begun s n x)
-      (begins n)))
+      (unless_after (IsSameFor other s)
+      (start_refusal (is_some (active_of s.associations n)) (is_taken (known_as s x)) (known_in s) s.given) s (begun s n x) (itself other s)
+      (λ none. begins n)))
 
   suspend_spares : (n : ℕ) (migrates : Bool) → Spares other s (suspend_by s n migrates x)
   suspend_spares n migrates =
-      unless_spares other (end_refusal (known_as s x) (is_with x (active_of s.associations n))) s _
-      (marked_spares other (mark_in (known_as s x)) s (not_suspended s n x) _
+      unless_after (IsSameFor other s) (end_refusal (known_as s x) (is_with x (active_of s.associations n))) s _ (itself other s)
+      (λ none. marked_after (IsSameFor other s) (mark_in (known_as s x)) (not_suspended s n x) _
       (held _ (leave (works_in n x) (λ a is. (both_true (is_active n a.holder) (xid_eq a.xid x) is).1)))
-      (unless_spares other (loose_refusal migrates (loose_of s.associations x)) s (ok (suspended s n migrates x))
-      (handed (works_in n x) _)))
+      (unless_after (IsSameFor other s) (loose_refusal migrates (loose_of s.associations x)) s (ok (suspended s n migrates x)) (itself other s)
+      (λ none. handed (works_in n x) _)))
 
   ends : (n : ℕ) → IsSameFor other s (ended s n x)
   ends n = held (without_one s.associations n x) (leave_one n (list_any (owns n x) s.associations))
@@ -182,13 +164,13 @@ module _ (s : State) (x other : Triple) (apart : xid_eq x other ≡ false) where
 
   leave_spares : (n : ℕ) (fails : Bool) → Spares other s (leave_by s n fails x)
   leave_spares n fails =
-      unless_spares other (end_refusal (known_as s x) (can_end s.associations n x)) s _
-      (marked_spares other (mark_in (known_as s x)) s (ended s n x) (cond fails (failed s n x) (ok (ended s n x))) (ends n)
-      (cond_spares other fails s (failed s n x) (ok (ended s n x)) (fails_so n) (ends n)))
+      unless_after (IsSameFor other s) (end_refusal (known_as s x) (can_end s.associations n x)) s _ (itself other s)
+      (λ none. marked_after (IsSameFor other s) (mark_in (known_as s x)) (ended s n x) (cond fails (failed s n x) (ok (ended s n x))) (ends n)
+      (cond_after (IsSameFor other s) fails (failed s n x) (ok (ended s n x)) (fails_so n) (ends n)))
 
   end_spares : (n flags : ℕ) → Spares other s (end_by s n flags x)
   end_spares n flags =
-      cond_spares other (has flags TMSUSPEND) s (suspend_by s n (has flags TMMIGRATE) x) (leave_by s n (has flags TMFAIL) x)
+      cond_after (IsSameFor other s) (has flags TMSUSPEND) (suspend_by s n (has flags TMMIGRATE) x) (leave_by s n (has flags TMFAIL) x)
       (suspend_spares n (has flags TMMIGRATE)) (leave_spares n (has flags TMFAIL))
 
   -- gets and puts
@@ -199,18 +181,18 @@ module _ (s : State) (x other : Triple) (apart : xid_eq x other ≡ false) where
   get_spares : (key : List ℕ) (b : Branch) → Spares other s (get_by s key (Some (x, b)))
   get_spares key b =
       let v = source key b.timestamp s.branches in
-      marked_spares other (mark_of b.phase) s s (get_from s key x b v) (itself other s)
-      (unless_spares other (busy_refusal b.timestamp v) s (got s key x b v)
-      (same_for other s (got s key x b v).after (does (Got key v.value v.timestamp)) refl refl refl refl refl refl))
+      marked_after (IsSameFor other s) (mark_of b.phase) s (get_from s key x b v) (itself other s)
+      (unless_after (IsSameFor other s) (busy_refusal b.timestamp v) s (got s key x b v) (itself other s)
+      (λ none. same_for other s (got s key x b v).after (does (Got key v.value v.timestamp)) refl refl refl refl refl refl))
 
   put_spares : (key : List ℕ) (value : Option (List ℕ)) (b : Branch) → Spares other s (put_by s key value (Some (x, b)))
   put_spares key value b =
-      marked_spares other (mark_of b.phase) s s (put_from s key value x b) (itself other s)
-      (unless_spares other (limit_refusal (is_full key b.operations)) s
-      (if_late (is_late key b.timestamp s.reads) (came_late s x) (written s key value x))
-      (if_late_spares other (is_late key b.timestamp s.reads) s (came_late s x) (written s key value x)
+      marked_after (IsSameFor other s) (mark_of b.phase) s (put_from s key value x b) (itself other s)
+      (unless_after (IsSameFor other s) (limit_refusal (is_full key b.operations)) s
+      (if_late (is_late key b.timestamp s.reads) (came_late s x) (written s key value x)) (itself other s)
+      (λ none. if_late_after (IsSameFor other s) (is_late key b.timestamp s.reads) (came_late s x) (written s key value x)
       (same_for other s (came_late s x).after (marks XA_RBTRANSIENT) refl refl refl refl refl refl)
-      (same_for other s (written s key value x).after (does (Wrote key value)) refl refl refl refl refl refl)))
+      (λ timely. same_for other s (written s key value x).after (does (Wrote key value)) refl refl refl refl refl refl)))
 
 -- A session's own branch is associated and at work, so that no record is appended of it.
 
@@ -239,28 +221,21 @@ module _ (s : State) (x : Triple) (mark : Option ℤ) (known : known_as s x ≡ 
       refused_none (two_phase_refusal (known_as s x)) s _
       (subst (λ (k : Known). is_some (two_phase_refusal k) ≡ true) (sym known) refl)
 
+  of_named : (f : Triple → Turn) (y : Triple) → Some y ≡ Some x → record_in (f x) ≡ None → record_in (f y) ≡ None
+  of_named f y e none = let same : y ≡ x = cc e in subst (λ (z : Triple). record_in (f z) ≡ None) (sym same) none
+
   row_none : (n : ℕ) (request : Request) → xid_of request ≡ Some x → record_in (row s n request) ≡ None
   row_none n (Prepare flags y) e =
-      let same : y ≡ x = cc e in
-      subst (λ (z : Triple). record_in (prepare_turn s z) ≡ None) (sym same)
-      (refused_none (unprepared_refusal (known_as s x) (is_associated s x)) s _ unprepared)
-  row_none n (Commit flags y) e =
-      let same : y ≡ x = cc e in
-      subst (λ (z : Triple). record_in (row s n (Commit flags z)) ≡ None) (sym same) (in_one_phase (has flags TMONEPHASE))
+      of_named (prepare_turn s) y e (refused_none (unprepared_refusal (known_as s x) (is_associated s x)) s _ unprepared)
+  row_none n (Commit flags y) e = of_named (λ z. row s n (Commit flags z)) y e (in_one_phase (has flags TMONEPHASE))
   row_none n (Rollback flags y) e =
-      let same : y ≡ x = cc e in
-      subst (λ (z : Triple). record_in (rollback_turn s z) ≡ None) (sym same)
-      (refused_none (rollback_refusal (known_as s x) (is_associated s x)) s _ not_rolled_back)
+      of_named (rollback_turn s) y e (refused_none (rollback_refusal (known_as s x) (is_associated s x)) s _ not_rolled_back)
   row_none n (Forget flags y) e =
-      let same : y ≡ x = cc e in
-      subst (λ (z : Triple). record_in (row s n (Forget flags z)) ≡ None) (sym same)
-      (refused_none (forget_refusal (known_as s x)) s _
-      (subst (λ (k : Known). is_some (forget_refusal k) ≡ true) (sym known) refl))
+      of_named (λ z. row s n (Forget flags z)) y e
+      (refused_none (forget_refusal (known_as s x)) s _ (subst (λ (k : Known). is_some (forget_refusal k) ≡ true) (sym known) refl))
   row_none n (Decide way y) e =
-      let same : y ≡ x = cc e in
-      subst (λ (z : Triple). record_in (row s n (Decide way z)) ≡ None) (sym same)
-      (refused_none (decide_refusal (known_as s x)) s _
-      (subst (λ (k : Known). is_some (decide_refusal k) ≡ true) (sym known) refl))
+      of_named (λ z. row s n (Decide way z)) y e
+      (refused_none (decide_refusal (known_as s x)) s _ (subst (λ (k : Known). is_some (decide_refusal k) ≡ true) (sym known) refl))
   row_none n request e = absurd (cc e)
 
 known_working : (p : Phase) → is_working p ≡ true → (mark : Option ℤ) × (known_by p ≡ AtWork mark)

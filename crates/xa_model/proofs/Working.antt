@@ -18,8 +18,9 @@ use Rattle.xa_model.proofs.Holders.{resumed_held, suspended_held, none_own}
 use Rattle.xa_model.proofs.Marks.{mark_keeps, changed_sound}
 use Rattle.xa_model.proofs.Order.{descends_below}
 use Rattle.xa_model.proofs.Parts.{with_fewer_held}
-use Rattle.xa_model.proofs.Rows.{unless_sound, marked_sound, cond_sound, passed, below, neither, idle_count, new_named, at_work}
+use Rattle.xa_model.proofs.Rows.{passed, below, neither, idle_count, new_named, at_work}
 use Rattle.xa_model.proofs.Xids.{both_true}
+use Rattle.xa_model.proofs.OfAnswers.{cond_after, marked_after, unless_after}
 
 -- a new branch
 
@@ -76,7 +77,7 @@ begun_sound s n xid h seated idle free room left =
 
 pub begin_sound : (s : State) (n : ℕ) (xid : Triple) → IsSound s → is_some (session_of s.sessions n) ≡ true → IsSound (begin_by s n xid).after
 begin_sound s n xid h seated =
-    unless_sound (start_refusal (is_some (active_of s.associations n)) (is_taken (known_as s xid)) (known_in s) s.given) s (begun s n xid) h
+    unless_after IsSound (start_refusal (is_some (active_of s.associations n)) (is_taken (known_as s xid)) (known_in s) s.given) s (begun s n xid) h
     (λ allowed.
     let first_ = passed _ _ _ allowed in
     let second = passed _ _ _ first_.1 in
@@ -87,7 +88,7 @@ begin_sound s n xid h seated =
 
 join_sound : (s : State) (n : ℕ) (xid : Triple) → IsSound s → is_some (session_of s.sessions n) ≡ true → IsSound (join_by s n xid).after
 join_sound s n xid h seated =
-    unless_sound (join_refusal (is_some (active_of s.associations n)) (list_any (suspends n xid) s.associations) (known_as s xid)) s
+    unless_after IsSound (join_refusal (is_some (active_of s.associations n)) (list_any (suspends n xid) s.associations) (known_as s xid)) s
     (marked (mark_in (known_as s xid)) s (joined s n xid)) h
     (λ allowed.
     let first_ = passed _ _ _ allowed in
@@ -95,25 +96,25 @@ join_sound s n xid h seated =
     let third = passed _ _ _ second.1 in
     let free = neither (is_some (active_of s.associations n)) (list_any (suspends n xid) s.associations) first_.0 in
     let idle = idle_count n s.associations free.0 in
-    marked_sound (mark_in (known_as s xid)) s (joined s n xid) h
+    marked_after IsSound (mark_in (known_as s xid)) s (joined s n xid) h
     (one_more_sound s n xid h seated (at_work s xid second.0 third.0) idle (none_own n xid s.associations idle free.1)))
 
 -- an association is resumed
 
 resume_sound : (s : State) (n : ℕ) (xid : Triple) → IsSound s → is_some (session_of s.sessions n) ≡ true → IsSound (resume_by s n xid).after
 resume_sound s n xid h seated =
-    unless_sound (resume_refusal (is_some (active_of s.associations n)) (known_as s xid) (list_any (suspends n xid) s.associations) (list_any (is_loose_with xid) s.associations)) s
+    unless_after IsSound (resume_refusal (is_some (active_of s.associations n)) (known_as s xid) (list_any (suspends n xid) s.associations) (list_any (is_loose_with xid) s.associations)) s
     (marked (mark_in (known_as s xid)) (not_resumed s n xid) (resumed s n xid)) h
     (λ allowed.
     let idle = idle_count n s.associations (passed _ _ _ allowed).0 in
-    marked_sound (mark_in (known_as s xid)) (not_resumed s n xid) (resumed s n xid)
+    marked_after IsSound (mark_in (known_as s xid)) (not_resumed s n xid) (resumed s n xid)
     (with_fewer_held s (without (resumable s.associations n xid) s.associations) h (λ q. count_without (resumable s.associations n xid) q s.associations))
     (with_held s (change (resumable s.associations n xid) (held_by _) s.associations) h (resumed_held s n xid (list_any (suspends n xid) s.associations) refl h seated idle)))
 
 pub start_sound : (s : State) (n flags : ℕ) (xid : Triple) → IsSound s → is_some (session_of s.sessions n) ≡ true → IsSound (start_by s n flags xid).after
 start_sound s n flags xid h seated =
-    cond_sound (has flags TMJOIN) (join_by s n xid) (cond (has flags TMRESUME) (resume_by s n xid) (begin_by s n xid)) (join_sound s n xid h seated)
-    (cond_sound (has flags TMRESUME) (resume_by s n xid) (begin_by s n xid) (resume_sound s n xid h seated) (begin_sound s n xid h seated))
+    cond_after IsSound (has flags TMJOIN) (join_by s n xid) (cond (has flags TMRESUME) (resume_by s n xid) (begin_by s n xid)) (join_sound s n xid h seated)
+    (cond_after IsSound (has flags TMRESUME) (resume_by s n xid) (begin_by s n xid) (resume_sound s n xid h seated) (begin_sound s n xid h seated))
 
 -- an association is suspended
 
@@ -124,11 +125,11 @@ loose_room false loose allowed e = absurd (cc e)
 suspend_sound : (s : State) (n : ℕ) (migrates : Bool) (xid : Triple) → IsSound s → IsSound (suspend_by s n migrates xid).after
 suspend_sound s n migrates xid h =
     let after = unless (loose_refusal migrates (loose_of s.associations xid)) s (ok (suspended s n migrates xid)) in
-    unless_sound (end_refusal (known_as s xid) (is_with xid (active_of s.associations n))) s (marked (mark_in (known_as s xid)) (not_suspended s n xid) after) h
+    unless_after IsSound (end_refusal (known_as s xid) (is_with xid (active_of s.associations n))) s (marked (mark_in (known_as s xid)) (not_suspended s n xid) after) h
     (λ allowed.
-    marked_sound (mark_in (known_as s xid)) (not_suspended s n xid) after
+    marked_after IsSound (mark_in (known_as s xid)) (not_suspended s n xid) after
     (with_fewer_held s (without (works_in n xid) s.associations) h (λ q. count_without (works_in n xid) q s.associations))
-    (unless_sound (loose_refusal migrates (loose_of s.associations xid)) s (ok (suspended s n migrates xid)) h
+    (unless_after IsSound (loose_refusal migrates (loose_of s.associations xid)) s (ok (suspended s n migrates xid)) h
     (λ room. with_held s _ h (suspended_held s n xid migrates h (loose_room migrates (loose_of s.associations xid) room)))))
 
 -- an association ends
@@ -143,13 +144,13 @@ ended_sound s n xid h = with_fewer_held s (without_one s.associations n xid) h (
 
 leave_sound : (s : State) (n : ℕ) (fails : Bool) (xid : Triple) → IsSound s → IsSound (leave_by s n fails xid).after
 leave_sound s n fails xid h =
-    unless_sound (end_refusal (known_as s xid) (can_end s.associations n xid)) s
+    unless_after IsSound (end_refusal (known_as s xid) (can_end s.associations n xid)) s
     (marked (mark_in (known_as s xid)) (ended s n xid) (cond fails (failed s n xid) (ok (ended s n xid)))) h
     (λ allowed.
-    marked_sound (mark_in (known_as s xid)) (ended s n xid) (cond fails (failed s n xid) (ok (ended s n xid))) (ended_sound s n xid h)
-    (cond_sound fails (failed s n xid) (ok (ended s n xid)) (changed_sound (ended s n xid) (with_mark XA_RBROLLBACK) xid (mark_keeps XA_RBROLLBACK) (ended_sound s n xid h)) (ended_sound s n xid h)))
+    marked_after IsSound (mark_in (known_as s xid)) (ended s n xid) (cond fails (failed s n xid) (ok (ended s n xid))) (ended_sound s n xid h)
+    (cond_after IsSound fails (failed s n xid) (ok (ended s n xid)) (changed_sound (ended s n xid) (with_mark XA_RBROLLBACK) xid (mark_keeps XA_RBROLLBACK) (ended_sound s n xid h)) (ended_sound s n xid h)))
 
 pub end_sound : (s : State) (n flags : ℕ) (xid : Triple) → IsSound s → IsSound (end_by s n flags xid).after
 end_sound s n flags xid h =
-    cond_sound (has flags TMSUSPEND) (suspend_by s n (has flags TMMIGRATE) xid) (leave_by s n (has flags TMFAIL) xid)
+    cond_after IsSound (has flags TMSUSPEND) (suspend_by s n (has flags TMMIGRATE) xid) (leave_by s n (has flags TMFAIL) xid)
     (suspend_sound s n (has flags TMMIGRATE) xid h) (leave_sound s n (has flags TMFAIL) xid h)

@@ -95,12 +95,14 @@ pub record Context : Type 0 where
   pub moment : ℕ
   pub session : Option Bool
 
-abbrev pub early_refusal : Context → Request → Option Reply
-early_refusal c request =
-    first (
+abbrev pub early_checks : Context → Request → List (Bool × Reply)
+early_checks c request =
     (not c.up && not (passes_down (call_of request)), plain XAER_RMFAIL)
     ∷ (is_none c.session, plain XAER_PROTO)
     ∷ (needs_open (call_of request) && not (is_opened c.session), plain XAER_PROTO)
     ∷ (is_async (call_of request) (flags_of request), plain XAER_ASYNC)
     ∷ (is_invalid c.name c.moment request, plain XAER_INVAL)
-    ∷ [])
+    ∷ []
+
+abbrev pub early_refusal : Context → Request → Option Reply
+early_refusal c request = first (early_checks c request)
