@@ -86,6 +86,7 @@ pub mod Preparing
 pub mod Unlisted
 pub mod Grouped
 pub mod OfAnswers
+pub mod OfRows
 pub mod OfTurns
 pub mod Together
 pub mod RoomTogether

@@ -4,19 +4,19 @@ use Rattle.std.specs.Prelude.{find, map, filter_map, reverse, is_some, option_ma
 use Rattle.std.specs.List.{list_any, AllByRecursion}
 use Rattle.xa_codes.specs.Flags.{has}
 use Rattle.xa_codes.specs.declared.codes.TheConstants.{XA_RBTRANSIENT, XA_RBOTHER, XA_RBROLLBACK, XA_RBCOMMFAIL, XA_RBTIMEOUT}
-use Rattle.xa_codes.specs.declared.flags.TheConstants.{TMONEPHASE, TMJOIN, TMRESUME, TMSUSPEND, TMMIGRATE, TMFAIL}
+use Rattle.xa_codes.specs.declared.flags.TheConstants.{TMONEPHASE}
 use Rattle.xa_frame.specs.declared.request.Request.{Request}
 use Rattle.xa_frame.specs.declared.request.Request.TheVariants.{Open, Close, Start, End, Prepare, Commit, Rollback, Forget, Recover, Get, Put, Delete, Decide, Doom, Restart, Timeout, Tick, Trim, Branches}
 use Rattle.xa_xid.specs.Triple.{Triple, xid_eq}
 use Rattle.xa_xid.proofs.Same.{xid_eq_itself}
 use Rattle.xa_model.specs.declared.event.Event.TheVariants as event
-use Rattle.xa_model.specs.State.{State, Session, Association, Read, Branch, Got, Wrote, Phase, Working, Prepared, Committed, known_as, known_of, is_known_as, is_active, active_of, branch_with, own_branch, mark_of, change, session_of, suspends, is_loose_with, known_in, is_working, is_at_work}
-use Rattle.xa_model.specs.Source.{Version, source, is_late}
+use Rattle.xa_model.specs.State.{State, Session, Association, Read, Branch, Got, Wrote, Phase, Working, Prepared, Committed, known_as, known_of, is_known_as, is_active, branch_with, own_branch, change, session_of, is_working, is_at_work}
+use Rattle.xa_model.specs.Source.{Version, source}
 use Rattle.xa_model.specs.Answer.{ok}
 use Rattle.xa_model.specs.Early.{early_refusal}
-use Rattle.xa_model.specs.Associations.{connect_refusal, connected, connect_by, hang_up_by, open_by, close_refusal, close_by, as_opened, is_of_session, with_mark, marked_phase, left_behind, is_worked_by, start_refusal, begun, begin_by, is_taken, join_refusal, joined, join_by, resume_refusal, resumed, not_resumed, resume_by, start_by, end_refusal, loose_refusal, suspended, not_suspended, suspend_by, can_end, ended, failed, leave_by, end_by, mark_in}
+use Rattle.xa_model.specs.Associations.{connect_refusal, connected, connect_by, hang_up_by, open_by, close_refusal, close_by, as_opened, is_of_session, with_mark, marked_phase, left_behind, is_worked_by, start_by, end_by}
 use Rattle.xa_model.specs.Phases.{doom_refusal, doomed, doom_by}
-use Rattle.xa_model.specs.Data.{having_done, got, get_from, get_by, busy_refusal, is_full, limit_refusal, came_late, written, if_late, put_from, put_by}
+use Rattle.xa_model.specs.Data.{having_done, got, get_by, written, put_by}
 use Rattle.xa_model.specs.Completions.{commit_one_phase_turn, commit_two_phase_turn}
 use Rattle.xa_model.specs.TimeLimits.{runs_out, timed_out, ticked, tick_by, timeout_by}
 use Rattle.xa_model.specs.Recovering.{scan_of, scan_from, recovered_from, recover_by}
@@ -33,7 +33,8 @@ use Rattle.xa_model.proofs.Working.{start_sound, end_sound}
 use Rattle.xa_model.proofs.Soundness.{close_sound, doom_sound, get_sound, put_sound, recover_sound, tick_sound, timeout_sound, reached}
 use Rattle.xa_model.proofs.LoggedTurns.{unless_logs, cond_logs, prepares, commits, commits_in_doubt, rolls_back, decides, forgets}
 use Rattle.xa_model.proofs.LoggedTurns.{itself as logged_itself}
-use Rattle.xa_model.proofs.OfAnswers.{cond_after, if_late_after, marked_after, unless_after}
+use Rattle.xa_model.proofs.OfAnswers.{unless_after}
+use Rattle.xa_model.proofs.OfRows.{start_after, end_after, get_after, put_after}
 
 -- what is the same of the log
 record IsSame (s t : State) : Type 0 where
@@ -124,31 +125,10 @@ ticked_same s moment =
 -- the association table
 
 start_same : (s : State) (n flags : ℕ) (xid : Triple) → IsSame s (start_by s n flags xid).after
-start_same s n flags xid =
-    cond_after (IsSame s) (has flags TMJOIN) (join_by s n xid) (cond (has flags TMRESUME) (resume_by s n xid) (begin_by s n xid))
-    (unless_after (IsSame s) (join_refusal (is_some (active_of s.associations n)) (list_any (suspends n xid) s.associations) (known_as s xid)) s _ (itself s)
-    (λ none. marked_after (IsSame s) (mark_in (known_as s xid)) s (joined s n xid) (itself s) (alike s s.given s.sessions _ s.reads)))
-    (cond_after (IsSame s) (has flags TMRESUME) (resume_by s n xid) (begin_by s n xid)
-    (unless_after (IsSame s) (resume_refusal (is_some (active_of s.associations n)) (known_as s xid) (list_any (suspends n xid) s.associations) (list_any (is_loose_with xid) s.associations)) s _ (itself s)
-    (λ none. marked_after (IsSame s) (mark_in (known_as s xid)) (not_resumed s n xid) (resumed s n xid) (alike s s.given s.sessions _ s.reads) (alike s s.given s.sessions _ s.reads)))
-    (unless_after (IsSame s) (start_refusal (is_some (active_of s.associations n)) (is_taken (known_as s xid)) (known_in s) s.given) s (begun s n xid) (itself s)
-    (λ none. kept s (s.given + 1) s.sessions _ _ s.reads refl refl)))
-
-suspend_same : (s : State) (n : ℕ) (migrates : Bool) (xid : Triple) → IsSame s (suspend_by s n migrates xid).after
-suspend_same s n migrates xid =
-    unless_after (IsSame s) (end_refusal (known_as s xid) (_)) s _ (itself s)
-    (λ none. marked_after (IsSame s) (mark_in (known_as s xid)) (not_suspended s n xid) _ (alike s s.given s.sessions _ s.reads)
-    (unless_after (IsSame s) (loose_refusal migrates _) s (ok (suspended s n migrates xid)) (itself s) (λ free. alike s s.given s.sessions _ s.reads)))
-
-leave_same : (s : State) (n : ℕ) (fails : Bool) (xid : Triple) → IsSame s (leave_by s n fails xid).after
-leave_same s n fails xid =
-    unless_after (IsSame s) (end_refusal (known_as s xid) (can_end s.associations n xid)) s _ (itself s)
-    (λ none. marked_after (IsSame s) (mark_in (known_as s xid)) (ended s n xid) (cond fails (failed s n xid) (ok (ended s n xid))) (alike s s.given s.sessions _ s.reads)
-    (cond_after (IsSame s) fails (failed s n xid) (ok (ended s n xid)) (with_mark_same s s.given s.sessions _ xid XA_RBROLLBACK s.reads) (alike s s.given s.sessions _ s.reads)))
+start_same s n flags xid = start_after (IsSame s) s (itself s) n flags xid (alike s s.given s.sessions _ s.reads) (alike s s.given s.sessions _ s.reads) (alike s s.given s.sessions _ s.reads) (λ none. kept s (s.given + 1) s.sessions _ _ s.reads refl refl)
 
 end_same : (s : State) (n flags : ℕ) (xid : Triple) → IsSame s (end_by s n flags xid).after
-end_same s n flags xid =
-    cond_after (IsSame s) (has flags TMSUSPEND) (suspend_by s n (has flags TMMIGRATE) xid) (leave_by s n (has flags TMFAIL) xid) (suspend_same s n (has flags TMMIGRATE) xid) (leave_same s n (has flags TMFAIL) xid)
+end_same s n flags xid = end_after (IsSame s) s (itself s) n flags xid (alike s s.given s.sessions _ s.reads) (λ migrates none. alike s s.given s.sessions _ s.reads) (alike s s.given s.sessions _ s.reads) (with_mark_same s s.given s.sessions _ xid XA_RBROLLBACK s.reads)
 
 -- recoveries
 
@@ -166,9 +146,7 @@ got_same s key xid b v =
 
 get_same : (s : State) (key : List ℕ) (o : Option (Triple × Branch)) → IsSame s (get_by s key o).after
 get_same s key None = itself s
-get_same s key (Some (xid, b)) =
-    let v = source key b.timestamp s.branches in
-    marked_after (IsSame s) (mark_of b.phase) s (get_from s key xid b v) (itself s) (unless_after (IsSame s) (busy_refusal b.timestamp v) s (got s key xid b v) (itself s) (λ none. got_same s key xid b v))
+get_same s key (Some (xid, b)) = get_after (IsSame s) s (itself s) key xid b (λ none. got_same s key xid b (source key b.timestamp s.branches))
 
 unmade_by : (b : Branch) (p : Phase) → is_working p ≡ true → (committed_part b.timestamp (writes_of b.operations) p ≡ None) × (prepared_part b.timestamp (writes_of b.operations) p ≡ None)
 unmade_by b (Working x work) works = (refl, refl)
@@ -228,10 +206,8 @@ written_same s key value xid b own =
 put_same : (s : State) (n : ℕ) (key : List ℕ) (value : Option (List ℕ)) (o : Option (Triple × Branch)) → own_branch s n ≡ o → IsSound s → IsSame s (put_by s key value o).after
 put_same s n key value None e h = itself s
 put_same s n key value (Some (xid, b)) e h =
-    marked_after (IsSame s) (mark_of b.phase) s (put_from s key value xid b) (itself s)
-    (unless_after (IsSame s) (limit_refusal (is_full key b.operations)) s (if_late (is_late key b.timestamp s.reads) (came_late s xid) (written s key value xid)) (itself s)
-    (λ none. if_late_after (IsSame s) (is_late key b.timestamp s.reads) (came_late s xid) (written s key value xid)
-    (with_mark_same s s.given s.sessions s.associations xid XA_RBTRANSIENT s.reads) (λ timely. written_same s key value xid b (owned s n xid b e h))))
+    put_after (IsSame s) s (itself s) key value xid b (with_mark_same s s.given s.sessions s.associations xid XA_RBTRANSIENT s.reads)
+    (λ none timely. written_same s key value xid b (owned s n xid b e h))
 
 -- all rows, of a session that is connected
 

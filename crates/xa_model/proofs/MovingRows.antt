@@ -1,12 +1,12 @@
 -- Every row is a move of timestamps, reads and writes, whatever becomes of its record: flags, marks, associations and outcomes
 -- choose among moves, and no more.
 use Rattle.std.proofs.Common.{◌≡◌, ℕ, ℤ, ◌+◌, ◌≤◌, Bool, true, false, cond, List, [], ◌∷◌, Option, Some, None, refl, sym, ◌∙◌, ap, subst, arith}
-use Rattle.std.specs.Prelude.{map, is_some, find, option_map, option_and_then}
+use Rattle.std.specs.Prelude.{map, find, option_map, option_and_then}
 use Rattle.std.specs.List.{list_any}
 use Rattle.xa_codes.specs.Flags.{has}
 use Rattle.xa_codes.specs.declared.codes.TheConstants.{XA_OK, XAER_RMERR, XA_RETRY, XA_RDONLY, XA_RBTRANSIENT, XA_RBOTHER, XA_RBROLLBACK, XA_RBCOMMFAIL, XA_RBTIMEOUT}
 use Rattle.xa_codes.specs.declared.direction.Direction.TheVariants as direction
-use Rattle.xa_codes.specs.declared.flags.TheConstants.{TMONEPHASE, TMJOIN, TMRESUME, TMSUSPEND, TMMIGRATE, TMFAIL}
+use Rattle.xa_codes.specs.declared.flags.TheConstants.{TMONEPHASE}
 use Rattle.xa_frame.specs.declared.reply.Reply.{Reply}
 use Rattle.xa_frame.specs.declared.request.Request.{Request}
 use Rattle.xa_frame.specs.declared.request.Request.TheVariants.{Open, Close, Start, End, Prepare, Commit, Rollback, Forget, Recover, Get, Put, Delete, Decide, Doom, Restart, Timeout, Tick, Trim, Branches}
@@ -16,13 +16,12 @@ use Rattle.xa_xid.specs.Triple.{Triple, xid_eq}
 use Rattle.xa_xid.proofs.Same.{xid_eq_itself}
 use Rattle.xa_model.specs.declared.event.Event.{Event}
 use Rattle.xa_model.specs.declared.event.Event.TheVariants as event
-use Rattle.xa_model.specs.State.{State, Association, Branch, Phase, Working, Prepared, Committed, Known, Unknown, AtWork, InDoubt, Completed, count, known_as, known_in, known_of, is_known_as, is_committed, active_of, is_active, branch_with, own_branch, mark_of, change, without, suspends, is_loose_with, loose_of, holders_of, is_with, limit_of, is_working, is_at_work}
-use Rattle.xa_model.specs.Source.{source, is_late}
+use Rattle.xa_model.specs.State.{State, Association, Branch, Phase, Working, Prepared, Committed, Known, Unknown, AtWork, InDoubt, Completed, count, known_as, known_of, is_known_as, is_committed, active_of, is_active, branch_with, own_branch, mark_of, change, without, holders_of, limit_of, is_working, is_at_work}
 use Rattle.xa_model.specs.Answer.{Answer, plain, answer, ok}
 use Rattle.xa_model.specs.Early.{early_refusal}
-use Rattle.xa_model.specs.Associations.{connect_refusal, connected, close_refusal, is_of_session, with_mark, marked_phase, or_mark, left_behind, is_worked_by, start_refusal, begun, begin_by, is_taken, join_refusal, joined, join_by, resume_refusal, resumed, not_resumed, resume_by, start_by, end_refusal, loose_refusal, suspended, not_suspended, suspend_by, can_end, ended, failed, leave_by, end_by, mark_in, timestamp_in}
+use Rattle.xa_model.specs.Associations.{connect_refusal, connected, close_refusal, is_of_session, with_mark, marked_phase, or_mark, left_behind, is_worked_by, start_by, end_by, mark_in, timestamp_in}
 use Rattle.xa_model.specs.Phases.{rolled_back, committed, as_committed, as_prepared, prepared_phase, unprepared_refusal, two_phase_refusal, rollback_refusal, heuristic_refusal, doom_refusal, doomed, is_associated}
-use Rattle.xa_model.specs.Data.{got, get_from, get_by, busy_refusal, is_full, limit_refusal, came_late, written, if_late, put_from, put_by}
+use Rattle.xa_model.specs.Data.{get_by, put_by}
 use Rattle.xa_model.specs.TimeLimits.{runs_out, timed_out}
 use Rattle.xa_model.specs.Recovering.{recovered_from, scan_from, scan_of}
 use Rattle.xa_model.specs.Step.{row, respond, context_of}
@@ -37,7 +36,8 @@ use Rattle.xa_model.proofs.Rows.{passed}
 use Rattle.xa_model.proofs.Replies.{AllOf, unless_all, marked_all, cond_all, each_fate}
 use Rattle.xa_model.proofs.AppliedAll.{applied_changes}
 use Rattle.xa_model.proofs.Moves.{core, GoesOn, Remain, Moves, remains, begins, gets, puts, as_it_is, all_remain, changed_remain, mapped_remain, left_remain}
-use Rattle.xa_model.proofs.OfAnswers.{cond_after, if_late_after, marked_after, unless_after}
+use Rattle.xa_model.proofs.OfAnswers.{unless_after}
+use Rattle.xa_model.proofs.OfRows.{start_after, end_after, get_after, put_after}
 
 -- the state after the answer is a move away
 abbrev MovesTo : State → State → Type 0
@@ -165,33 +165,10 @@ unless_turns o s t h = unless_all (Moved s) o s t (λ reply e. itself s) h
 -- the association table
 
 start_moved : (s : State) (n flags : ℕ) (xid : Triple) → Moved s (start_by s n flags xid)
-start_moved s n flags xid =
-    cond_after (MovesTo s) (has flags TMJOIN) (join_by s n xid) (cond (has flags TMRESUME) (resume_by s n xid) (begin_by s n xid))
-    (unless_after (MovesTo s) (join_refusal (is_some (active_of s.associations n)) (list_any (suspends n xid) s.associations) (known_as s xid)) s _ (itself s)
-    (λ none. marked_after (MovesTo s) (mark_in (known_as s xid)) s (joined s n xid) (itself s) (itself s)))
-    (cond_after (MovesTo s) (has flags TMRESUME) (resume_by s n xid) (begin_by s n xid)
-    (unless_after (MovesTo s) (resume_refusal (is_some (active_of s.associations n)) (known_as s xid) (list_any (suspends n xid) s.associations)
-    (list_any (is_loose_with xid) s.associations)) s _ (itself s)
-    (λ none. marked_after (MovesTo s) (mark_in (known_as s xid)) (not_resumed s n xid) (resumed s n xid) (itself s) (itself s)))
-    (unless_after (MovesTo s) (start_refusal (is_some (active_of s.associations n)) (is_taken (known_as s xid)) (known_in s) s.given) s (begun s n xid) (itself s)
-    (λ none. begins xid s.moment (limit_of s n))))
-
-suspend_moved : (s : State) (n : ℕ) (migrates : Bool) (xid : Triple) → Moved s (suspend_by s n migrates xid)
-suspend_moved s n migrates xid =
-    unless_after (MovesTo s) (end_refusal (known_as s xid) (is_with xid (active_of s.associations n))) s _ (itself s)
-    (λ none. marked_after (MovesTo s) (mark_in (known_as s xid)) (not_suspended s n xid) _ (itself s)
-    (unless_after (MovesTo s) (loose_refusal migrates (loose_of s.associations xid)) s (ok (suspended s n migrates xid)) (itself s) (λ none. itself s)))
-
-leave_moved : (s : State) (n : ℕ) (fails : Bool) (xid : Triple) → Moved s (leave_by s n fails xid)
-leave_moved s n fails xid =
-    unless_after (MovesTo s) (end_refusal (known_as s xid) (can_end s.associations n xid)) s _ (itself s)
-    (λ none. marked_after (MovesTo s) (mark_in (known_as s xid)) (ended s n xid) (cond fails (failed s n xid) (ok (ended s n xid))) (itself s)
-    (cond_after (MovesTo s) fails (failed s n xid) (ok (ended s n xid)) (marks s XA_RBROLLBACK xid (λ e. cc e)) (itself s)))
+start_moved s n flags xid = start_after (MovesTo s) s (itself s) n flags xid (itself s) (itself s) (itself s) (λ none. begins xid s.moment (limit_of s n))
 
 end_moved : (s : State) (n flags : ℕ) (xid : Triple) → Moved s (end_by s n flags xid)
-end_moved s n flags xid =
-    cond_after (MovesTo s) (has flags TMSUSPEND) (suspend_by s n (has flags TMMIGRATE) xid) (leave_by s n (has flags TMFAIL) xid)
-    (suspend_moved s n (has flags TMMIGRATE) xid) (leave_moved s n (has flags TMFAIL) xid)
+end_moved s n flags xid = end_after (MovesTo s) s (itself s) n flags xid (itself s) (λ migrates none. itself s) (itself s) (marks s XA_RBROLLBACK xid (λ e. cc e))
 
 -- gets and puts, by the branch that the session works for
 
@@ -243,20 +220,14 @@ own_works s n xid b h o =
 
 get_moved : (s : State) (n : ℕ) (key : List ℕ) (o : Option (Triple × Branch)) → own_branch s n ≡ o → Moved s (get_by s key o)
 get_moved s n key None e = itself s
-get_moved s n key (Some (xid, b)) e =
-    let v = source key b.timestamp s.branches in
-    marked_after (MovesTo s) (mark_of b.phase) s (get_from s key xid b v) (itself s)
-    (unless_after (MovesTo s) (busy_refusal b.timestamp v) s (got s key xid b v) (itself s)
-    (λ none. gets key xid b (own s n xid b e).found (passed _ _ _ none).0))
+get_moved s n key (Some (xid, b)) e = get_after (MovesTo s) s (itself s) key xid b (λ none. gets key xid b (own s n xid b e).found (passed _ _ _ none).0)
 
 put_moved : (s : State) (n : ℕ) (key : List ℕ) (value : Option (List ℕ)) (o : Option (Triple × Branch)) → own_branch s n ≡ o → IsRecoverable s
     → Moved s (put_by s key value o)
 put_moved s n key value None e h = itself s
 put_moved s n key value (Some (xid, b)) e h =
-    marked_after (MovesTo s) (mark_of b.phase) s (put_from s key value xid b) (itself s)
-    (unless_after (MovesTo s) (limit_refusal (is_full key b.operations)) s (if_late (is_late key b.timestamp s.reads) (came_late s xid) (written s key value xid)) (itself s)
-    (λ none. if_late_after (MovesTo s) (is_late key b.timestamp s.reads) (came_late s xid) (written s key value xid) (marks s XA_RBTRANSIENT xid (λ e. cc e))
-    (λ on_time. puts key value xid b (own s n xid b e).found (own_works s n xid b h.sound (own s n xid b e)) on_time)))
+    put_after (MovesTo s) s (itself s) key value xid b (marks s XA_RBTRANSIENT xid (λ e. cc e))
+    (λ none on_time. puts key value xid b (own s n xid b e).found (own_works s n xid b h.sound (own s n xid b e)) on_time)
 
 -- the calls that log
 

@@ -1,12 +1,12 @@
 -- What the rows leave of timestamps: those of branches at work are new to the log.
 use Rattle.std.proofs.Common.{◌≡◌, ℕ, ℤ, ◌+◌, ◌<◌, ◌≤◌, ◌==◌, Bool, true, false, cond, List, [], ◌∷◌, Option, Some, None, refl, subst, sym, arith}
-use Rattle.std.specs.Prelude.{map, is_some}
+use Rattle.std.specs.Prelude.{map}
 use Rattle.std.specs.List.{list_any, AllByRecursion}
 use Rattle.std.proofs.lemmas.Bool.Decides.{nat_tests}
 use Rattle.xa_codes.specs.Flags.{has}
 use Rattle.xa_codes.specs.declared.codes.TheConstants.{XAER_RMERR, XA_RETRY, XA_RDONLY, XA_RBTRANSIENT, XA_RBOTHER, XA_RBROLLBACK, XA_RBCOMMFAIL, XA_RBTIMEOUT}
 use Rattle.xa_codes.specs.declared.direction.Direction.TheVariants as direction
-use Rattle.xa_codes.specs.declared.flags.TheConstants.{TMONEPHASE, TMJOIN, TMRESUME, TMSUSPEND, TMMIGRATE, TMFAIL}
+use Rattle.xa_codes.specs.declared.flags.TheConstants.{TMONEPHASE}
 use Rattle.xa_frame.specs.declared.reply.Reply.{Reply}
 use Rattle.xa_frame.specs.declared.request.Request.{Request}
 use Rattle.xa_frame.specs.declared.request.Request.TheVariants.{Open, Close, Start, End, Prepare, Commit, Rollback, Forget, Recover, Get, Put, Delete, Decide, Doom, Restart, Timeout, Tick, Trim, Branches}
@@ -15,13 +15,13 @@ use Rattle.xa_xid.specs.Triple.{Triple}
 use Rattle.xa_model.specs.declared.event.Event.{Event}
 use Rattle.xa_model.specs.declared.event.Event.TheVariants as event
 use Rattle.xa_model.specs.declared.outcome.Appending.TheVariants.{Refused}
-use Rattle.xa_model.specs.State.{State, Session, Association, Read, Branch, Operation, Got, Wrote, Phase, Working, Prepared, Committed, Known, Unknown, AtWork, InDoubt, Completed, known_as, known_in, is_known_as, active_of, own_branch, mark_of, change, without, suspends, is_loose_with, loose_of, is_with, timestamp_of, is_working}
-use Rattle.xa_model.specs.Source.{source, is_late}
+use Rattle.xa_model.specs.State.{State, Session, Association, Read, Branch, Operation, Got, Wrote, Phase, Working, Prepared, Committed, Known, Unknown, AtWork, InDoubt, Completed, known_as, is_known_as, own_branch, change, without, timestamp_of, is_working}
+use Rattle.xa_model.specs.Source.{source}
 use Rattle.xa_model.specs.Answer.{plain, answer, ok}
 use Rattle.xa_model.specs.Early.{early_refusal}
-use Rattle.xa_model.specs.Associations.{connect_refusal, connected, close_refusal, is_of_session, with_mark, marked_phase, left_behind, is_worked_by, start_refusal, begun, begin_by, is_taken, join_refusal, joined, join_by, resume_refusal, resumed, not_resumed, resume_by, start_by, end_refusal, loose_refusal, suspended, not_suspended, suspend_by, can_end, ended, failed, leave_by, end_by, mark_in, timestamp_in}
+use Rattle.xa_model.specs.Associations.{connect_refusal, connected, close_refusal, is_of_session, with_mark, marked_phase, left_behind, is_worked_by, begun, start_by, failed, end_by, mark_in, timestamp_in}
 use Rattle.xa_model.specs.Phases.{rolled_back, committed, as_committed, unprepared_refusal, two_phase_refusal, rollback_refusal, heuristic_refusal, doom_refusal, doomed, is_associated}
-use Rattle.xa_model.specs.Data.{having_done, got, get_from, get_by, busy_refusal, is_full, limit_refusal, came_late, written, if_late, put_from, put_by}
+use Rattle.xa_model.specs.Data.{having_done, get_by, put_by}
 use Rattle.xa_model.specs.TimeLimits.{runs_out, timed_out, ticked}
 use Rattle.xa_model.specs.Recovering.{recovered_from, scan_from, scan_of}
 use Rattle.xa_model.specs.Step.{row, respond, context_of}
@@ -31,7 +31,8 @@ use Rattle.xa_model.specs.Completions.{prepare_turn, prepare_written, commit_one
 use Rattle.xa_model.specs.Fold.{is_empty, is_used}
 use Rattle.xa_model.specs.Events.{begins_boot}
 use Rattle.xa_model.proofs.Lists.{change_all, without_all}
-use Rattle.xa_model.proofs.OfAnswers.{cond_after, if_late_after, marked_after, unless_after}
+use Rattle.xa_model.proofs.OfAnswers.{unless_after}
+use Rattle.xa_model.proofs.OfRows.{start_after, end_after, get_after, put_after}
 
 -- no branch at work has one of the timestamps
 abbrev pub AreUnused : List ℕ → List Branch → Type 0
@@ -157,34 +158,11 @@ begun_newer s n xid = record {
 -- the association table
 
 start_newer : (s : State) (n flags : ℕ) (xid : Triple) → IsNewer s (start_by s n flags xid).after
-start_newer s n flags xid =
-    cond_after (IsNewer s) (has flags TMJOIN) (join_by s n xid) (cond (has flags TMRESUME) (resume_by s n xid) (begin_by s n xid))
-    (unless_after (IsNewer s) (join_refusal (is_some (active_of s.associations n)) (list_any (suspends n xid) s.associations) (known_as s xid)) s _ (itself s)
-    (λ none. marked_after (IsNewer s) (mark_in (known_as s xid)) s (joined s n xid) (itself s) (alike s s.sessions _ s.reads)))
-    (cond_after (IsNewer s) (has flags TMRESUME) (resume_by s n xid) (begin_by s n xid)
-    (unless_after (IsNewer s) (resume_refusal (is_some (active_of s.associations n)) (known_as s xid) (list_any (suspends n xid) s.associations)
-    (list_any (is_loose_with xid) s.associations)) s _ (itself s)
-    (λ none. marked_after (IsNewer s) (mark_in (known_as s xid)) (not_resumed s n xid) (resumed s n xid) (alike s s.sessions _ s.reads) (alike s s.sessions _ s.reads)))
-    (unless_after (IsNewer s) (start_refusal (is_some (active_of s.associations n)) (is_taken (known_as s xid)) (known_in s) s.given) s (begun s n xid) (itself s)
-    (λ none. begun_newer s n xid)))
-
-suspend_newer : (s : State) (n : ℕ) (migrates : Bool) (xid : Triple) → IsNewer s (suspend_by s n migrates xid).after
-suspend_newer s n migrates xid =
-    unless_after (IsNewer s) (end_refusal (known_as s xid) (is_with xid (active_of s.associations n))) s _ (itself s)
-    (λ none. marked_after (IsNewer s) (mark_in (known_as s xid)) (not_suspended s n xid) _ (alike s s.sessions _ s.reads)
-    (unless_after (IsNewer s) (loose_refusal migrates (loose_of s.associations xid)) s (ok (suspended s n migrates xid)) (itself s) (λ none. alike s s.sessions _ s.reads)))
-
-leave_newer : (s : State) (n : ℕ) (fails : Bool) (xid : Triple) → IsNewer s (leave_by s n fails xid).after
-leave_newer s n fails xid =
-    unless_after (IsNewer s) (end_refusal (known_as s xid) (can_end s.associations n xid)) s _ (itself s)
-    (λ none. marked_after (IsNewer s) (mark_in (known_as s xid)) (ended s n xid) (cond fails (failed s n xid) (ok (ended s n xid))) (alike s s.sessions _ s.reads)
-    (cond_after (IsNewer s) fails (failed s n xid) (ok (ended s n xid)) (with_mark_newer s s.sessions _ XA_RBROLLBACK xid s.reads)
-    (alike s s.sessions _ s.reads)))
+start_newer s n flags xid = start_after (IsNewer s) s (itself s) n flags xid (alike s s.sessions _ s.reads) (alike s s.sessions _ s.reads) (alike s s.sessions _ s.reads) (λ none. begun_newer s n xid)
 
 end_newer : (s : State) (n flags : ℕ) (xid : Triple) → IsNewer s (end_by s n flags xid).after
 end_newer s n flags xid =
-    cond_after (IsNewer s) (has flags TMSUSPEND) (suspend_by s n (has flags TMMIGRATE) xid) (leave_by s n (has flags TMFAIL) xid)
-    (suspend_newer s n (has flags TMMIGRATE) xid) (leave_newer s n (has flags TMFAIL) xid)
+    end_after (IsNewer s) s (itself s) n flags xid (alike s s.sessions _ s.reads) (λ migrates none. alike s s.sessions _ s.reads) (alike s s.sessions _ s.reads) (with_mark_newer s s.sessions _ XA_RBROLLBACK xid s.reads)
 
 -- gets and puts
 
@@ -192,20 +170,16 @@ get_newer : (s : State) (key : List ℕ) (o : Option (Triple × Branch)) → IsN
 get_newer s key None = itself s
 get_newer s key (Some (xid, b)) =
     let v = source key b.timestamp s.branches in
-    marked_after (IsNewer s) (mark_of b.phase) s (get_from s key xid b v) (itself s)
-    (unless_after (IsNewer s) (busy_refusal b.timestamp v) s (got s key xid b v) (itself s)
+    get_after (IsNewer s) s (itself s) key xid b
     (λ none. moved s s.sessions s.associations _ _
-    (λ ts h. changed_unused xid (having_done (Got key v.value v.timestamp)) (done_still (Got key v.value v.timestamp)) ts s.branches h)))
+    (λ ts h. changed_unused xid (having_done (Got key v.value v.timestamp)) (done_still (Got key v.value v.timestamp)) ts s.branches h))
 
 put_newer : (s : State) (key : List ℕ) (value : Option (List ℕ)) (o : Option (Triple × Branch)) → IsNewer s (put_by s key value o).after
 put_newer s key value None = itself s
 put_newer s key value (Some (xid, b)) =
-    marked_after (IsNewer s) (mark_of b.phase) s (put_from s key value xid b) (itself s)
-    (unless_after (IsNewer s) (limit_refusal (is_full key b.operations)) s (if_late (is_late key b.timestamp s.reads) (came_late s xid) (written s key value xid)) (itself s)
-    (λ none. if_late_after (IsNewer s) (is_late key b.timestamp s.reads) (came_late s xid) (written s key value xid)
-    (with_mark_newer s s.sessions s.associations XA_RBTRANSIENT xid s.reads)
-    (λ timely. moved s s.sessions s.associations _ s.reads
-    (λ ts h. changed_unused xid (having_done (Wrote key value)) (done_still (Wrote key value)) ts s.branches h))))
+    put_after (IsNewer s) s (itself s) key value xid b (with_mark_newer s s.sessions s.associations XA_RBTRANSIENT xid s.reads)
+    (λ none timely. moved s s.sessions s.associations _ s.reads
+    (λ ts h. changed_unused xid (having_done (Wrote key value)) (done_still (Wrote key value)) ts s.branches h))
 
 -- the calls that log
 

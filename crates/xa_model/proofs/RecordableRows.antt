@@ -8,7 +8,7 @@ use Rattle.xa_codes.specs.Flags.{has}
 use Rattle.xa_codes.specs.declared.codes.TheConstants.{XAER_RMERR, XA_RETRY, XA_RDONLY, XA_RBTRANSIENT, XA_RBOTHER, XA_RBROLLBACK, XA_RBCOMMFAIL, XA_RBTIMEOUT}
 use Rattle.xa_codes.specs.declared.detail.Detail.TheVariants as detail
 use Rattle.xa_codes.specs.declared.direction.Direction.TheVariants as direction
-use Rattle.xa_codes.specs.declared.flags.TheConstants.{TMONEPHASE, TMJOIN, TMRESUME, TMSUSPEND, TMMIGRATE, TMFAIL}
+use Rattle.xa_codes.specs.declared.flags.TheConstants.{TMONEPHASE}
 use Rattle.xa_frame.specs.declared.reply.Reply.{Reply}
 use Rattle.xa_frame.specs.declared.request.Request.{Request}
 use Rattle.xa_frame.specs.declared.request.Request.TheVariants.{Open, Close, Start, End, Prepare, Commit, Rollback, Forget, Recover, Get, Put, Delete, Decide, Doom, Restart, Timeout, Tick, Trim, Branches}
@@ -19,14 +19,14 @@ use Rattle.xa_xid.specs.Triple.{Triple, IsWithinLimits}
 use Rattle.xa_model.specs.declared.event.Event.{Event}
 use Rattle.xa_model.specs.declared.event.Event.TheVariants as event
 use Rattle.xa_model.specs.declared.outcome.Appending.TheVariants.{Refused}
-use Rattle.xa_model.specs.State.{State, Association, Branch, Operation, Got, Wrote, Known, Unknown, AtWork, InDoubt, Completed, known_as, known_in, known_of, is_known_as, active_of, branch_with, own_branch, mark_of, change, suspends, is_loose_with, timestamp_of}
-use Rattle.xa_model.specs.Source.{Version, source, is_late}
+use Rattle.xa_model.specs.State.{State, Association, Branch, Operation, Got, Wrote, Known, Unknown, AtWork, InDoubt, Completed, known_as, known_in, known_of, is_known_as, active_of, branch_with, own_branch, change, timestamp_of}
+use Rattle.xa_model.specs.Source.{Version, source}
 use Rattle.xa_model.specs.Answer.{plain, detailed, answer, ok}
 use Rattle.xa_model.specs.Early.{early_refusal}
-use Rattle.xa_model.specs.Associations.{connect_refusal, connected, close_refusal, is_of_session, with_mark, marked_phase, left_behind, is_worked_by, start_refusal, begun, begin_by, is_taken, join_refusal, joined, join_by, resume_refusal, resumed, not_resumed, resume_by, start_by, end_refusal, loose_refusal, suspended, not_suspended, suspend_by, can_end, ended, failed, leave_by, end_by, mark_in, timestamp_by, timestamp_in}
+use Rattle.xa_model.specs.Associations.{connect_refusal, connected, close_refusal, is_of_session, with_mark, marked_phase, left_behind, is_worked_by, start_refusal, begun, is_taken, start_by, end_by, mark_in, timestamp_by, timestamp_in}
 use Rattle.xa_limits.specs.declared.TheConstants.{MOST_BOOTS, MOST_BRANCHES, MOST_GIVEN}
 use Rattle.xa_model.specs.Phases.{as_committed, rolled_back, committed, unprepared_refusal, two_phase_refusal, heuristic_refusal, rollback_refusal, doom_refusal, doomed, is_associated}
-use Rattle.xa_model.specs.Data.{having_done, got, get_from, get_by, busy_refusal, is_full, limit_refusal, came_late, written, if_late, put_from, put_by}
+use Rattle.xa_model.specs.Data.{having_done, got, get_by, is_full, written, put_by}
 use Rattle.xa_model.specs.TimeLimits.{runs_out, timed_out}
 use Rattle.xa_model.specs.Recovering.{recovered_from, scan_from, scan_of}
 use Rattle.xa_model.specs.Durable.{boot_of, is_past}
@@ -41,7 +41,8 @@ use Rattle.xa_model.proofs.Lists.{change_all, without_all, found_all}
 use Rattle.xa_model.proofs.Rows.{passed, below}
 use Rattle.xa_model.proofs.Recordable.{IsRecordable, AreRecordable, recordable, with_phase, committed_recordable}
 use Rattle.xa_model.proofs.ShortWrites.{wrote_short, are_writes}
-use Rattle.xa_model.proofs.OfAnswers.{cond_after, if_late_after, marked_after, unless_after}
+use Rattle.xa_model.proofs.OfAnswers.{unless_after}
+use Rattle.xa_model.proofs.OfRows.{start_after, end_after, get_after, put_after}
 
 -- what a turn leaves where its record isn't kept, and the record, which is no boot's
 abbrev pub KeepsRecordable : State → Turn → Type 0
@@ -121,29 +122,11 @@ room false false known given e =
 start_fits : (s : State) (n flags : ℕ) (xid : Triple) → IsLoggable s → Fits s (start_by s n flags xid).after
 start_fits s n flags xid loggable =
     let h = recordable s loggable in
-    cond_after (Fits s) (has flags TMJOIN) (join_by s n xid) (cond (has flags TMRESUME) (resume_by s n xid) (begin_by s n xid))
-    (unless_after (Fits s) (join_refusal (is_some (active_of s.associations n)) (list_any (suspends n xid) s.associations) (known_as s xid)) s _ h
-    (λ none. marked_after (Fits s) (mark_in (known_as s xid)) s (joined s n xid) h h))
-    (cond_after (Fits s) (has flags TMRESUME) (resume_by s n xid) (begin_by s n xid)
-    (unless_after (Fits s) (resume_refusal (is_some (active_of s.associations n)) (known_as s xid) (list_any (suspends n xid) s.associations) (list_any (is_loose_with xid) s.associations)) s _ h
-    (λ none. marked_after (Fits s) (mark_in (known_as s xid)) (not_resumed s n xid) (resumed s n xid) h h))
-    (unless_after (Fits s) (start_refusal (is_some (active_of s.associations n)) (is_taken (known_as s xid)) (known_in s) s.given) s (begun s n xid) h
-    (λ allowed. begun_fits s n xid loggable (room (is_some (active_of s.associations n)) (is_taken (known_as s xid)) (known_in s) s.given allowed))))
-
-suspend_fits : (s : State) (n : ℕ) (migrates : Bool) (xid : Triple) → Fits s s → Fits s (suspend_by s n migrates xid).after
-suspend_fits s n migrates xid h =
-    unless_after (Fits s) (end_refusal (known_as s xid) (_)) s _ h
-    (λ none. marked_after (Fits s) (mark_in (known_as s xid)) (not_suspended s n xid) _ h (unless_after (Fits s) (loose_refusal migrates _) s (ok (suspended s n migrates xid)) h (λ free. h)))
-
-leave_fits : (s : State) (n : ℕ) (fails : Bool) (xid : Triple) → Fits s s → Fits s (leave_by s n fails xid).after
-leave_fits s n fails xid h =
-    unless_after (Fits s) (end_refusal (known_as s xid) (can_end s.associations n xid)) s _ h
-    (λ none. marked_after (Fits s) (mark_in (known_as s xid)) (ended s n xid) (cond fails (failed s n xid) (ok (ended s n xid))) h
-    (cond_after (Fits s) fails (failed s n xid) (ok (ended s n xid)) (mark_fits s xid XA_RBROLLBACK h) h))
+    start_after (Fits s) s h n flags xid h h h
+    (λ allowed. begun_fits s n xid loggable (room (is_some (active_of s.associations n)) (is_taken (known_as s xid)) (known_in s) s.given allowed))
 
 end_fits : (s : State) (n flags : ℕ) (xid : Triple) → Fits s s → Fits s (end_by s n flags xid).after
-end_fits s n flags xid h =
-    cond_after (Fits s) (has flags TMSUSPEND) (suspend_by s n (has flags TMMIGRATE) xid) (leave_by s n (has flags TMFAIL) xid) (suspend_fits s n (has flags TMMIGRATE) xid h) (leave_fits s n (has flags TMFAIL) xid h)
+end_fits s n flags xid h = end_after (Fits s) s h n flags xid h (λ migrates none. h) h (mark_fits s xid XA_RBROLLBACK h)
 
 -- recovery
 
@@ -183,9 +166,7 @@ got_fits s key xid b v found h = done_fits s xid b (Got key v.value v.timestamp)
 get_fits : (s : State) (n : ℕ) (key : List ℕ) (o : Option (Triple × Branch)) → own_branch s n ≡ o → Fits s s → Fits s (get_by s key o).after
 get_fits s n key None e h = h
 get_fits s n key (Some (xid, b)) e h =
-    let v = source key b.timestamp s.branches in
-    marked_after (Fits s) (mark_of b.phase) s (get_from s key xid b v) h
-    (unless_after (Fits s) (busy_refusal b.timestamp v) s (got s key xid b v) h (λ none. got_fits s key xid b v (owned_by xid b s.branches (active_of s.associations n) e) h))
+    get_after (Fits s) s h key xid b (λ none. got_fits s key xid b (source key b.timestamp s.branches) (owned_by xid b s.branches (active_of s.associations n) e) h)
 
 wrote_fits : (s : State) (key : List ℕ) (value : Option (List ℕ)) (xid : Triple) (b : Branch) → IsWrite (record { key = key; value = value }) → is_full key b.operations ≡ false
     → known_of s.branches xid ≡ Some b → Fits s s → Fits s (written s key value xid).after
@@ -196,10 +177,8 @@ put_fits : (s : State) (n : ℕ) (key : List ℕ) (value : Option (List ℕ)) (o
     → Fits s (put_by s key value o).after
 put_fits s n key value None limits e h = h
 put_fits s n key value (Some (xid, b)) limits e h =
-    marked_after (Fits s) (mark_of b.phase) s (put_from s key value xid b) h
-    (unless_after (Fits s) (limit_refusal (is_full key b.operations)) s (if_late (is_late key b.timestamp s.reads) (came_late s xid) (written s key value xid)) h
-    (λ room. if_late_after (Fits s) (is_late key b.timestamp s.reads) (came_late s xid) (written s key value xid) (mark_fits s xid XA_RBTRANSIENT h)
-    (λ timely. wrote_fits s key value xid b limits (passed _ _ _ room).0 (owned_by xid b s.branches (active_of s.associations n) e) h)))
+    put_after (Fits s) s h key value xid b (mark_fits s xid XA_RBTRANSIENT h)
+    (λ room timely. wrote_fits s key value xid b limits (passed _ _ _ room).0 (owned_by xid b s.branches (active_of s.associations n) e) h)
 
 -- the calls that log
 

@@ -1,13 +1,13 @@
 -- The moment: nothing that is asked puts it back, and an opening that succeeds begins at 0.
 use Rattle.std.proofs.Common.{◌≡◌, ◌∙◌, ℕ, zero, suc, ℤ, ◌+◌, ◌≤◌, Bool, true, false, not, ◌&&◌, cond, List, [], ◌∷◌, Option, Some, None, refl, ap, arith, nat_lt}
-use Rattle.std.specs.Prelude.{IfSome, is_none, is_some}
+use Rattle.std.specs.Prelude.{IfSome, is_none}
 use Rattle.std.specs.List.{list_any}
 use Rattle.std.proofs.lemmas.Bool.Decides.{nat_tests}
 use Rattle.xa_codes.specs.Flags.{has}
 use Rattle.xa_codes.specs.declared.call.Call.TheVariants as call
 use Rattle.xa_codes.specs.declared.codes.TheConstants.{XAER_RMERR, XAER_RMFAIL, XAER_PROTO, XAER_ASYNC, XAER_INVAL, XA_RETRY, XA_RDONLY}
 use Rattle.xa_codes.specs.declared.direction.Direction.TheVariants as direction
-use Rattle.xa_codes.specs.declared.flags.TheConstants.{TMONEPHASE, TMJOIN, TMRESUME, TMSUSPEND, TMMIGRATE, TMFAIL}
+use Rattle.xa_codes.specs.declared.flags.TheConstants.{TMONEPHASE}
 use Rattle.xa_frame.specs.declared.reply.Reply.{Reply}
 use Rattle.xa_frame.specs.declared.request.Request.{Request}
 use Rattle.xa_frame.specs.declared.request.Request.TheVariants.{Open, Close, Start, End, Prepare, Commit, Rollback, Forget, Recover, Get, Put, Delete, Decide, Doom, Restart, Timeout, Tick, Trim, Branches}
@@ -19,13 +19,12 @@ use Rattle.xa_model.specs.declared.event.Event.{Event}
 use Rattle.xa_model.specs.declared.event.Event.TheVariants as event
 use Rattle.xa_model.specs.declared.outcome.Appending.{Appending}
 use Rattle.xa_model.specs.declared.outcome.Appending.TheVariants.{Kept, Refused, Lost}
-use Rattle.xa_model.specs.State.{State, Branch, Known, Unknown, AtWork, InDoubt, Completed, Up, known_as, known_in, active_of, own_branch, mark_of, suspends, is_loose_with, loose_of, is_with}
-use Rattle.xa_model.specs.Source.{source, is_late}
+use Rattle.xa_model.specs.State.{State, Branch, Known, Unknown, AtWork, InDoubt, Completed, Up, known_as, own_branch}
 use Rattle.xa_model.specs.Answer.{Answer, plain, answer, ok}
 use Rattle.xa_model.specs.Early.{Context, early_refusal, passes_down, needs_open, is_opened, is_async, is_invalid}
-use Rattle.xa_model.specs.Associations.{connect_refusal, connected, close_refusal, is_of_session, start_refusal, begun, begin_by, is_taken, join_refusal, joined, join_by, resume_refusal, resumed, not_resumed, resume_by, start_by, end_refusal, loose_refusal, suspended, not_suspended, suspend_by, can_end, ended, failed, leave_by, end_by, mark_in, timestamp_in}
+use Rattle.xa_model.specs.Associations.{connect_refusal, connected, close_refusal, is_of_session, start_by, end_by, mark_in, timestamp_in}
 use Rattle.xa_model.specs.Phases.{rolled_back, committed, unprepared_refusal, two_phase_refusal, rollback_refusal, heuristic_refusal, doom_refusal, doomed, is_associated}
-use Rattle.xa_model.specs.Data.{got, get_from, get_by, busy_refusal, is_full, limit_refusal, came_late, written, if_late, put_from, put_by}
+use Rattle.xa_model.specs.Data.{get_by, if_late, put_by}
 use Rattle.xa_model.specs.Recovering.{recovered_from, scan_from, scan_of}
 use Rattle.xa_model.specs.Step.{row, respond, asked, turn, context_of, further_record}
 use Rattle.xa_model.specs.Turn.{Asked, Reopened, Turn, Now, Stops, Opens, unless_now}
@@ -39,7 +38,8 @@ use Rattle.xa_model.proofs.Rows.{passed}
 use Rattle.xa_model.proofs.AppliedAll.{applied_changes, if_imply, if_mapped, if_some}
 use Rattle.xa_model.proofs.Restarts.{found_boots}
 use Rattle.xa_model.proofs.Replies.{AllOf, AllOfReading, taken_all, asked_all, joins_all, unless_all, marked_all, cond_all, each_fate, restarting_all}
-use Rattle.xa_model.proofs.OfAnswers.{cond_after, if_late_after, marked_after, unless_after}
+use Rattle.xa_model.proofs.OfAnswers.{unless_after}
+use Rattle.xa_model.proofs.OfRows.{start_after, end_after, get_after, put_after}
 
 abbrev IsNoEarlier : State → State → Type 0
 IsNoEarlier s t = s.moment ≤ t.moment
@@ -68,33 +68,10 @@ logs_rises s r code left h = each_fate (λ x. Rises s (append_became s r code le
 -- the association table
 
 start_rises : (s : State) (n flags : ℕ) (xid : Triple) → Rises s (start_by s n flags xid)
-start_rises s n flags xid =
-    cond_after (IsNoEarlier s) (has flags TMJOIN) (join_by s n xid) (cond (has flags TMRESUME) (resume_by s n xid) (begin_by s n xid))
-    (unless_after (IsNoEarlier s) (join_refusal (is_some (active_of s.associations n)) (list_any (suspends n xid) s.associations) (known_as s xid)) s _ (itself s)
-    (λ none. marked_after (IsNoEarlier s) (mark_in (known_as s xid)) s (joined s n xid) (itself s) (itself s)))
-    (cond_after (IsNoEarlier s) (has flags TMRESUME) (resume_by s n xid) (begin_by s n xid)
-    (unless_after (IsNoEarlier s) (resume_refusal (is_some (active_of s.associations n)) (known_as s xid) (list_any (suspends n xid) s.associations)
-    (list_any (is_loose_with xid) s.associations)) s _ (itself s)
-    (λ none. marked_after (IsNoEarlier s) (mark_in (known_as s xid)) (not_resumed s n xid) (resumed s n xid) (itself s) (itself s)))
-    (unless_after (IsNoEarlier s) (start_refusal (is_some (active_of s.associations n)) (is_taken (known_as s xid)) (known_in s) s.given) s (begun s n xid) (itself s)
-    (λ none. itself s)))
-
-suspend_rises : (s : State) (n : ℕ) (migrates : Bool) (xid : Triple) → Rises s (suspend_by s n migrates xid)
-suspend_rises s n migrates xid =
-    unless_after (IsNoEarlier s) (end_refusal (known_as s xid) (is_with xid (active_of s.associations n))) s _ (itself s)
-    (λ none. marked_after (IsNoEarlier s) (mark_in (known_as s xid)) (not_suspended s n xid) _ (itself s)
-    (unless_after (IsNoEarlier s) (loose_refusal migrates (loose_of s.associations xid)) s (ok (suspended s n migrates xid)) (itself s) (λ none. itself s)))
-
-leave_rises : (s : State) (n : ℕ) (fails : Bool) (xid : Triple) → Rises s (leave_by s n fails xid)
-leave_rises s n fails xid =
-    unless_after (IsNoEarlier s) (end_refusal (known_as s xid) (can_end s.associations n xid)) s _ (itself s)
-    (λ none. marked_after (IsNoEarlier s) (mark_in (known_as s xid)) (ended s n xid) (cond fails (failed s n xid) (ok (ended s n xid))) (itself s)
-    (cond_after (IsNoEarlier s) fails (failed s n xid) (ok (ended s n xid)) (itself s) (itself s)))
+start_rises s n flags xid = start_after (IsNoEarlier s) s (itself s) n flags xid (itself s) (itself s) (itself s) (λ none. itself s)
 
 end_rises : (s : State) (n flags : ℕ) (xid : Triple) → Rises s (end_by s n flags xid)
-end_rises s n flags xid =
-    cond_after (IsNoEarlier s) (has flags TMSUSPEND) (suspend_by s n (has flags TMMIGRATE) xid) (leave_by s n (has flags TMFAIL) xid)
-    (suspend_rises s n (has flags TMMIGRATE) xid) (leave_rises s n (has flags TMFAIL) xid)
+end_rises s n flags xid = end_after (IsNoEarlier s) s (itself s) n flags xid (itself s) (λ migrates none. itself s) (itself s) (itself s)
 
 -- recoveries, gets and puts
 
@@ -104,17 +81,11 @@ recovered_rises s n flags count (Some cursor) = itself s
 
 get_rises : (s : State) (key : List ℕ) (o : Option (Triple × Branch)) → Rises s (get_by s key o)
 get_rises s key None = itself s
-get_rises s key (Some (xid, b)) =
-    let v = source key b.timestamp s.branches in
-    marked_after (IsNoEarlier s) (mark_of b.phase) s (get_from s key xid b v) (itself s)
-    (unless_after (IsNoEarlier s) (busy_refusal b.timestamp v) s (got s key xid b v) (itself s) (λ none. itself s))
+get_rises s key (Some (xid, b)) = get_after (IsNoEarlier s) s (itself s) key xid b (λ none. itself s)
 
 put_rises : (s : State) (key : List ℕ) (value : Option (List ℕ)) (o : Option (Triple × Branch)) → Rises s (put_by s key value o)
 put_rises s key value None = itself s
-put_rises s key value (Some (xid, b)) =
-    marked_after (IsNoEarlier s) (mark_of b.phase) s (put_from s key value xid b) (itself s)
-    (unless_after (IsNoEarlier s) (limit_refusal (is_full key b.operations)) s (if_late (is_late key b.timestamp s.reads) (came_late s xid) (written s key value xid)) (itself s)
-    (λ none. if_late_after (IsNoEarlier s) (is_late key b.timestamp s.reads) (came_late s xid) (written s key value xid) (itself s) (λ timely. itself s)))
+put_rises s key value (Some (xid, b)) = put_after (IsNoEarlier s) s (itself s) key value xid b (itself s) (λ none timely. itself s)
 
 -- the calls that log
 

@@ -1,11 +1,10 @@
 -- Rows leave a log's size as it is, and log a branch's writes only where there is room.
 use Rattle.std.proofs.Common.{◌≡◌, ℕ, ℤ, Bool, true, false, cond, List, Option, Some, None, refl}
-use Rattle.std.specs.Prelude.{is_some}
 use Rattle.std.specs.List.{list_any}
 use Rattle.xa_codes.specs.Flags.{has}
 use Rattle.xa_codes.specs.declared.codes.TheConstants.{XAER_RMERR, XA_RETRY, XA_RDONLY}
 use Rattle.xa_codes.specs.declared.direction.Direction.TheVariants as direction
-use Rattle.xa_codes.specs.declared.flags.TheConstants.{TMONEPHASE, TMJOIN, TMRESUME, TMSUSPEND, TMMIGRATE, TMFAIL}
+use Rattle.xa_codes.specs.declared.flags.TheConstants.{TMONEPHASE}
 use Rattle.xa_frame.specs.declared.reply.Reply.{Reply}
 use Rattle.xa_frame.specs.declared.request.Request.{Request}
 use Rattle.xa_frame.specs.declared.request.Request.TheVariants.{Open, Close, Start, End, Prepare, Commit, Rollback, Forget, Recover, Get, Put, Delete, Decide, Doom, Restart, Timeout, Tick, Trim, Branches}
@@ -14,13 +13,12 @@ use Rattle.xa_xid.specs.Triple.{Triple}
 use Rattle.xa_model.specs.declared.event.Event.{Event}
 use Rattle.xa_model.specs.declared.event.Event.TheVariants as event
 use Rattle.xa_model.specs.declared.outcome.Appending.TheVariants.{Refused}
-use Rattle.xa_model.specs.State.{State, Branch, Known, Unknown, AtWork, InDoubt, Completed, known_as, known_in, active_of, own_branch, mark_of, suspends, is_loose_with, loose_of, is_with}
-use Rattle.xa_model.specs.Source.{source, is_late}
+use Rattle.xa_model.specs.State.{State, Branch, Known, Unknown, AtWork, InDoubt, Completed, known_as, own_branch}
 use Rattle.xa_model.specs.Answer.{Answer, plain, answer, ok}
 use Rattle.xa_model.specs.Early.{early_refusal}
-use Rattle.xa_model.specs.Associations.{connect_refusal, connected, close_refusal, is_of_session, start_refusal, begun, begin_by, is_taken, join_refusal, joined, join_by, resume_refusal, resumed, not_resumed, resume_by, start_by, end_refusal, loose_refusal, suspended, not_suspended, suspend_by, can_end, ended, failed, leave_by, end_by, mark_in, timestamp_in}
+use Rattle.xa_model.specs.Associations.{connect_refusal, connected, close_refusal, is_of_session, start_by, end_by, mark_in, timestamp_in}
 use Rattle.xa_model.specs.Phases.{rolled_back, committed, unprepared_refusal, two_phase_refusal, rollback_refusal, heuristic_refusal, doom_refusal, doomed, is_associated}
-use Rattle.xa_model.specs.Data.{got, get_from, get_by, busy_refusal, is_full, limit_refusal, came_late, written, if_late, put_from, put_by}
+use Rattle.xa_model.specs.Data.{get_by, put_by}
 use Rattle.xa_model.specs.Recovering.{recovered_from, scan_from, scan_of}
 use Rattle.xa_model.specs.Step.{row, respond, context_of}
 use Rattle.xa_model.specs.Turn.{Turn, Now, Appends, unless_now, marked_now}
@@ -29,7 +27,8 @@ use Rattle.xa_model.specs.Completions.{prepare_turn, prepare_written, commit_one
 use Rattle.xa_model.specs.Fold.{is_empty}
 use Rattle.xa_model.specs.Events.{asks_boot, begins_boot}
 use Rattle.xa_model.proofs.Rooms.{HasRoomFor}
-use Rattle.xa_model.proofs.OfAnswers.{cond_after, if_late_after, marked_after, unless_after}
+use Rattle.xa_model.proofs.OfAnswers.{unless_after}
+use Rattle.xa_model.proofs.OfRows.{start_after, end_after, get_after, put_after}
 
 -- what is answered at once, and what a refused record leaves, has a log of as many bytes
 abbrev pub AsksRoom : State → Turn → Type 0
@@ -46,33 +45,10 @@ Same s a = HasBytesOf s a.after
 -- the association table
 
 start_same : (s : State) (n flags : ℕ) (xid : Triple) → Same s (start_by s n flags xid)
-start_same s n flags xid =
-    cond_after (HasBytesOf s) (has flags TMJOIN) (join_by s n xid) (cond (has flags TMRESUME) (resume_by s n xid) (begin_by s n xid))
-    (unless_after (HasBytesOf s) (join_refusal (is_some (active_of s.associations n)) (list_any (suspends n xid) s.associations) (known_as s xid)) s _ refl
-    (λ none. marked_after (HasBytesOf s) (mark_in (known_as s xid)) s (joined s n xid) refl refl))
-    (cond_after (HasBytesOf s) (has flags TMRESUME) (resume_by s n xid) (begin_by s n xid)
-    (unless_after (HasBytesOf s)
-    (resume_refusal (is_some (active_of s.associations n)) (known_as s xid) (list_any (suspends n xid) s.associations)
-    (list_any (is_loose_with xid) s.associations)) s _ refl
-    (λ none. marked_after (HasBytesOf s) (mark_in (known_as s xid)) (not_resumed s n xid) (resumed s n xid) refl refl))
-    (unless_after (HasBytesOf s) (start_refusal (is_some (active_of s.associations n)) (is_taken (known_as s xid)) (known_in s) s.given) s (begun s n xid) refl (λ none. refl)))
-
-suspend_same : (s : State) (n : ℕ) (migrates : Bool) (xid : Triple) → Same s (suspend_by s n migrates xid)
-suspend_same s n migrates xid =
-    unless_after (HasBytesOf s) (end_refusal (known_as s xid) (is_with xid (active_of s.associations n))) s _ refl
-    (λ none. marked_after (HasBytesOf s) (mark_in (known_as s xid)) (not_suspended s n xid) _ refl
-    (unless_after (HasBytesOf s) (loose_refusal migrates (loose_of s.associations xid)) s (ok (suspended s n migrates xid)) refl (λ none. refl)))
-
-leave_same : (s : State) (n : ℕ) (fails : Bool) (xid : Triple) → Same s (leave_by s n fails xid)
-leave_same s n fails xid =
-    unless_after (HasBytesOf s) (end_refusal (known_as s xid) (can_end s.associations n xid)) s _ refl
-    (λ none. marked_after (HasBytesOf s) (mark_in (known_as s xid)) (ended s n xid) (cond fails (failed s n xid) (ok (ended s n xid))) refl
-    (cond_after (HasBytesOf s) fails (failed s n xid) (ok (ended s n xid)) refl refl))
+start_same s n flags xid = start_after (HasBytesOf s) s refl n flags xid refl refl refl (λ none. refl)
 
 end_same : (s : State) (n flags : ℕ) (xid : Triple) → Same s (end_by s n flags xid)
-end_same s n flags xid =
-    cond_after (HasBytesOf s) (has flags TMSUSPEND) (suspend_by s n (has flags TMMIGRATE) xid) (leave_by s n (has flags TMFAIL) xid)
-    (suspend_same s n (has flags TMMIGRATE) xid) (leave_same s n (has flags TMFAIL) xid)
+end_same s n flags xid = end_after (HasBytesOf s) s refl n flags xid refl (λ migrates none. refl) refl refl
 
 -- recoveries, gets and puts
 
@@ -82,16 +58,11 @@ recovered_same s n flags count (Some cursor) = refl
 
 get_same : (s : State) (key : List ℕ) (o : Option (Triple × Branch)) → Same s (get_by s key o)
 get_same s key None = refl
-get_same s key (Some (xid, b)) =
-    let v = source key b.timestamp s.branches in
-    marked_after (HasBytesOf s) (mark_of b.phase) s (get_from s key xid b v) refl (unless_after (HasBytesOf s) (busy_refusal b.timestamp v) s (got s key xid b v) refl (λ none. refl))
+get_same s key (Some (xid, b)) = get_after (HasBytesOf s) s refl key xid b (λ none. refl)
 
 put_same : (s : State) (key : List ℕ) (value : Option (List ℕ)) (o : Option (Triple × Branch)) → Same s (put_by s key value o)
 put_same s key value None = refl
-put_same s key value (Some (xid, b)) =
-    marked_after (HasBytesOf s) (mark_of b.phase) s (put_from s key value xid b) refl
-    (unless_after (HasBytesOf s) (limit_refusal (is_full key b.operations)) s (if_late (is_late key b.timestamp s.reads) (came_late s xid) (written s key value xid)) refl
-    (λ none. if_late_after (HasBytesOf s) (is_late key b.timestamp s.reads) (came_late s xid) (written s key value xid) refl (λ timely. refl)))
+put_same s key value (Some (xid, b)) = put_after (HasBytesOf s) s refl key value xid b refl (λ none timely. refl)
 
 -- the calls that log
 

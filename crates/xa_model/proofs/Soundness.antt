@@ -5,13 +5,13 @@ use Rattle.std.specs.List.{list_any}
 use Rattle.xa_codes.specs.declared.codes.TheConstants.{XA_RBTRANSIENT, XA_RBOTHER}
 use Rattle.xa_frame.specs.declared.request.Request.{Request}
 use Rattle.xa_xid.specs.Triple.{Triple}
-use Rattle.xa_model.specs.State.{State, Branch, Got, Wrote, Session, known_as, mark_of, change, session_of}
-use Rattle.xa_model.specs.Source.{Version, source, is_late}
+use Rattle.xa_model.specs.State.{State, Branch, Got, Wrote, Session, known_as, change, session_of}
+use Rattle.xa_model.specs.Source.{Version, source}
 use Rattle.xa_model.specs.Answer.{ok}
 use Rattle.xa_model.specs.Early.{early_refusal, call_of, passes_down, Context}
 use Rattle.xa_model.specs.Associations.{as_closed, close_refusal, close_by, with_mark, is_of_session}
 use Rattle.xa_model.specs.Phases.{doom_refusal, doomed, doom_by}
-use Rattle.xa_model.specs.Data.{having_done, got, get_from, get_by, busy_refusal, is_full, limit_refusal, came_late, written, if_late, put_from, put_by}
+use Rattle.xa_model.specs.Data.{having_done, got, get_by, put_by}
 use Rattle.xa_model.specs.Durable.{durable}
 use Rattle.xa_model.specs.Listed.{list_after}
 use Rattle.xa_model.specs.TimeLimits.{timed_out, with_limit, tick_by, timeout_by}
@@ -22,7 +22,8 @@ use Rattle.xa_model.proofs.Marks.{mark_keeps, done_keeps, timed_keeps, changed_s
 use Rattle.xa_model.proofs.Rows.{passed}
 use Rattle.xa_model.proofs.Seats.{seat_sound}
 use Rattle.xa_model.specs.Step.{context_of}
-use Rattle.xa_model.proofs.OfAnswers.{if_late_after, marked_after, unless_after}
+use Rattle.xa_model.proofs.OfAnswers.{unless_after}
+use Rattle.xa_model.proofs.OfRows.{get_after, put_after}
 
 -- the operator's mark
 
@@ -49,19 +50,13 @@ got_sound s key xid b v h = more_reads _ _ (changed_sound s (having_done (Got ke
 
 pub get_sound : (s : State) (key : List ℕ) (o : Option (Triple × Branch)) → IsSound s → IsSound (get_by s key o).after
 get_sound s key None h = h
-get_sound s key (Some (xid, b)) h =
-    let v = source key b.timestamp s.branches in
-    marked_after IsSound (mark_of b.phase) s (get_from s key xid b v) h (unless_after IsSound (busy_refusal b.timestamp v) s (got s key xid b v) h (λ none. got_sound s key xid b v h))
+get_sound s key (Some (xid, b)) h = get_after IsSound s h key xid b (λ none. got_sound s key xid b (source key b.timestamp s.branches) h)
 
 pub put_sound : (s : State) (key : List ℕ) (value : Option (List ℕ)) (o : Option (Triple × Branch)) → IsSound s → IsSound (put_by s key value o).after
 put_sound s key value None h = h
 put_sound s key value (Some (xid, b)) h =
-    marked_after IsSound (mark_of b.phase) s (put_from s key value xid b) h
-    (unless_after IsSound (limit_refusal (is_full key b.operations)) s (if_late (is_late key b.timestamp s.reads) (came_late s xid) (written s key value xid)) h
-    (λ none.
-    if_late_after IsSound (is_late key b.timestamp s.reads) (came_late s xid) (written s key value xid)
-    (changed_sound s (with_mark XA_RBTRANSIENT) xid (mark_keeps XA_RBTRANSIENT) h)
-    (λ timely. changed_sound s (having_done (Wrote key value)) xid (done_keeps (Wrote key value)) h)))
+    put_after IsSound s h key value xid b (changed_sound s (with_mark XA_RBTRANSIENT) xid (mark_keeps XA_RBTRANSIENT) h)
+    (λ none timely. changed_sound s (having_done (Wrote key value)) xid (done_keeps (Wrote key value)) h)
 
 -- sessions
 

@@ -6,7 +6,7 @@ use Rattle.std.specs.List.{AllByRecursion, list_any}
 use Rattle.std.proofs.lemmas.Bool.{lt-ltb}
 use Rattle.xa_codes.specs.Flags.{has}
 use Rattle.xa_codes.specs.declared.codes.TheConstants.{XA_RBTRANSIENT, XA_RBROLLBACK}
-use Rattle.xa_codes.specs.declared.flags.TheConstants.{TMONEPHASE, TMJOIN, TMRESUME, TMSUSPEND, TMMIGRATE, TMFAIL}
+use Rattle.xa_codes.specs.declared.flags.TheConstants.{TMONEPHASE}
 use Rattle.xa_frame.specs.declared.reply.Reply.{Reply}
 use Rattle.xa_frame.specs.declared.request.Request.{Request}
 use Rattle.xa_frame.specs.declared.request.Request.TheVariants.{Start, End, Prepare, Commit, Rollback, Forget, Get, Put}
@@ -15,19 +15,19 @@ use Rattle.xa_xid.specs.Triple.{Triple, xid_eq}
 use Rattle.xa_xid.proofs.Same.{xid_same}
 use Rattle.xa_model.specs.declared.event.Event.TheVariants as event
 use Rattle.xa_model.specs.State.{State, Association, Holder, Active, Branch, Phase, Working, Prepared, Committed}
-use Rattle.xa_model.specs.State.{Operation, Got, Wrote, Up, Known, AtWork, known_as, known_among, known_by, known_in}
-use Rattle.xa_model.specs.State.{known_of, decided_of, is_known_as, is_with, is_working, mark_of, active_of, own_branch}
-use Rattle.xa_model.specs.State.{holders_of, loose_of, owns, works_in, suspends, is_loose, is_loose_with, is_own}
+use Rattle.xa_model.specs.State.{Operation, Got, Wrote, Up, Known, AtWork, known_as, known_among, known_by}
+use Rattle.xa_model.specs.State.{known_of, decided_of, is_known_as, is_with, is_working, own_branch}
+use Rattle.xa_model.specs.State.{holders_of, owns, works_in, suspends, is_loose, is_loose_with, is_own}
 use Rattle.xa_model.specs.State.{is_active, is_suspended, change, without}
-use Rattle.xa_model.specs.Source.{source, is_late}
-use Rattle.xa_model.specs.Answer.{Answer, answer, ok}
-use Rattle.xa_model.specs.Associations.{with_mark, held_by, start_refusal, begun, begin_by, is_taken, join_refusal}
-use Rattle.xa_model.specs.Associations.{joined, join_by, resume_refusal, resumable, resumed, not_resumed, resume_by}
-use Rattle.xa_model.specs.Associations.{start_by, end_refusal, loose_refusal, suspended, not_suspended, suspend_by}
-use Rattle.xa_model.specs.Associations.{can_end, without_one, ended, failed, leave_by, end_by, mark_in}
+use Rattle.xa_model.specs.Source.{source}
+use Rattle.xa_model.specs.Answer.{Answer, answer}
+use Rattle.xa_model.specs.Associations.{with_mark, held_by, begun}
+use Rattle.xa_model.specs.Associations.{resumable}
+use Rattle.xa_model.specs.Associations.{start_by}
+use Rattle.xa_model.specs.Associations.{without_one, ended, failed, end_by}
 use Rattle.xa_model.specs.Phases.{is_associated, unprepared_refusal, two_phase_refusal, rollback_refusal}
-use Rattle.xa_model.specs.Data.{having_done, did, got, get_from, get_by, busy_refusal, is_full, limit_refusal}
-use Rattle.xa_model.specs.Data.{came_late, written, if_late, put_from, put_by}
+use Rattle.xa_model.specs.Data.{having_done, did, got, get_by}
+use Rattle.xa_model.specs.Data.{came_late, written, put_by}
 use Rattle.xa_model.specs.Completions.{prepare_turn, commit_one_phase_turn, commit_two_phase_turn, rollback_turn}
 use Rattle.xa_model.specs.Completions.{decide_refusal, forget_refusal}
 use Rattle.xa_model.specs.Early.{early_refusal}
@@ -50,7 +50,7 @@ use Rattle.xa_model.proofs.RoomyRows.{AsksRoom, events_ask_room}
 use Rattle.xa_model.proofs.StillTogether.{rooms_still, appends_still}
 use Rattle.xa_model.proofs.Together.{same_for, itself}
 use Rattle.xa_model.proofs.Xids.{both_true, xid_apart}
-use Rattle.xa_model.proofs.OfAnswers.{cond_after, if_late_after, marked_after, unless_after}
+use Rattle.xa_model.proofs.OfRows.{start_after, end_after, get_after, put_after}
 
 -- it is answered at once
 
@@ -133,28 +133,9 @@ module _ (s : State) (x other : Triple) (apart : xid_eq x other ≡ false) where
 
   start_spares : (n flags : ℕ) → Spares other s (start_by s n flags x)
   start_spares n flags =
-      cond_after (IsSameFor other s) (has flags TMJOIN) (join_by s n x) (cond (has flags TMRESUME) (resume_by s n x) (begin_by s n x))
-      (unless_after (IsSameFor other s)
-      (join_refusal (is_some (active_of s.associations n)) (list_any (suspends n x) s.associations) (known_as s x)) s _ (itself other s)
-      (λ none. marked_after (IsSameFor other s) (mark_in (known_as s x)) s (joined s n x) (itself other s) (held _ (one_more n))))
-      (cond_after (IsSameFor other s) (has flags TMRESUME) (resume_by s n x) (begin_by s n x)
-      (unless_after (IsSameFor other s)
-      (resume_refusal (is_some (active_of s.associations n)) (known_as s x) (list_any (suspends n x) s.associations)
-      (list_any (is_loose_with x) s.associations)) s _ (itself other s)
-      (λ none. marked_after (IsSameFor other s) (mark_in (known_as s x)) (not_resumed s n x) (resumed s n x)
+      start_after (IsSameFor other s) s (itself other s) n flags x (held _ (one_more n))
       (held _ (leave (resumable s.associations n x) (λ a is. of_resumable (list_any (suspends n x) s.associations) n x a is)))
-      (handed (resumable s.associations n x) (Active n))))
-      (unless_after (IsSameFor other s)
-      (start_refusal (is_some (active_of s.associations n)) (is_taken (known_as s x)) (known_in s) s.given) s (begun s n x) (itself other s)
-      (λ none. begins n)))
-
-  suspend_spares : (n : ℕ) (migrates : Bool) → Spares other s (suspend_by s n migrates x)
-  suspend_spares n migrates =
-      unless_after (IsSameFor other s) (end_refusal (known_as s x) (is_with x (active_of s.associations n))) s _ (itself other s)
-      (λ none. marked_after (IsSameFor other s) (mark_in (known_as s x)) (not_suspended s n x) _
-      (held _ (leave (works_in n x) (λ a is. (both_true (is_active n a.holder) (xid_eq a.xid x) is).1)))
-      (unless_after (IsSameFor other s) (loose_refusal migrates (loose_of s.associations x)) s (ok (suspended s n migrates x)) (itself other s)
-      (λ none. handed (works_in n x) _)))
+      (handed (resumable s.associations n x) (Active n)) (λ none. begins n)
 
   ends : (n : ℕ) → IsSameFor other s (ended s n x)
   ends n = held (without_one s.associations n x) (leave_one n (list_any (owns n x) s.associations))
@@ -162,16 +143,10 @@ module _ (s : State) (x other : Triple) (apart : xid_eq x other ≡ false) where
   fails_so : (n : ℕ) → Spares other s (failed s n x)
   fails_so n = same_for other s (failed s n x).after (marks XA_RBROLLBACK) refl (ends n).associated refl refl refl refl
 
-  leave_spares : (n : ℕ) (fails : Bool) → Spares other s (leave_by s n fails x)
-  leave_spares n fails =
-      unless_after (IsSameFor other s) (end_refusal (known_as s x) (can_end s.associations n x)) s _ (itself other s)
-      (λ none. marked_after (IsSameFor other s) (mark_in (known_as s x)) (ended s n x) (cond fails (failed s n x) (ok (ended s n x))) (ends n)
-      (cond_after (IsSameFor other s) fails (failed s n x) (ok (ended s n x)) (fails_so n) (ends n)))
-
   end_spares : (n flags : ℕ) → Spares other s (end_by s n flags x)
   end_spares n flags =
-      cond_after (IsSameFor other s) (has flags TMSUSPEND) (suspend_by s n (has flags TMMIGRATE) x) (leave_by s n (has flags TMFAIL) x)
-      (suspend_spares n (has flags TMMIGRATE)) (leave_spares n (has flags TMFAIL))
+      end_after (IsSameFor other s) s (itself other s) n flags x (held _ (leave (works_in n x) (λ a is. (both_true (is_active n a.holder) (xid_eq a.xid x) is).1)))
+      (λ migrates none. handed (works_in n x) _) (ends n) (fails_so n)
 
   -- gets and puts
 
@@ -181,18 +156,14 @@ module _ (s : State) (x other : Triple) (apart : xid_eq x other ≡ false) where
   get_spares : (key : List ℕ) (b : Branch) → Spares other s (get_by s key (Some (x, b)))
   get_spares key b =
       let v = source key b.timestamp s.branches in
-      marked_after (IsSameFor other s) (mark_of b.phase) s (get_from s key x b v) (itself other s)
-      (unless_after (IsSameFor other s) (busy_refusal b.timestamp v) s (got s key x b v) (itself other s)
-      (λ none. same_for other s (got s key x b v).after (does (Got key v.value v.timestamp)) refl refl refl refl refl refl))
+      get_after (IsSameFor other s) s (itself other s) key x b
+      (λ none. same_for other s (got s key x b v).after (does (Got key v.value v.timestamp)) refl refl refl refl refl refl)
 
   put_spares : (key : List ℕ) (value : Option (List ℕ)) (b : Branch) → Spares other s (put_by s key value (Some (x, b)))
   put_spares key value b =
-      marked_after (IsSameFor other s) (mark_of b.phase) s (put_from s key value x b) (itself other s)
-      (unless_after (IsSameFor other s) (limit_refusal (is_full key b.operations)) s
-      (if_late (is_late key b.timestamp s.reads) (came_late s x) (written s key value x)) (itself other s)
-      (λ none. if_late_after (IsSameFor other s) (is_late key b.timestamp s.reads) (came_late s x) (written s key value x)
+      put_after (IsSameFor other s) s (itself other s) key value x b
       (same_for other s (came_late s x).after (marks XA_RBTRANSIENT) refl refl refl refl refl refl)
-      (λ timely. same_for other s (written s key value x).after (does (Wrote key value)) refl refl refl refl refl refl)))
+      (λ none timely. same_for other s (written s key value x).after (does (Wrote key value)) refl refl refl refl refl refl)
 
 -- A session's own branch is associated and at work, so that no record is appended of it.
 

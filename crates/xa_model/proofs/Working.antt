@@ -4,12 +4,12 @@ use Rattle.std.specs.Prelude.{is_some}
 use Rattle.std.specs.List.{list_any}
 use Rattle.xa_codes.specs.Flags.{has}
 use Rattle.xa_codes.specs.declared.codes.TheConstants.{XA_RBROLLBACK}
-use Rattle.xa_codes.specs.declared.flags.TheConstants.{TMJOIN, TMRESUME, TMSUSPEND, TMMIGRATE, TMFAIL}
+use Rattle.xa_codes.specs.declared.flags.TheConstants.{TMJOIN, TMRESUME}
 use Rattle.xa_xid.specs.Triple.{Triple, xid_eq}
 use Rattle.xa_xid.proofs.Same.{xid_same, xid_eq_itself}
-use Rattle.xa_model.specs.State.{State, Branch, Association, count, change, without, is_with, is_known_as, owns, works_in, suspends, is_loose_with, active_of, known_of, known_as, known_in, session_of, holders_of, loose_of, timestamp_of, Work, new_work, new_branch, limit_of, is_at_work}
-use Rattle.xa_model.specs.Answer.{ok, unless, marked}
-use Rattle.xa_model.specs.Associations.{is_taken, mark_in, start_refusal, begun, begin_by, join_refusal, joined, join_by, resume_refusal, resumable, resumed, not_resumed, resume_by, start_by, end_refusal, loose_refusal, suspended, not_suspended, suspend_by, can_end, without_one, ended, failed, leave_by, end_by, with_mark, held_by}
+use Rattle.xa_model.specs.State.{State, Branch, Association, count, change, without, is_known_as, owns, works_in, suspends, is_loose_with, active_of, known_of, known_as, known_in, session_of, holders_of, loose_of, timestamp_of, Work, new_work, new_branch, limit_of, is_at_work}
+use Rattle.xa_model.specs.Answer.{marked}
+use Rattle.xa_model.specs.Associations.{is_taken, mark_in, start_refusal, begun, begin_by, join_refusal, joined, join_by, resume_refusal, resumable, resumed, not_resumed, resume_by, start_by, loose_refusal, without_one, ended, end_by, with_mark, held_by}
 use Rattle.xa_limits.specs.declared.TheConstants.{MOST_BRANCHES, MOST_GIVEN, MOST_LOOSE}
 use Rattle.xa_model.specs.Invariants.Sound.{IsSound, named}
 use Rattle.xa_model.proofs.Counts.{count_less, count_without, found_none}
@@ -21,6 +21,7 @@ use Rattle.xa_model.proofs.Parts.{with_fewer_held}
 use Rattle.xa_model.proofs.Rows.{passed, below, neither, idle_count, new_named, at_work}
 use Rattle.xa_model.proofs.Xids.{both_true}
 use Rattle.xa_model.proofs.OfAnswers.{cond_after, marked_after, unless_after}
+use Rattle.xa_model.proofs.OfRows.{end_after}
 
 -- a new branch
 
@@ -122,16 +123,6 @@ loose_room : (migrates : Bool) (loose : ℕ) → loose_refusal migrates loose �
 loose_room true loose allowed e = below loose MOST_LOOSE (passed _ _ _ allowed).0
 loose_room false loose allowed e = absurd (cc e)
 
-suspend_sound : (s : State) (n : ℕ) (migrates : Bool) (xid : Triple) → IsSound s → IsSound (suspend_by s n migrates xid).after
-suspend_sound s n migrates xid h =
-    let after = unless (loose_refusal migrates (loose_of s.associations xid)) s (ok (suspended s n migrates xid)) in
-    unless_after IsSound (end_refusal (known_as s xid) (is_with xid (active_of s.associations n))) s (marked (mark_in (known_as s xid)) (not_suspended s n xid) after) h
-    (λ allowed.
-    marked_after IsSound (mark_in (known_as s xid)) (not_suspended s n xid) after
-    (with_fewer_held s (without (works_in n xid) s.associations) h (λ q. count_without (works_in n xid) q s.associations))
-    (unless_after IsSound (loose_refusal migrates (loose_of s.associations xid)) s (ok (suspended s n migrates xid)) h
-    (λ room. with_held s _ h (suspended_held s n xid migrates h (loose_room migrates (loose_of s.associations xid) room)))))
-
 -- an association ends
 
 one_fewer : (s : State) (n : ℕ) (xid : Triple) (c : Bool) (q : Association → Bool)
@@ -142,15 +133,10 @@ one_fewer s n xid false q = count_without (is_loose_with xid) q s.associations
 ended_sound : (s : State) (n : ℕ) (xid : Triple) → IsSound s → IsSound (ended s n xid)
 ended_sound s n xid h = with_fewer_held s (without_one s.associations n xid) h (one_fewer s n xid (list_any (owns n xid) s.associations))
 
-leave_sound : (s : State) (n : ℕ) (fails : Bool) (xid : Triple) → IsSound s → IsSound (leave_by s n fails xid).after
-leave_sound s n fails xid h =
-    unless_after IsSound (end_refusal (known_as s xid) (can_end s.associations n xid)) s
-    (marked (mark_in (known_as s xid)) (ended s n xid) (cond fails (failed s n xid) (ok (ended s n xid)))) h
-    (λ allowed.
-    marked_after IsSound (mark_in (known_as s xid)) (ended s n xid) (cond fails (failed s n xid) (ok (ended s n xid))) (ended_sound s n xid h)
-    (cond_after IsSound fails (failed s n xid) (ok (ended s n xid)) (changed_sound (ended s n xid) (with_mark XA_RBROLLBACK) xid (mark_keeps XA_RBROLLBACK) (ended_sound s n xid h)) (ended_sound s n xid h)))
-
 pub end_sound : (s : State) (n flags : ℕ) (xid : Triple) → IsSound s → IsSound (end_by s n flags xid).after
 end_sound s n flags xid h =
-    cond_after IsSound (has flags TMSUSPEND) (suspend_by s n (has flags TMMIGRATE) xid) (leave_by s n (has flags TMFAIL) xid)
-    (suspend_sound s n (has flags TMMIGRATE) xid h) (leave_sound s n (has flags TMFAIL) xid h)
+    let ends = ended_sound s n xid h in
+    end_after IsSound s h n flags xid
+    (with_fewer_held s (without (works_in n xid) s.associations) h (λ q. count_without (works_in n xid) q s.associations))
+    (λ migrates room. with_held s _ h (suspended_held s n xid migrates h (loose_room migrates (loose_of s.associations xid) room)))
+    ends (changed_sound (ended s n xid) (with_mark XA_RBROLLBACK) xid (mark_keeps XA_RBROLLBACK) ends)
