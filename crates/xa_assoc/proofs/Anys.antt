@@ -1,5 +1,5 @@
 -- Whether some member of a list passes, after a change of the list.
-use Rattle.std.proofs.Common.{◌≡◌, ◌+◌, ◌≤◌, Bool, true, false, ◌&&◌, ◌||◌, cond, List, [], ◌∷◌, Option, Some, None, refl, ap, ◌∙◌, arith}
+use Rattle.std.proofs.Common.{◌≡◌, ◌+◌, Bool, true, false, ◌&&◌, ◌||◌, cond, List, [], ◌∷◌, Option, Some, None, refl, ap, ◌∙◌, arith}
 use Rattle.std.specs.Prelude.{find, filter}
 use Rattle.std.specs.List.{list_any}
 use Rattle.xa_model.specs.State.{count, without, change}
@@ -67,24 +67,6 @@ gone_by q p h x xs ys false e any rest = let fewer : count q ys + 1 ≡ count q 
 pub count_gone : {A : Type 0} (q p : A → Bool) (h : (x : A) → p x ≡ true → q x ≡ true) (xs : List A) → list_any p xs ≡ true → count q (without p xs) + 1 ≡ count q xs
 count_gone q p h [] any = absurd (cc any)
 count_gone q p h (x ∷ xs) any = gone_by q p h x xs (without p xs) (p x) refl any (count_gone q p h xs)
-
--- counted, and somewhere
-
-nowhere_by : {A : Type 0} (p : A → Bool) (xs : List A) (c : Bool) → cond c 1 0 + count p xs ≡ 0 → (count p xs ≡ 0 → list_any p xs ≡ false) → (c || list_any p xs) ≡ false
-nowhere_by p xs true e rest = absurd (omega arith)
-nowhere_by p xs false e rest = rest (omega arith)
-
-pub nowhere : {A : Type 0} (p : A → Bool) (xs : List A) → count p xs ≡ 0 → list_any p xs ≡ false
-nowhere p [] e = refl
-nowhere p (x ∷ xs) e = nowhere_by p xs (p x) e (nowhere p xs)
-
-somewhere_by : {A : Type 0} (p : A → Bool) (xs : List A) (c : Bool) → (c || list_any p xs) ≡ true → (list_any p xs ≡ true → 1 ≤ count p xs) → 1 ≤ cond c 1 0 + count p xs
-somewhere_by p xs true e rest = omega arith
-somewhere_by p xs false e rest = let more : 1 ≤ count p xs = rest e in omega arith
-
-pub somewhere : {A : Type 0} (p : A → Bool) (xs : List A) → list_any p xs ≡ true → 1 ≤ count p xs
-somewhere p [] e = absurd (cc e)
-somewhere p (x ∷ xs) e = somewhere_by p xs (p x) e (somewhere p xs)
 
 -- where none passes r, and p and q tell the same of what doesn't
 

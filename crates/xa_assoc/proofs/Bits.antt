@@ -1,8 +1,8 @@
 -- Bits of an array of words.
-use Rattle.std.proofs.Common.{◌≡◌, ℕ, ◌+◌, ◌*◌, ◌/◌, ◌%◌, ◌<◌, ◌≤◌, ◌^◌, nat_lt, Bool, true, false, List, [], ◌∷◌, zero, suc, ◌-◌, length, get_or, refl, ◌∙◌, arith}
-use Rattle.std.specs.Int.{bit_at}
+use Rattle.std.proofs.Common.{◌≡◌, ℕ, ◌+◌, ◌*◌, ◌/◌, ◌%◌, ◌<◌, ◌≤◌, ◌^◌, nat_lt, Bool, true, false, List, [], ◌∷◌, zero, suc, ◌-◌, length, get_or, refl, ◌∙◌, arith, w64}
+use Rattle.std.specs.Int.{bit_at, trailing_zeros}
 use Rattle.std.proofs.lemmas.Bool.Decides.{nat_tests}
-use Rattle.std.proofs.lemmas.Nat.Bits.{bit_at_ones}
+use Rattle.std.proofs.lemmas.Nat.Bits.{bit_at_ones, bit_at-trailing_zeros}
 use Rattle.std.specs.List.{AllByRecursion}
 use Rattle.xa_assoc.specs.Free.{is_free}
 
@@ -13,19 +13,28 @@ first_in_word words i w t k at below low high small =
     let bit : k % 64 < t = omega arith in
     rw (word, at, below (k % 64) bit) refl
 
-pub index_free : (words : List ℕ) (i w t : ℕ) → get_or words i 0 ≡ w → t < 64 → bit_at w t ≡ 1 → is_free words (64 * i + t) ≡ true
+index_free : (words : List ℕ) (i w t : ℕ) → get_or words i 0 ≡ w → t < 64 → bit_at w t ≡ 1 → is_free words (64 * i + t) ≡ true
 index_free words i w t at small is =
     let word : (64 * i + t) / 64 ≡ i = omega arith in
     let bit : (64 * i + t) % 64 ≡ t = omega arith in
     rw (word, bit, at, is) refl
 
-pub index_first : (words : List ℕ) (i w t : ℕ) → get_or words i 0 ≡ w → t < 64 → ((j : ℕ) → j < t → bit_at w j ≡ 0) → ((k : ℕ) → k < 64 * i → is_free words k ≡ false)
+index_first : (words : List ℕ) (i w t : ℕ) → get_or words i 0 ≡ w → t < 64 → ((j : ℕ) → j < t → bit_at w j ≡ 0) → ((k : ℕ) → k < 64 * i → is_free words k ≡ false)
     → (k : ℕ) → k < 64 * i + t → is_free words k ≡ false
 index_first words i w t at small below before k high = by_side (nat_lt k (64 * i)) refl
   where
     by_side : (c : Bool) → nat_lt k (64 * i) ≡ c → is_free words k ≡ false
     by_side true e = before k (grind (arith, nat_tests))
     by_side false e = let low : 64 * i ≤ k = grind (arith, nat_tests) in first_in_word words i w t k at below low high small
+
+pub first_index : (words : List ℕ) (i : ℕ) → 0 < get_or words i 0 → get_or words i 0 < 2 ^ 64 → ((k : ℕ) → k < 64 * i → is_free words k ≡ false)
+    → (is_free words (64 * i + trailing_zeros w64 (get_or words i 0)) ≡ true)
+    × ((k : ℕ) → k < 64 * i + trailing_zeros w64 (get_or words i 0) → is_free words k ≡ false)
+first_index words i low small before =
+    let w = get_or words i 0 in
+    let t = trailing_zeros w64 w in
+    let lowest = bit_at-trailing_zeros w64 w low small in
+    (index_free words i w t refl lowest.0 lowest.1, index_first words i w t refl lowest.0 lowest.2 before)
 
 -- where all words are full, all indices are free
 all_same : (xs : List ℕ) (v i : ℕ) → AllByRecursion (λ x. x ≡ v) xs → i < length xs → get_or xs i 0 ≡ v

@@ -14,20 +14,21 @@ use Rattle.xa_assoc.specs.Free.{is_free}
 use Rattle.xa_assoc.specs.Seats.{opened_at}
 use Rattle.xa_assoc.specs.Changes.{Goes}
 use Rattle.xa_assoc.specs.Sessions.{Follows}
-use Rattle.xa_assoc.proofs.Anys.{any_filter, find_filter, nowhere, count_gone}
+use Rattle.xa_assoc.proofs.Anys.{any_filter, find_filter, count_gone}
 use Rattle.xa_assoc.proofs.Held.{own_number, active_own}
 use Rattle.xa_assoc.proofs.Moves.{same_number}
 use Rattle.xa_assoc.proofs.Arrivals.{apart_numbers}
 use Rattle.xa_assoc.proofs.Connecting.{opened_some}
+use Rattle.xa_model.proofs.Leaving.{none_counted}
 
 -- the session
 
 abbrev has_number : ℕ → Session → Bool
 has_number n x = x.number == n
 
-none_counted : (n : ℕ) (xs : List Session) (c : Bool) → list_any (has_number n) xs ≡ c → count (has_number n) xs ≤ 1 → count (has_number n) (without (has_number n) xs) ≡ 0
-none_counted n xs true e one = let fewer = count_gone (has_number n) (has_number n) (λ x is. is) xs e in omega (arith, fewer)
-none_counted n xs false e one =
+none_left : (n : ℕ) (xs : List Session) (c : Bool) → list_any (has_number n) xs ≡ c → count (has_number n) xs ≤ 1 → count (has_number n) (without (has_number n) xs) ≡ 0
+none_left n xs true e one = let fewer = count_gone (has_number n) (has_number n) (λ x is. is) xs e in omega (arith, fewer)
+none_left n xs false e one =
     let none : count (has_number n) xs ≡ 0 = count_nowhere (has_number n) xs e in
     let fewer = count_without (has_number n) (has_number n) xs in omega (arith, fewer)
 
@@ -35,7 +36,7 @@ none_counted n xs false e one =
 gone_by : {A : Type 0} (g : Option Session → A) (n k : ℕ) (xs : List Session) (c : Bool) → (n == k) ≡ c → count (has_number n) xs ≤ 1
     → cond c (g None) (g (session_of xs k)) ≡ g (session_of (without (has_number n) xs) k)
 gone_by g n k xs true e one =
-    let none : session_of (without (has_number n) xs) n ≡ None = found_none (has_number n) (without (has_number n) xs) (none_counted n xs (list_any (has_number n) xs) refl one) in
+    let none : session_of (without (has_number n) xs) n ≡ None = found_none (has_number n) (without (has_number n) xs) (none_left n xs (list_any (has_number n) xs) refl one) in
     sym (ap g (subst (λ (i : ℕ). session_of (without (has_number n) xs) i ≡ None) (same_number n k e) none))
 gone_by g n k xs false e one = sym (ap g (find_without (has_number n) (has_number k) (λ x is. apart_numbers n k x.number e is) xs))
 
@@ -78,7 +79,7 @@ out_own n k q held true e =
     let out : count (is_of_session n) (filter (λ a. not (is_of_session n a)) held) ≡ 0 = count_out (is_of_session n) held in
     let fewer = count_less (owns n q) (is_of_session n) (own_holder n q) (filter (λ a. not (is_of_session n a)) held) in
     let none : count (owns n q) (filter (λ a. not (is_of_session n a)) held) ≡ 0 = omega (arith, fewer) in
-    sym (subst (λ (i : ℕ). list_any (owns i q) (filter (λ a. not (is_of_session n a)) held) ≡ false) (same_number n k e) (nowhere (owns n q) (filter (λ a. not (is_of_session n a)) held) none))
+    sym (subst (λ (i : ℕ). list_any (owns i q) (filter (λ a. not (is_of_session n a)) held) ≡ false) (same_number n k e) (none_counted (owns n q) (filter (λ a. not (is_of_session n a)) held) none))
 out_own n k q held false e =
     sym (any_filter (owns k q) (λ (a : Association). not (is_of_session n a)) (λ a is. flip (is_own n a.holder) (apart_own n k a e (own_holder k q a is))) held)
 

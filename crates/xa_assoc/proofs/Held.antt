@@ -8,7 +8,9 @@ use Rattle.xa_xid.proofs.Same.{xid_same}
 use Rattle.xa_model.proofs.Xids.{both_true}
 use Rattle.xa_model.proofs.Counts.{count_less}
 use Rattle.xa_model.specs.State.{Association, Holder, Active, Suspended, Loose, count, is_with, is_active, is_own, is_loose, is_suspended, owns, works_in, suspends, is_loose_with, active_of}
-use Rattle.xa_assoc.proofs.Anys.{nowhere, somewhere, any_agrees, found_any}
+use Rattle.xa_assoc.proofs.Anys.{any_agrees, found_any}
+use Rattle.xa_model.proofs.Leaving.{none_counted, any_counts}
+use Rattle.xa_assoc.proofs.Reseats.{or_false}
 
 -- of one association
 
@@ -85,21 +87,16 @@ own_split n xid (a ∷ held) =
     let here : cond (owns n xid a) 1 0 ≡ cond (works_in n xid a) 1 0 + cond (suspends n xid a) 1 0 = split_holder n a.holder (xid_eq a.xid xid) in
     omega arith
 
-not_active : (n : ℕ) (h : Holder) (c : Bool) → (is_active n h && c) ≡ false → (is_own n h && c) ≡ (is_suspended n h && c)
-not_active n (Active m) c e = e
-not_active n (Suspended m) c e = refl
-not_active n Loose c e = refl
+own_either : (n : ℕ) (h : Holder) (c : Bool) → (is_own n h && c) ≡ ((is_active n h && c) || (is_suspended n h && c))
+own_either n (Active m) c = sym (or_false (m == n && c))
+own_either n (Suspended m) c = refl
+own_either n Loose c = refl
 
 pub own_suspended : (n : ℕ) (xid : Triple) (a : Association) → works_in n xid a ≡ false → owns n xid a ≡ suspends n xid a
-own_suspended n xid a e = not_active n a.holder (xid_eq a.xid xid) e
-
-not_suspended_holder : (n : ℕ) (h : Holder) (c : Bool) → (is_suspended n h && c) ≡ false → (is_own n h && c) ≡ (is_active n h && c)
-not_suspended_holder n (Active m) c e = refl
-not_suspended_holder n (Suspended m) c e = e
-not_suspended_holder n Loose c e = refl
+own_suspended n xid a e = own_either n a.holder (xid_eq a.xid xid) ∙ ap (λ (b : Bool). b || suspends n xid a) e
 
 pub own_active : (n : ℕ) (xid : Triple) (a : Association) → suspends n xid a ≡ false → owns n xid a ≡ works_in n xid a
-own_active n xid a e = not_suspended_holder n a.holder (xid_eq a.xid xid) e
+own_active n xid a e = own_either n a.holder (xid_eq a.xid xid) ∙ ap (λ (b : Bool). works_in n xid a || b) e ∙ or_false (works_in n xid a)
 
 -- who is at work for the XID, and who isn't
 
@@ -118,7 +115,7 @@ idle_by n xid a held true e other one rest =
     let none : count (λ b. is_active n b.holder) held ≡ 0 = omega arith in
     let fewer : count (works_in n xid) held ≤ count (λ b. is_active n b.holder) held = count_less (works_in n xid) (λ b. is_active n b.holder) (λ b is. (both_true (is_active n b.holder) (xid_eq b.xid xid) is).0) held in
     let zero_ : count (works_in n xid) held ≡ 0 = omega arith in
-    rw (other, nowhere (works_in n xid) held zero_) refl
+    rw (other, none_counted (works_in n xid) held zero_) refl
 idle_by n xid a held false e other one rest = rest other
 
 pub works_nowhere : (n : ℕ) (xid : Triple) (held : List Association) → is_with xid (active_of held n) ≡ false → count (λ a. is_active n a.holder) held ≤ 1 → list_any (works_in n xid) held ≡ false
@@ -131,9 +128,9 @@ works_nowhere n xid (a ∷ held) other one =
 suspended_by : (n : ℕ) (xid : Triple) (held : List Association) (c : Bool) → is_with xid (active_of held n) ≡ c → count (λ a. is_active n a.holder) held ≤ 1 → count (owns n xid) held ≤ 1
     → list_any (suspends n xid) held ≡ (list_any (owns n xid) held && not c)
 suspended_by n xid held true e one own =
-    let working : 1 ≤ count (works_in n xid) held = somewhere (works_in n xid) held (works_somewhere n xid held e) in
+    let working : 1 ≤ count (works_in n xid) held = any_counts (works_in n xid) held (works_somewhere n xid held e) in
     let none : count (suspends n xid) held ≡ 0 = omega (arith, own_split n xid held) in
-    rw (nowhere (suspends n xid) held none) (sym (and_none (list_any (owns n xid) held)))
+    rw (none_counted (suspends n xid) held none) (sym (and_none (list_any (owns n xid) held)))
   where
     and_none : (b : Bool) → (b && false) ≡ false
     and_none true = refl

@@ -11,9 +11,10 @@ use Rattle.xa_model.proofs.Finds.{find_without}
 use Rattle.xa_model.specs.State.{Association, Loose, count, without, change, is_with, is_active, owns, works_in, suspends, is_loose_with, active_of}
 use Rattle.xa_model.specs.Associations.{held_by, resumable, without_one}
 use Rattle.xa_assoc.specs.Changes.{Leaves}
-use Rattle.xa_assoc.proofs.Anys.{any_same, any_without, count_changed_away, count_gone, nowhere, somewhere, any_agrees, without_agrees}
+use Rattle.xa_assoc.proofs.Anys.{any_same, any_without, count_changed_away, count_gone, any_agrees, without_agrees}
 use Rattle.xa_assoc.proofs.Held.{owned_is, works_own, suspends_own, working_is, suspended_idle, loose_idle, loose_nobodys, own_suspended, own_active, own_split, works_somewhere, works_nowhere, suspended_is}
 use Rattle.xa_assoc.proofs.Moves.{AreSeen, IsOnce, none_at, same_number, stood_by}
+use Rattle.xa_model.proofs.Leaving.{none_counted, any_counts}
 
 here_number : (n : ℕ) → (n == n) ≡ true
 here_number n = grind (arith, nat_tests)
@@ -36,7 +37,7 @@ own_gone_by n k xid q p held true e own one any =
     let fewer = count_gone (owns n xid) p own held any in
     let none : count (owns n xid) (without p held) ≡ 0 = omega (arith, fewer) in
     let both = both_at n k xid q e in
-    let gone : list_any (owns k q) (without p held) ≡ false = subst (λ (x : Triple). list_any (owns k x) (without p held) ≡ false) both.1 (subst (λ (i : ℕ). list_any (owns i xid) (without p held) ≡ false) both.0 (nowhere (owns n xid) (without p held) none)) in
+    let gone : list_any (owns k q) (without p held) ≡ false = subst (λ (x : Triple). list_any (owns k x) (without p held) ≡ false) both.1 (subst (λ (i : ℕ). list_any (owns i xid) (without p held) ≡ false) both.0 (none_counted (owns n xid) (without p held) none)) in
     gone ∙ and_false (list_any (owns k q) held)
 own_gone_by n k xid q p held false e own one any =
     any_without (owns k q) p (λ a is. owned_is n k xid q a (own a is) ∙ e) held ∙ and_true (list_any (owns k q) held)
@@ -54,7 +55,7 @@ own_loosed_by n k xid q held true e one any =
     let both = both_at n k xid q e in
     let gone : list_any (owns k q) (change (works_in n xid) (held_by Loose) held) ≡ false
     = subst (λ (x : Triple). list_any (owns k x) (change (works_in n xid) (held_by Loose) held) ≡ false) both.1
-    (subst (λ (i : ℕ). list_any (owns i xid) (change (works_in n xid) (held_by Loose) held) ≡ false) both.0 (nowhere (owns n xid) (change (works_in n xid) (held_by Loose) held) none)) in
+    (subst (λ (i : ℕ). list_any (owns i xid) (change (works_in n xid) (held_by Loose) held) ≡ false) both.0 (none_counted (owns n xid) (change (works_in n xid) (held_by Loose) held) none)) in
     gone ∙ and_false (list_any (owns k q) held)
 own_loosed_by n k xid q held false e one any =
     any_same (owns k q) (works_in n xid) (held_by Loose) (λ a is. sym (owned_is n k xid q a (works_own n xid a is) ∙ e)) held ∙ and_true (list_any (owns k q) held)
@@ -153,7 +154,7 @@ own_ended n xid held false is once own =
 -- who is at work for the XID owns it
 not_at_work : (n : ℕ) (xid : Triple) (held : List Association) (d : Bool) → is_with xid (active_of held n) ≡ d → list_any (owns n xid) held ≡ false → d ≡ false
 not_at_work n xid held true is none =
-    let any : 1 ≤ count (works_in n xid) held = somewhere (works_in n xid) held (works_somewhere n xid held is) in
+    let any : 1 ≤ count (works_in n xid) held = any_counts (works_in n xid) held (works_somewhere n xid held is) in
     let owned_none : count (owns n xid) held ≡ 0 = count_nowhere (owns n xid) held none in
     absurd (omega (arith, own_split n xid held))
 not_at_work n xid held false is none = refl

@@ -64,7 +64,7 @@ or_true true false = refl
 or_true false true = refl
 or_true false false = refl
 
-or_false : (b : Bool) → (b || false) ≡ b
+pub or_false : (b : Bool) → (b || false) ≡ b
 or_false true = refl
 or_false false = refl
 
