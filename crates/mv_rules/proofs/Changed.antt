@@ -6,7 +6,7 @@ use Rattle.slab.specs.Slab.{get as chain_in, with_value}
 use Rattle.mv_chain.specs.declared.version.Version.{Version}
 use Rattle.mv_chain.specs.declared.pool.Pool.{Pool}
 use Rattle.mv_chain.specs.declared.chain.Chain.{Chain}
-use Rattle.mv_chain.specs.Accesses.{Written, Answered, seen, is_late, has_undecided, AreWhole, IsUnsettled}
+use Rattle.mv_chain.specs.Accesses.{Written, Answered, seen, is_late, AreWhole, IsUnsettled}
 use Rattle.mv_chain.specs.Chain.{shows, is_marked, StandsFor as ChainStandsFor}
 use Rattle.mv_chain.specs.Pool.{versions_of, IsKept, LeavesOthers}
 use Rattle.mv_rules.specs.declared.records.Records.{Records}
@@ -14,14 +14,14 @@ use Rattle.mv_rules.specs.declared.own.Notes.{Notes}
 use Rattle.mv_rules.specs.declared.answers.Got.{Got}
 use Rattle.mv_rules.specs.declared.answers.Put.TheVariants.{Done}
 use Rattle.mv_rules.specs.declared.verdict.Verdict.TheVariants.{Again, First}
-use Rattle.mv_rules.specs.Accesses.{Accesses, reads_after, undecided_keys, put_of, wrote}
+use Rattle.mv_rules.specs.Accesses.{Accesses, reads_after, wrote}
 use Rattle.mv_rules.specs.Held.{shown_in, Changes}
 use Rattle.mv_rules.specs.Own.{own_in}
 use Rattle.mv_rules.specs.Records.{StandsFor, index_of, chain_at, own_of}
 use Rattle.mv_rules.specs.Steps.{IsRead, IsWritten}
 use Rattle.mv_rules.specs.Verdict.{verdict_of}
 use Rattle.mv_rules.proofs.Frames.{written_there, written_back}
-use Rattle.mv_rules.proofs.Written.{put_again, put_first}
+use Rattle.mv_rules.proofs.Written.{put_again, put_first, IsPut}
 use Rattle.mv_rules.proofs.PutBack.{put_back_again, put_back_first}
 use Rattle.mv_rules.proofs.Indices.{stands_at, stands_get, lists_same}
 
@@ -73,13 +73,13 @@ module _ (h : Accesses) (r : Records) (key : List ℕ) (i : ℕ) (a b : Chain) (
 
   -- one more write
   pub again_at : (ts n : ℕ) (value : Option (List ℕ)) → IsUnsettled ts h.low h.writes → n ≡ length (own_of ts r) → Again ≡ verdict_of ((shows ts (versions_of r.pool a)).from == ts) n (is_marked ts (versions_of r.pool a)) → IsWritten ts value (versions_of r.pool a) (versions_of p2 b) → ((t : ℕ) → own_in t notes ≡ own_in t r.notes)
-      → (Done ≡ put_of (has_undecided key ts h.writes) (undecided_keys ts h.writes) (is_late key ts h.reads)) × StandsFor (record h { writes = wrote ts key value ∷ h.writes }) (with_chain r i p2 b notes)
+      → IsPut Done ts key value h (with_chain r i p2 b notes)
   again_at ts n value u many e written own =
       put_again h r key i ts n (versions_of r.pool a) u s here (sym before_at) many value (with_chain r i p2 b notes) e (λ q. refl) changes_at still_there (subst (IsWritten ts value (versions_of r.pool a)) (sym after_at) written) own
 
   pub first_at : (ts n : ℕ) (value : Option (List ℕ)) → IsUnsettled ts h.low h.writes → n ≡ length (own_of ts r) → First ≡ verdict_of ((shows ts (versions_of r.pool a)).from == ts) n (is_marked ts (versions_of r.pool a)) → IsWritten ts value (versions_of r.pool a) (versions_of p2 b)
       → ((t : ℕ) → own_in t notes ≡ (if t == ts then own_in ts r.notes ++ (record { key = key; index = i }) ∷ [] else own_in t r.notes))
-      → (Done ≡ put_of (has_undecided key ts h.writes) (undecided_keys ts h.writes) (is_late key ts h.reads)) × StandsFor (record h { writes = wrote ts key value ∷ h.writes }) (with_chain r i p2 b notes)
+      → IsPut Done ts key value h (with_chain r i p2 b notes)
   first_at ts n value u many e written own =
       put_first h r key i ts n (versions_of r.pool a) u s here (sym before_at) many value (with_chain r i p2 b notes) e (λ q. refl) changes_at still_there (subst (IsWritten ts value (versions_of r.pool a)) (sym after_at) written) own
 

@@ -58,46 +58,53 @@ found_inserted q k v (e ∷ es) = at (slice_cmp nat_cmp k.items e.0.items) refl 
         apart false false a b d = refl
 
 -- a key that is added has a fresh chain
-pub stands_added : (h : Accesses) (r r2 : Records) (key : List ℕ) (new : ℕ) → index_of key r ≡ None → chain_in r.chains new ≡ None → Changes new r.pool r.chains r2.pool r2.chains → IsSome (chain_in r2.chains new) → chain_at new r2 ≡ fresh → ((q : List ℕ) → index_of q r2 ≡ (if bytes_eq q key then Some new else index_of q r)) → ChainsStandFor h r → ChainsStandFor h r2
-stands_added h r r2 key new none vacant change stands at_new found s =
+pub record IsAdded (r r2 : Records) (key : List ℕ) (new : ℕ) : Type 0 where
+  pub vacant : chain_in r.chains new ≡ None
+  pub change : Changes new r.pool r.chains r2.pool r2.chains
+  pub stands : IsSome (chain_in r2.chains new)
+  pub at_new : chain_at new r2 ≡ fresh
+  pub found : (q : List ℕ) → index_of q r2 ≡ (if bytes_eq q key then Some new else index_of q r)
+
+pub stands_added : (h : Accesses) (r r2 : Records) (key : List ℕ) (new : ℕ) → index_of key r ≡ None → IsAdded r r2 key new → ChainsStandFor h r → ChainsStandFor h r2
+stands_added h r r2 key new none added s =
     record {
       chains = λ q. chain q (bytes_eq q key) refl;
       within = λ q i e. inside q i e (bytes_eq q key) refl;
       apart = λ a b i e f. alone a b i e f (bytes_eq a key) refl (bytes_eq b key) refl;
-      held = held_changed new r.pool r2.pool r.chains r2.chains change s.held;
+      held = held_changed new r.pool r2.pool r.chains r2.chains added.change s.held;
     }
   where
     other : (q : List ℕ) (i : ℕ) → index_of q r ≡ Some i → i ≢ new
-    other q i e same = absurd (cc (s.within q i e, ap (λ k. is_some (chain_in r.chains k)) same, ap is_some vacant))
+    other q i e same = absurd (cc (s.within q i e, ap (λ k. is_some (chain_in r.chains k)) same, ap is_some added.vacant))
 
     old_of : (q : List ℕ) (o : Option ℕ) → index_of q r ≡ o → chain_of_index o r2 ≡ chain_of_index o r
     old_of q None e = refl
-    old_of q (Some i) e = shown_elsewhere new i r.pool r2.pool r.chains r2.chains change s.held (other q i e)
+    old_of q (Some i) e = shown_elsewhere new i r.pool r2.pool r.chains r2.chains added.change s.held (other q i e)
 
     chain : (q : List ℕ) (x : Bool) → bytes_eq q key ≡ x → ChainStandsFor q h.low h.writes h.reads (chain_of_index (index_of q r2) r2)
     chain q true e =
-        let here : index_of q r2 ≡ Some new = found q ∙ rw e refl in
+        let here : index_of q r2 ≡ Some new = added.found q ∙ rw e refl in
         let was : index_of q r ≡ None = ap (λ k. index_of k r) (same_key q key e) ∙ none in
-        rw (here, at_new) (rw was at (s.chains q))
+        rw (here, added.at_new) (rw was at (s.chains q))
     chain q false e =
-        let here : index_of q r2 ≡ index_of q r = found q ∙ rw e refl in
+        let here : index_of q r2 ≡ index_of q r = added.found q ∙ rw e refl in
         rw (here, old_of q (index_of q r) refl) (s.chains q)
 
     inside : (q : List ℕ) (i : ℕ) → index_of q r2 ≡ Some i → (x : Bool) → bytes_eq q key ≡ x → IsSome (chain_in r2.chains i)
-    inside q i e true f = let here : Some new ≡ Some i = sym (found q ∙ rw f refl) ∙ e in let n : new ≡ i = cc in subst (λ (k : ℕ). IsSome (chain_in r2.chains k)) n stands
-    inside q i e false f = let was : index_of q r ≡ Some i = sym (found q ∙ rw f refl) ∙ e in ap is_some (change.others i (other q i was)) ∙ s.within q i was
+    inside q i e true f = let here : Some new ≡ Some i = sym (added.found q ∙ rw f refl) ∙ e in let n : new ≡ i = cc in subst (λ (k : ℕ). IsSome (chain_in r2.chains k)) n added.stands
+    inside q i e false f = let was : index_of q r ≡ Some i = sym (added.found q ∙ rw f refl) ∙ e in ap is_some (added.change.others i (other q i was)) ∙ s.within q i was
 
     alone : (a b : List ℕ) (i : ℕ) → index_of a r2 ≡ Some i → index_of b r2 ≡ Some i → (x : Bool) → bytes_eq a key ≡ x → (y : Bool) → bytes_eq b key ≡ y → a ≡ b
     alone a b i e f true p true q = same_key a key p ∙ sym (same_key b key q)
-    alone a b i e f false p false q = s.apart a b i (sym (found a ∙ rw p refl) ∙ e) (sym (found b ∙ rw q refl) ∙ f)
+    alone a b i e f false p false q = s.apart a b i (sym (added.found a ∙ rw p refl) ∙ e) (sym (added.found b ∙ rw q refl) ∙ f)
     alone a b i e f true p false q =
-        let here : Some new ≡ Some i = sym (found a ∙ rw p refl) ∙ e in
+        let here : Some new ≡ Some i = sym (added.found a ∙ rw p refl) ∙ e in
         let n : new ≡ i = cc in
-        absurd (other b i (sym (found b ∙ rw q refl) ∙ f) (sym n))
+        absurd (other b i (sym (added.found b ∙ rw q refl) ∙ f) (sym n))
     alone a b i e f false p true q =
-        let here : Some new ≡ Some i = sym (found b ∙ rw q refl) ∙ f in
+        let here : Some new ≡ Some i = sym (added.found b ∙ rw q refl) ∙ f in
         let n : new ≡ i = cc in
-        absurd (other a i (sym (found a ∙ rw p refl) ∙ e) (sym n))
+        absurd (other a i (sym (added.found a ∙ rw p refl) ∙ e) (sym n))
 
 -- one chain changes, and the history changes for its key alone
 pub stands_at : (h h2 : Accesses) (r r2 : Records) (key : List ℕ) (i : ℕ) → index_of key r ≡ Some i → ((q : List ℕ) → index_of q r2 ≡ index_of q r) → Changes i r.pool r.chains r2.pool r2.chains → IsSome (chain_in r2.chains i) → ChainStandsFor key h2.low h2.writes h2.reads (chain_at i r2) → ((q : List ℕ) (xs : List Version) → bytes_eq q key ≡ false → ChainStandsFor q h.low h.writes h.reads xs → ChainStandsFor q h2.low h2.writes h2.reads xs) → ChainsStandFor h r → ChainsStandFor h2 r2
@@ -160,8 +167,8 @@ unlisted r i (o ∷ own) none named =
     differ true e = let same : o.index ≡ i = grind (arith, nat_tests, e) in absurd (none o.key (named.0 ∙ ap Some same))
 
 -- the lists, where a key is added
-pub lists_added : (h : Accesses) (r r2 : Records) (key : List ℕ) (new : ℕ) → index_of key r ≡ None → chain_in r.chains new ≡ None → ((q : List ℕ) → index_of q r2 ≡ (if bytes_eq q key then Some new else index_of q r)) → ((t : ℕ) → own_of t r2 ≡ own_of t r) → ChainsStandFor h r → ListsStandFor h r → ListsStandFor h r2
-lists_added h r r2 key new none vacant found same s l =
+pub lists_added : (h : Accesses) (r r2 : Records) (key : List ℕ) (new : ℕ) → index_of key r ≡ None → IsAdded r r2 key new → ((t : ℕ) → own_of t r2 ≡ own_of t r) → ChainsStandFor h r → ListsStandFor h r → ListsStandFor h r2
+lists_added h r r2 key new none added same s l =
     record {
       listed = λ t q i e. listed t q i e (bytes_eq q key) refl;
       unindexed = λ t q e. unindexed t q e (bytes_eq q key) refl;
@@ -170,23 +177,23 @@ lists_added h r r2 key new none vacant found same s l =
     }
   where
     beyond : (t : ℕ) → is_listed new (own_of t r) ≡ false
-    beyond t = unlisted r new (own_of t r) (λ q e. absurd (cc (s.within q new e, ap is_some vacant))) (l.named t)
+    beyond t = unlisted r new (own_of t r) (λ q e. absurd (cc (s.within q new e, ap is_some added.vacant))) (l.named t)
 
     listed : (t : ℕ) (q : List ℕ) (i : ℕ) → index_of q r2 ≡ Some i → (x : Bool) → bytes_eq q key ≡ x → is_listed i (own_of t r2) ≡ has_undecided q t h.writes
     listed t q i e true f =
-        let here : Some new ≡ Some i = sym (found q ∙ rw f refl) ∙ e in
+        let here : Some new ≡ Some i = sym (added.found q ∙ rw f refl) ∙ e in
         let n : new ≡ i = cc in
         let none_undecided : has_undecided q t h.writes ≡ false = l.unindexed t q (ap (λ k. index_of k r) (same_key q key f) ∙ none) in
         rw (same t, ← n) (beyond t ∙ sym none_undecided)
-    listed t q i e false f = ap (is_listed i) (same t) ∙ l.listed t q i (sym (found q ∙ rw f refl) ∙ e)
+    listed t q i e false f = ap (is_listed i) (same t) ∙ l.listed t q i (sym (added.found q ∙ rw f refl) ∙ e)
 
     unindexed : (t : ℕ) (q : List ℕ) → index_of q r2 ≡ None → (x : Bool) → bytes_eq q key ≡ x → has_undecided q t h.writes ≡ false
-    unindexed t q e true f = let here : Some new ≡ None = sym (found q ∙ rw f refl) ∙ e in absurd (cc)
-    unindexed t q e false f = l.unindexed t q (sym (found q ∙ rw f refl) ∙ e)
+    unindexed t q e true f = let here : Some new ≡ None = sym (added.found q ∙ rw f refl) ∙ e in absurd (cc)
+    unindexed t q e false f = l.unindexed t q (sym (added.found q ∙ rw f refl) ∙ e)
 
     named : (own : List Own) → Each (λ o. index_of o.key r ≡ Some o.index) own → Each (λ o. index_of o.key r2 ≡ Some o.index) own
     named [] n = tt
-    named (o ∷ own) n = (found o.key ∙ rw (apart (bytes_eq o.key key) refl) n.0, named own n.1)
+    named (o ∷ own) n = (added.found o.key ∙ rw (apart (bytes_eq o.key key) refl) n.0, named own n.1)
       where
         apart : (x : Bool) → bytes_eq o.key key ≡ x → bytes_eq o.key key ≡ false
         apart false f = f

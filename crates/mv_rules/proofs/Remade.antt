@@ -1,6 +1,6 @@
 -- What stands for the branches that lasted stands for the state's branches.
 use Rattle.std.proofs.Common.{◌≡◌, ℕ, ◌+◌, ◌<◌, ◌≤◌, Bool, true, false, not, ◌==◌, List, [], ◌∷◌, ◌++◌, map, length, Option, Some, None, refl, ap, sym, ◌∙◌, subst, arith, ◌&&◌, ◌||◌}
-use Rattle.std.specs.Prelude.{if◌then◌else◌, fold, filter, nat_le, option_map, is_some}
+use Rattle.std.specs.Prelude.{if◌then◌else◌, fold, filter, nat_le, option_map, is_some, max}
 use Rattle.std.specs.Option.{option_or}
 use Rattle.std.specs.List.{AllByRecursion as Each}
 use Rattle.std.proofs.lemmas.Bool.Decides.{nat_tests}
@@ -22,7 +22,7 @@ use Rattle.xa_model.proofs.LastOfKeys.{writes_of_law}
 use Rattle.xa_model.proofs.LastWrites.{last_all, last_pairwise}
 use Rattle.xa_model.proofs.Remains.{left, left_timed, held_of, held_timed, time, time_of}
 use Rattle.mv_rules.specs.declared.records.Records.{Records}
-use Rattle.mv_rules.specs.Accesses.{undecided_keys}
+use Rattle.mv_rules.specs.Accesses.{undecided_keys, Accesses}
 use Rattle.mv_rules.specs.Records.{StandsFor}
 use Rattle.mv_rules.specs.Ties.{low_of, read_as, fate_of, writes_by, writes_in}
 use Rattle.mv_rules.specs.Restoring.{with_branch, with_committed, with_prepared, restored_by, restored, LowRises, StandsRestored}
@@ -58,6 +58,9 @@ low_rises h r low s le = record {
   };
   lists = record { listed = s.lists.listed; unindexed = s.lists.unindexed; named = s.lists.named; count = s.lists.count };
 }
+
+pub low_rises_to : (h : Accesses) (r : Records) (low : ℕ) → StandsFor h r → StandsFor (record h { low = max h.low low }) r
+low_rises_to h r low s = low_rises h r (max h.low low) s (omega arith)
 
 -- no branch is at work
 abbrev AreIdle : List Branch → Type 0

@@ -22,6 +22,7 @@ use Rattle.mv_rules.proofs.Frames.{shown_elsewhere, shown_grown}
 use Rattle.mv_rules.proofs.Changed.{with_chain, changes_at, before_at, after_at}
 use Rattle.mv_chain.proofs.Pruned.{base_pruned}
 use Rattle.mv_rules.proofs.Tests.{same_key, keys_differ}
+use Rattle.mv_rules.proofs.Indices.{IsAdded}
 
 abbrev kept_at : Option ℕ → Records → Option (List Version)
 kept_at o r = option_map (λ i. chain_at i r) o
@@ -83,11 +84,24 @@ kept_changed h r r2 key i f here same change there s q = at (bytes_eq q key) ref
         let before : kept_of q r ≡ Some (chain_at i r) = ap (λ o. kept_at o r) was in
         after ∙ (ap Some there ∙ sym (ap (option_map f) before))
 
+-- one chain is as it was
+pub same_kept : (r r2 : Records) (key : List ℕ) → ((q : List ℕ) → kept_of q r2 ≡ (if bytes_eq q key then option_map (λ vs. vs) (kept_of q r) else kept_of q r)) → KeepsAll r r2
+same_kept r r2 key is q = is q ∙ at (bytes_eq q key) (kept_of q r)
+  where
+    at : (x : Bool) (o : Option (List Version)) → (if x then option_map (λ vs. vs) o else o) ≡ o
+    at true None = refl
+    at true (Some vs) = refl
+    at false o = refl
+
 module _ (h : Accesses) (r : Records) (key : List ℕ) (i : ℕ) (a b : Chain) (p2 : Pool) (notes : BTreeMap ℕ Notes) (s : StandsFor h r) (here : index_of key r ≡ Some i) (there : chain_in r.chains i ≡ Some a) (leaves : LeavesOthers r.pool a p2 b) (keeps : IsKept r.pool a → IsKept p2 b) where
   pub kept_with : (f : List Version → List Version) → (IsKept r.pool a → versions_of p2 b ≡ f (versions_of r.pool a)) → (q : List ℕ) → kept_of q (with_chain r i p2 b notes) ≡ (if bytes_eq q key then option_map f (kept_of q r) else kept_of q r)
   kept_with f is =
       kept_changed h r (with_chain r i p2 b notes) key i f here (λ q. refl) (changes_at h r key i a b p2 notes s here there leaves keeps)
       (after_at h r key i a b p2 notes s here there leaves keeps ∙ (is (s.chains.held.kept i a there) ∙ ap f (sym (before_at h r key i a b p2 notes s here there leaves keeps)))) s.chains
+
+  -- it is as it was
+  pub same_with : (IsKept r.pool a → versions_of p2 b ≡ versions_of r.pool a) → KeepsAll r (with_chain r i p2 b notes)
+  same_with is = same_kept r (with_chain r i p2 b notes) key (kept_with (λ vs. vs) is)
 
 -- to prune twice is to prune once
 pub pruned_twice : (low : ℕ) (vs : List Version) → pruned low (pruned low vs) ≡ pruned low vs
@@ -187,33 +201,24 @@ keeps_alike r r2 indices same leaves held q = ap (λ o. kept_at o r2) (indices q
     at (Some i) = ap Some (shown_grown r.pool r2.pool r.chains r2.chains i same leaves held)
 
 -- a key is added
-pub kept_added : (h : Accesses) (r r2 : Records) (key : List ℕ) (new : ℕ) → index_of key r ≡ None → chain_in r.chains new ≡ None → Changes new r.pool r.chains r2.pool r2.chains → chain_at new r2 ≡ fresh → ((q : List ℕ) → index_of q r2 ≡ (if bytes_eq q key then Some new else index_of q r)) → ChainsStandFor h r
+pub kept_added : (h : Accesses) (r r2 : Records) (key : List ℕ) (new : ℕ) → index_of key r ≡ None → IsAdded r r2 key new → ChainsStandFor h r
     → (q : List ℕ) → kept_of q r2 ≡ (if bytes_eq q key then Some fresh else kept_of q r)
-kept_added h r r2 key new none vacant change at_new found s q = at (bytes_eq q key) refl
+kept_added h r r2 key new none added s q = at (bytes_eq q key) refl
   where
     other : (j : ℕ) → index_of q r ≡ Some j → j ≢ new
-    other j e same = absurd (cc (s.within q j e, ap (λ k. is_some (chain_in r.chains k)) same, ap is_some vacant))
+    other j e same = absurd (cc (s.within q j e, ap (λ k. is_some (chain_in r.chains k)) same, ap is_some added.vacant))
 
     stays : (o : Option ℕ) → index_of q r ≡ o → kept_at o r2 ≡ kept_at o r
     stays None e = refl
-    stays (Some j) e = ap Some (shown_elsewhere new j r.pool r2.pool r.chains r2.chains change s.held (other j e))
+    stays (Some j) e = ap Some (shown_elsewhere new j r.pool r2.pool r.chains r2.chains added.change s.held (other j e))
 
     at : (x : Bool) → bytes_eq q key ≡ x → kept_of q r2 ≡ (if x then Some fresh else kept_of q r)
     at true e =
-        let here : index_of q r2 ≡ Some new = found q ∙ rw e refl in
-        ap (λ o. kept_at o r2) here ∙ ap Some at_new
+        let here : index_of q r2 ≡ Some new = added.found q ∙ rw e refl in
+        ap (λ o. kept_at o r2) here ∙ ap Some added.at_new
     at false e =
-        let here : index_of q r2 ≡ index_of q r = found q ∙ rw e refl in
+        let here : index_of q r2 ≡ index_of q r = added.found q ∙ rw e refl in
         ap (λ o. kept_at o r2) here ∙ stays (index_of q r) refl
-
--- one chain is as it was
-pub same_kept : (r r2 : Records) (key : List ℕ) → ((q : List ℕ) → kept_of q r2 ≡ (if bytes_eq q key then option_map (λ vs. vs) (kept_of q r) else kept_of q r)) → KeepsAll r r2
-same_kept r r2 key is q = is q ∙ at (bytes_eq q key) (kept_of q r)
-  where
-    at : (x : Bool) (o : Option (List Version)) → (if x then option_map (λ vs. vs) o else o) ≡ o
-    at true None = refl
-    at true (Some vs) = refl
-    at false o = refl
 
 -- a key that was made and is forgotten again
 pub unmade : (r made used left : Records) (key : List ℕ) → kept_of key r ≡ None → ((q : List ℕ) → kept_of q made ≡ (if bytes_eq q key then Some fresh else kept_of q r)) → KeepsAll made used → ((q : List ℕ) → kept_of q left ≡ (if bytes_eq q key then forgotten 0 (kept_of q used) else kept_of q used)) → KeepsAll r left

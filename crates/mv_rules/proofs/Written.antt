@@ -157,15 +157,19 @@ refused_same Memory ts key value h n = refl
 pub looked_at : (v : Verdict) (l : Look) (ts n : ℕ) (vs : List Version) → l ≡ looked ts vs → v ≡ verdict_of (l.from == l.at) n l.late → v ≡ verdict_of ((shows ts vs).from == ts) n (is_marked ts vs)
 looked_at v l ts n vs is e = subst (λ (x : Look). v ≡ verdict_of (x.from == x.at) n x.late) is e
 
+-- what a put answers, and what the records stand for then
+abbrev pub IsPut : Put → ℕ → List ℕ → Option (List ℕ) → Accesses → Records → Type 0
+IsPut a ts key value h r = (a ≡ put_of (has_undecided key ts h.writes) (undecided_keys ts h.writes) (is_late key ts h.reads)) × StandsFor (after_put a ts key value h) r
+
 -- the arms of a put
 module _ (h : Accesses) (r : Records) (key : List ℕ) (i ts n : ℕ) (vs : List Version) (u : IsUnsettled ts h.low h.writes) (s : StandsFor h r) (here : index_of key r ≡ Some i) (at : vs ≡ chain_at i r) (many : n ≡ length (own_of ts r)) where
-  pub put_refused : (a : Put) (value : Option (List ℕ)) → Refused a ≡ verdict_of ((shows ts vs).from == ts) n (is_marked ts vs) → (a ≡ put_of (has_undecided key ts h.writes) (undecided_keys ts h.writes) (is_late key ts h.reads)) × StandsFor (after_put a ts key value h) r
+  pub put_refused : (a : Put) (value : Option (List ℕ)) → Refused a ≡ verdict_of ((shows ts vs).from == ts) n (is_marked ts vs) → IsPut a ts key value h r
   put_refused a value e =
       let v = judged h r key i ts n vs (Refused a) u s here at many e in
       let keeps = refused_keeps a (has_undecided key ts h.writes) (undecided_keys ts h.writes) (is_late key ts h.reads) ts key value h v in
       (refused_is a (has_undecided key ts h.writes) (undecided_keys ts h.writes) (is_late key ts h.reads) v, subst (λ (x : Accesses). StandsFor x r) keeps s)
 
-  pub put_again : (value : Option (List ℕ)) (r2 : Records) → Again ≡ verdict_of ((shows ts vs).from == ts) n (is_marked ts vs) → ((q : List ℕ) → index_of q r2 ≡ index_of q r) → Changes i r.pool r.chains r2.pool r2.chains → IsSome (chain_in r2.chains i) → IsWritten ts value vs (chain_at i r2) → ((t : ℕ) → own_of t r2 ≡ own_of t r) → (Done ≡ put_of (has_undecided key ts h.writes) (undecided_keys ts h.writes) (is_late key ts h.reads)) × StandsFor (record h { writes = wrote ts key value ∷ h.writes }) r2
+  pub put_again : (value : Option (List ℕ)) (r2 : Records) → Again ≡ verdict_of ((shows ts vs).from == ts) n (is_marked ts vs) → ((q : List ℕ) → index_of q r2 ≡ index_of q r) → Changes i r.pool r.chains r2.pool r2.chains → IsSome (chain_in r2.chains i) → IsWritten ts value vs (chain_at i r2) → ((t : ℕ) → own_of t r2 ≡ own_of t r) → IsPut Done ts key value h r2
   put_again value r2 e indices changed there written lists =
       let v = judged h r key i ts n vs Again u s here at many e in
       let own = again_is (has_undecided key ts h.writes) (undecided_keys ts h.writes) (is_late key ts h.reads) v in
@@ -175,7 +179,7 @@ module _ (h : Accesses) (r : Records) (key : List ℕ) (i ts n : ℕ) (vs : List
       kept t true = refl
       kept t false = refl
 
-  pub put_first : (value : Option (List ℕ)) (r2 : Records) → First ≡ verdict_of ((shows ts vs).from == ts) n (is_marked ts vs) → ((q : List ℕ) → index_of q r2 ≡ index_of q r) → Changes i r.pool r.chains r2.pool r2.chains → IsSome (chain_in r2.chains i) → IsWritten ts value vs (chain_at i r2) → ((t : ℕ) → own_of t r2 ≡ (if t == ts then own_of ts r ++ (record { key = key; index = i }) ∷ [] else own_of t r)) → (Done ≡ put_of (has_undecided key ts h.writes) (undecided_keys ts h.writes) (is_late key ts h.reads)) × StandsFor (record h { writes = wrote ts key value ∷ h.writes }) r2
+  pub put_first : (value : Option (List ℕ)) (r2 : Records) → First ≡ verdict_of ((shows ts vs).from == ts) n (is_marked ts vs) → ((q : List ℕ) → index_of q r2 ≡ index_of q r) → Changes i r.pool r.chains r2.pool r2.chains → IsSome (chain_in r2.chains i) → IsWritten ts value vs (chain_at i r2) → ((t : ℕ) → own_of t r2 ≡ (if t == ts then own_of ts r ++ (record { key = key; index = i }) ∷ [] else own_of t r)) → IsPut Done ts key value h r2
   put_first value r2 e indices changed there written lists =
       let v = judged h r key i ts n vs First u s here at many e in
       let own = first_is (has_undecided key ts h.writes) (undecided_keys ts h.writes) (is_late key ts h.reads) v in

@@ -7,7 +7,7 @@ use Rattle.mv_rules.specs.Tidy.{kept_of}
 use Rattle.mv_rules.proofs.Exact.{reads_there}
 use Rattle.mv_rules.proofs.Changed.{read_at}
 use Rattle.mv_rules.proofs.Changed.{with_chain}
-use Rattle.mv_rules.proofs.Tidied.{kept_with, same_kept}
+use Rattle.mv_rules.proofs.Tidied.{kept_with, same_with}
 use Rattle.mv_rules.proofs.records.Records.get_at.Goals as goal
 use Rattle.mv_chain.specs.Chain.{marked_at}
 
@@ -20,8 +20,7 @@ returns-clause-stands c =
 pub returns-clause-same : goal.returns-clause-same
 returns-clause-same c =
     λ none h s here.
-    same_kept c.args.self.now (with_chain c.args.self.now c.args.i c.read.new.pool c.read.new.chain c.read.new.notes) c.args.key.now
-    (kept_with h c.args.self.now c.args.key.now c.args.i c.index_mut-chain.result.now c.read.new.chain c.read.new.pool c.read.new.notes s here c.index_mut-chain.ensures.value c.read.ensures.others c.read.ensures.kept (λ vs. vs) (λ k. c.read.ensures.same none))
+    same_with h c.args.self.now c.args.key.now c.args.i c.index_mut-chain.result.now c.read.new.chain c.read.new.pool c.read.new.notes s here c.index_mut-chain.ensures.value c.read.ensures.others c.read.ensures.kept (λ k. c.read.ensures.same none)
 
 pub returns-clause-reads : goal.returns-clause-reads
 returns-clause-reads c =

@@ -11,7 +11,7 @@ use Rattle.mv_rules.specs.Tidy.{kept_of, names, due, not_due, tidied_if}
 use Rattle.mv_rules.proofs.Tidied.{tidied_three, none_left}
 use Rattle.mv_rules.proofs.Frames.{nothing_left}
 use Rattle.mv_rules.proofs.Indices.{stands_alike}
-use Rattle.mv_rules.proofs.Remade.{low_rises}
+use Rattle.mv_rules.proofs.Remade.{low_rises_to}
 use Rattle.mv_rules.proofs.Within.{keys_alike, keys_stay, notes_alike}
 use Rattle.mv_rules.proofs.records.Records.low_water.Goals as goal
 
@@ -39,18 +39,16 @@ loop-noted-preserved c =
 pub returns-clause-stands : goal.returns-clause-stands
 returns-clause-stands c =
     λ h s whole.
-    let before : h.low ≤ max h.low c.args.low = omega arith in
     let low : c.args.low ≤ max h.low c.args.low = omega arith in
     let risen : Accesses = record h { low = max h.low c.args.low } in
-    stands_alike risen c.loop-noted.self _ (λ q. refl) (λ k. refl) (nothing_left c.loop-noted.self.pool) c.next_due.ensures.same (c.loop-noted.invariant.stands risen (low_rises h c.args.self.now (max h.low c.args.low) s before) whole low)
+    stands_alike risen c.loop-noted.self _ (λ q. refl) (λ k. refl) (nothing_left c.loop-noted.self.pool) c.next_due.ensures.same (c.loop-noted.invariant.stands risen (low_rises_to h c.args.self.now c.args.low s) whole low)
 
 pub returns-clause-tidies : goal.returns-clause-tidies
 returns-clause-tidies c =
     λ h s whole.
-    let before : h.low ≤ max h.low c.args.low = omega arith in
     let low : c.args.low ≤ max h.low c.args.low = omega arith in
     let risen : Accesses = record h { low = max h.low c.args.low } in
-    let stood = low_rises h c.args.self.now (max h.low c.args.low) s before in
+    let stood = low_rises_to h c.args.self.now c.args.low s in
     record {
       kept = λ q. rw c.in_default.ensures.none at (c.loop-noted.invariant.kept risen stood whole low q);
       notes = c.in_default.ensures.left ∙ c.loop-noted.invariant.notes;
