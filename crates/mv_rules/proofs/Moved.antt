@@ -1,5 +1,5 @@
 -- Histories that say the same, in whatever order their writes stand.
-use Rattle.std.proofs.Common.{◌≡◌, ℕ, Bool, true, false, ◌&&◌, ◌||◌, ◌==◌, List, [], ◌∷◌, ◌++◌, Option, Some, None, refl, ap, sym, ◌∙◌, arith}
+use Rattle.std.proofs.Common.{◌≡◌, ◌≤◌, ℕ, Bool, true, false, ◌&&◌, ◌||◌, ◌==◌, List, [], ◌∷◌, ◌++◌, Option, Some, None, refl, ap, sym, ◌∙◌, arith}
 use Rattle.std.specs.Prelude.{bytes_eq, nat_le}
 use Rattle.std.specs.List.{AllByRecursion as Each}
 use Rattle.std.proofs.lemmas.Bool.Decides.{nat_tests}
@@ -97,12 +97,17 @@ same_seen ws vs h gone_ key t =
     let same : (w : Written) → test w ≡ counts_at test w = λ (w : Written). counted (λ (k : List ℕ). bytes_eq key k) gone_ t w w.fate refl in
     seen_alike test (counts_at test) ws same ∙ h.seen test ∙ sym (seen_alike test (counts_at test) vs same)
 
-pub stands_same : (low : ℕ) (ws vs : List Written) (reads : List Answered) (r : Records) → IsSameWrites ws vs → StandsFor (record { low = low; writes = ws; reads = reads }) r → StandsFor (record { low = low; writes = vs; reads = reads }) r
-stands_same low ws vs reads r same st = record {
+pub stands_for_others : (low : ℕ) (ws vs : List Written) (reads : List Answered) (r : Records)
+    → ((gone_ : ℕ → Bool) (key : List ℕ) (t : ℕ) → low ≤ t → seen_without gone_ key t ws ≡ seen_without gone_ key t vs)
+    → ((gone_ : ℕ → Bool) (key : List ℕ) (t : ℕ) → gone_ t ≡ false → has_undecided key t vs ≡ true → seen_without gone_ key t ws ≡ seen_without gone_ key t vs)
+    → ((key : List ℕ) (t : ℕ) → has_undecided key t ws ≡ has_undecided key t vs)
+    → ((t : ℕ) → undecided_keys t ws ≡ undecided_keys t vs)
+    → StandsFor (record { low = low; writes = ws; reads = reads }) r → StandsFor (record { low = low; writes = vs; reads = reads }) r
+stands_for_others low ws vs reads r seen own held count st = record {
   chains = record {
     chains = λ key. record {
-      seen = λ gone_ t le. (st.chains.chains key).seen gone_ t le ∙ same_seen ws vs same gone_ key t;
-      own = λ gone_ t g o. (st.chains.chains key).own gone_ t g (same.held key t ∙ o) ∙ same_seen ws vs same gone_ key t;
+      seen = λ gone_ t le. (st.chains.chains key).seen gone_ t le ∙ seen gone_ key t le;
+      own = λ gone_ t g o. (st.chains.chains key).own gone_ t g (held key t ∙ o) ∙ own gone_ key t g o;
       late = (st.chains.chains key).late;
       based = (st.chains.chains key).based;
     };
@@ -111,9 +116,13 @@ stands_same low ws vs reads r same st = record {
     held = st.chains.held;
   };
   lists = record {
-    listed = λ t key i at. st.lists.listed t key i at ∙ same.held key t;
-    unindexed = λ t key none. sym (same.held key t) ∙ st.lists.unindexed t key none;
+    listed = λ t key i at. st.lists.listed t key i at ∙ held key t;
+    unindexed = λ t key none. sym (held key t) ∙ st.lists.unindexed t key none;
     named = st.lists.named;
-    count = λ t. st.lists.count t ∙ same.count t;
+    count = λ t. st.lists.count t ∙ count t;
   };
 }
+
+pub stands_same : (low : ℕ) (ws vs : List Written) (reads : List Answered) (r : Records) → IsSameWrites ws vs → StandsFor (record { low = low; writes = ws; reads = reads }) r → StandsFor (record { low = low; writes = vs; reads = reads }) r
+stands_same low ws vs reads r same st =
+    stands_for_others low ws vs reads r (λ gone_ key t le. same_seen ws vs same gone_ key t) (λ gone_ key t g o. same_seen ws vs same gone_ key t) same.held same.count st

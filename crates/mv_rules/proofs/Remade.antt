@@ -33,6 +33,7 @@ use Rattle.mv_rules.proofs.Counted.{held_left, held_decided, group_decided, coun
 use Rattle.mv_rules.proofs.Tests.{and_no, or_left}
 use Rattle.xa_model.proofs.ShortWrites.{writes_count}
 use Rattle.xa_model.proofs.WorkFloors.{idle_floor}
+use Rattle.mv_rules.proofs.Moved.{stands_for_others}
 
 -- the low water may rise
 
@@ -305,25 +306,9 @@ module _ (limit : ℕ) (bs : List Branch) (h : Descends (limit + 1) bs) (idle : 
   remade_seen gone key u le = same_seen gone key u (limit + 1) bs (committed_writes bs) h (omega (arith, le)) idle (committed_seen gone key u (limit + 1) bs h (omega (arith, le)))
 
   pub remade_stands : (r : Records) → StandsFor (record { low = limit; writes = remade; reads = [] }) r → StandsFor (record { low = limit; writes = writes_in bs; reads = [] }) r
-  remade_stands r s = record {
-    chains = record {
-      chains = λ key. record {
-        seen = λ gone t le. (s.chains.chains key).seen gone t le ∙ remade_seen gone key t le;
-        own = λ gone t g o. (s.chains.chains key).own gone t g (remade_held key t ∙ o) ∙ own_seen gone key t (limit + 1) bs (committed_writes bs) h idle g o;
-        late = (s.chains.chains key).late;
-        based = (s.chains.chains key).based;
-      };
-      within = s.chains.within;
-      apart = s.chains.apart;
-      held = s.chains.held;
-    };
-    lists = record {
-      listed = λ t key i at. s.lists.listed t key i at ∙ remade_held key t;
-      unindexed = λ t key none. sym (remade_held key t) ∙ s.lists.unindexed t key none;
-      named = s.lists.named;
-      count = λ t. s.lists.count t ∙ remade_count t;
-    };
-  }
+  remade_stands r s =
+      stands_for_others limit remade (writes_in bs) [] r remade_seen
+      (λ gone key t g o. own_seen gone key t (limit + 1) bs (committed_writes bs) h idle g o) remade_held remade_count s
 
 pub stands_restored : StandsRestored
 stands_restored d next s r low i le st =
