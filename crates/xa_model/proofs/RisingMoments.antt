@@ -24,7 +24,7 @@ use Rattle.xa_model.specs.Answer.{Answer, plain, answer, ok}
 use Rattle.xa_model.specs.Early.{Context, early_refusal, passes_down, needs_open, is_opened, is_async, is_invalid}
 use Rattle.xa_model.specs.Associations.{connect_refusal, connected, close_refusal, is_of_session, start_by, end_by, mark_in, timestamp_in}
 use Rattle.xa_model.specs.Phases.{rolled_back, committed, unprepared_refusal, two_phase_refusal, rollback_refusal, heuristic_refusal, doom_refusal, doomed, is_associated}
-use Rattle.xa_model.specs.Data.{get_by, if_late, put_by}
+use Rattle.xa_model.specs.Data.{get_by, put_by}
 use Rattle.xa_model.specs.Recovering.{recovered_from, scan_from, scan_of}
 use Rattle.xa_model.specs.Step.{row, respond, asked, turn, context_of, further_record}
 use Rattle.xa_model.specs.Turn.{Asked, Reopened, Turn, Now, Stops, Opens, unless_now}
