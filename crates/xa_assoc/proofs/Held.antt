@@ -30,19 +30,21 @@ active_own n (Active m) is = is
 active_own n (Suspended m) is = absurd (cc is)
 active_own n Loose is = absurd (cc is)
 
-suspended_own : (n : ℕ) (h : Holder) → is_suspended n h ≡ true → is_own n h ≡ true
-suspended_own n (Active m) is = absurd (cc is)
-suspended_own n (Suspended m) is = is
-suspended_own n Loose is = absurd (cc is)
+-- an own association is active, or suspended
+own_either : (n : ℕ) (h : Holder) (c : Bool) → (is_own n h && c) ≡ ((is_active n h && c) || (is_suspended n h && c))
+own_either n (Active m) c = sym (or_false (m == n && c))
+own_either n (Suspended m) c = refl
+own_either n Loose c = refl
 
-both_are : (a b : Bool) → a ≡ true → b ≡ true → (a && b) ≡ true
-both_are a b e h = rw (e, h) refl
+or_true : (b : Bool) → (b || true) ≡ true
+or_true true = refl
+or_true false = refl
 
 pub works_own : (n : ℕ) (xid : Triple) (a : Association) → works_in n xid a ≡ true → owns n xid a ≡ true
-works_own n xid a is = let both = both_true (is_active n a.holder) (xid_eq a.xid xid) is in both_are (is_own n a.holder) (xid_eq a.xid xid) (active_own n a.holder both.0) both.1
+works_own n xid a is = own_either n a.holder (xid_eq a.xid xid) ∙ ap (λ (b : Bool). b || suspends n xid a) is
 
 pub suspends_own : (n : ℕ) (xid : Triple) (a : Association) → suspends n xid a ≡ true → owns n xid a ≡ true
-suspends_own n xid a is = let both = both_true (is_suspended n a.holder) (xid_eq a.xid xid) is in both_are (is_own n a.holder) (xid_eq a.xid xid) (suspended_own n a.holder both.0) both.1
+suspends_own n xid a is = own_either n a.holder (xid_eq a.xid xid) ∙ ap (λ (b : Bool). works_in n xid a || b) is ∙ or_true (works_in n xid a)
 
 active_number : (n k : ℕ) (h : Holder) → is_active n h ≡ true → is_active k h ≡ (n == k)
 active_number n k (Active m) is = let same : m ≡ n = grind (arith, nat_tests) in rw same refl
@@ -71,7 +73,7 @@ loose_idle k xid a is = (loose_holder k a.holder (both_true (is_loose a.holder) 
 pub loose_nobodys : (k : ℕ) (xid q : Triple) (a : Association) → is_loose_with xid a ≡ true → owns k q a ≡ false
 loose_nobodys k xid q a is = rw ((loose_holder k a.holder (both_true (is_loose a.holder) (xid_eq a.xid xid) is).0).1) refl
 
--- an own association is active, or suspended
+-- and counted as either
 
 split_holder : (n : ℕ) (h : Holder) (c : Bool) → cond (is_own n h && c) 1 0 ≡ cond (is_active n h && c) 1 0 + cond (is_suspended n h && c) 1 0
 split_holder n (Active m) true = grind arith
@@ -87,11 +89,6 @@ own_split n xid (a ∷ held) =
     let here : cond (owns n xid a) 1 0 ≡ cond (works_in n xid a) 1 0 + cond (suspends n xid a) 1 0 = split_holder n a.holder (xid_eq a.xid xid) in
     omega arith
 
-own_either : (n : ℕ) (h : Holder) (c : Bool) → (is_own n h && c) ≡ ((is_active n h && c) || (is_suspended n h && c))
-own_either n (Active m) c = sym (or_false (m == n && c))
-own_either n (Suspended m) c = refl
-own_either n Loose c = refl
-
 pub own_suspended : (n : ℕ) (xid : Triple) (a : Association) → works_in n xid a ≡ false → owns n xid a ≡ suspends n xid a
 own_suspended n xid a e = own_either n a.holder (xid_eq a.xid xid) ∙ ap (λ (b : Bool). b || suspends n xid a) e
 
@@ -99,6 +96,9 @@ pub own_active : (n : ℕ) (xid : Triple) (a : Association) → suspends n xid a
 own_active n xid a e = own_either n a.holder (xid_eq a.xid xid) ∙ ap (λ (b : Bool). works_in n xid a || b) e ∙ or_false (works_in n xid a)
 
 -- who is at work for the XID, and who isn't
+
+both_are : (a b : Bool) → a ≡ true → b ≡ true → (a && b) ≡ true
+both_are a b e h = rw (e, h) refl
 
 works_by : (n : ℕ) (xid : Triple) (held : List Association) (o : Option Association) → find (λ a. is_active n a.holder) held ≡ o → is_with xid (option_map (λ a. a.xid) o) ≡ true → list_any (works_in n xid) held ≡ true
 works_by n xid held None e is = absurd (cc is)
