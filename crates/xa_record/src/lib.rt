@@ -1,8 +1,7 @@
 //! The records of the log: what one says, and the bytes of its body. A log takes any bodies (`xa_log`); these are the
 //! resource manager's.
 //!
-//! - `record`: `Record`, of nine kinds: six say what happened, three make up a snapshot
-//! - `writes`: `Writes`, that contracts see as a list
+//! - `record`: `Record`, of nine kinds: six say what happened, three make up a snapshot; `Writes`, a list
 //! - `writing`: `write`, a record's body; `write_short`, that of a record without writes, and `write_small`, which
 //!   takes no memory for it; `write_base` and `write_held`, of writes that are lent
 //! - `reading`: `read`, the record whose body some bytes are; `fault`: `RecordFault`, why they gave none
@@ -17,12 +16,10 @@ mod fault;
 mod laws;
 mod reading;
 mod record;
-mod writes;
 mod writing;
 
 pub use fault::RecordFault;
 pub use laws::{body_sizes, one_record};
 pub use reading::read;
-pub use record::Record;
-pub use writes::Writes;
+pub use record::{Record, Writes};
 pub use writing::{write, write_base, write_held, write_short, write_small};

@@ -9,8 +9,7 @@ ghost use Rattle.xa_record.specs.Reading.{stamped_at, opened_at, branch_at, dire
 ghost use Rattle.xa_record.specs.Spelling.{spelled};
 
 use crate::fault::RecordFault;
-use crate::record::Record;
-use crate::writes::Writes;
+use crate::record::{Record, Writes};
 use std::alloc::{AllocError, Global};
 use xa_bytes::{take_u16, take_u32, take_u64};
 use xa_codes::{Bytes, Direction, Write};

@@ -1,6 +1,8 @@
-use crate::writes::Writes;
-use xa_codes::Direction;
+use xa_codes::{Direction, Listing, Write};
 use xa_xid::Xid;
+
+/// Writes that contracts see as a list.
+pub type Writes = Listing<Write>;
 
 /// What one record of the log says.
 #[derive(Debug, Drop)]

@@ -7,8 +7,7 @@ ghost use Rattle.xa_record.specs.Small.{IsSmall};
 ghost use Rattle.xa_limits.specs.declared.TheConstants.{MOST_SMALL};
 ghost use Rattle.xa_xid.specs.Spelling.{bytes_of};
 
-use crate::record::Record;
-use crate::writes::Writes;
+use crate::record::{Record, Writes};
 use arrayvec::ArrayVec;
 use std::alloc::{AllocError, Global};
 use xa_bytes::put_u64;
