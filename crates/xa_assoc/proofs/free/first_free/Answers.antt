@@ -1,4 +1,4 @@
-use Rattle.std.proofs.Common.{◌≡◌, ℕ, ◌+◌, ◌*◌, ◌<◌, ◌^◌, true, false, get_or, arith, rules, w64}
+use Rattle.std.proofs.Common.{◌≡◌, ℕ, ◌+◌, ◌<◌, ◌^◌, true, false, get_or, arith, rules, w64}
 use Rattle.std.specs.Int.{trailing_zeros}
 use Rattle.xa_assoc.specs.Free.{is_free}
 use Rattle.xa_assoc.proofs.Bits.{first_index}
