@@ -1,6 +1,5 @@
 ghost use Rattle.std.specs.Prelude.{◌≡◌, ℕ, ◌<◌, ◌≤◌, List, length, IfSome, OnOk, OnErr};
-ghost use Rattle.mv_chain.specs.declared.version.Version.{Version};
-ghost use Rattle.mv_chain.specs.declared.changes.Target.{Target};
+ghost use Rattle.mv_chain.specs.{declared.version.Version.Version, declared.changes.Target.Target};
 ghost use Rattle.mv_chain.specs.Calls.{IfLookedAt, LeavesAt, LeavesLookedAt};
 ghost use Rattle.mv_chain.specs.Chain.{IsChain, marked_at, installed, settled};
 ghost use Rattle.mv_chain.specs.Look.{looked};

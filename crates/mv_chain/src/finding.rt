@@ -1,8 +1,6 @@
 ghost use Rattle.std.specs.Prelude.{◌≡◌, ◌≤◌, length, reverse, find};
 ghost use Rattle.mv_chain.specs.Chain.{IsChain, IsIndex, is_marked};
-ghost use Rattle.mv_chain.specs.Look.{looked, IsBelow};
-ghost use Rattle.mv_chain.specs.Pool.{shown_at};
-ghost use Rattle.mv_chain.specs.Slots.{is_decided_at};
+ghost use Rattle.mv_chain.specs.{Look.looked, Look.IsBelow, Pool.shown_at, Slots.is_decided_at};
 
 use crate::look::Look;
 use crate::pool::Pool;

@@ -1,5 +1,4 @@
-ghost use Rattle.mv_chain.specs.Idle.{IdleStands};
-ghost use Rattle.mv_chain.specs.Pool.{OthersStay};
+ghost use Rattle.mv_chain.specs.{Idle.IdleStands, Pool.OthersStay};
 ghost use Rattle.mv_chain.specs.Rows.{LateWrite, BlindWrite, BusyUntilCommitted, NotSeen, LastCommitted};
 
 /// What a call on one chain leaves is every other chain of the pool: its versions, that it is one of the pool's, and

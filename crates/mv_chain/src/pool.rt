@@ -1,7 +1,6 @@
 ghost use Rattle.std.specs.Prelude.{◌≡◌, ℕ, None, IfOk};
 ghost use Rattle.slab.specs.Slab.{slab_len};
-ghost use Rattle.mv_chain.specs.Pool.{at};
-ghost use Rattle.mv_chain.specs.Within.{IsWithin};
+ghost use Rattle.mv_chain.specs.{Pool.at, Within.IsWithin};
 
 use crate::version::Version;
 use slab::Slab;

@@ -1,9 +1,7 @@
 ghost use Rattle.std.specs.Prelude.{◌≡◌, [], ◌<◌, ◌≤◌, ◌||◌, length};
-ghost use Rattle.mv_chain.specs.Calls.{LeavesAt};
-ghost use Rattle.mv_chain.specs.Chain.{pruned};
+ghost use Rattle.mv_chain.specs.{Calls.LeavesAt, Chain.pruned};
 ghost use Rattle.mv_chain.specs.Pool.{shown_at, IsHeld, IsKeptAt, CountsAt, LeavesOthersAt};
-ghost use Rattle.mv_chain.specs.Slots.{is_committed_at, pruned_at};
-ghost use Rattle.mv_chain.specs.Within.{KeepsWithin};
+ghost use Rattle.mv_chain.specs.{Slots.is_committed_at, Slots.pruned_at, Within.KeepsWithin};
 
 use crate::finding::find;
 use crate::pool::Pool;

@@ -2,9 +2,7 @@ ghost use Rattle.std.specs.Prelude.{◌≡◌, ℕ, ◌≤◌, ◌<◌, false, S
 ghost use Rattle.std.specs.Prelude.{OnOk, OnErr, option_map};
 ghost use Rattle.std.specs.List.{remove};
 ghost use Rattle.slab.specs.Slab.{Updates, SameValues};
-ghost use Rattle.mv_chain.specs.declared.version.Version.{Version};
-ghost use Rattle.mv_chain.specs.Chain.{raised};
-ghost use Rattle.mv_chain.specs.Idle.{is_unused};
+ghost use Rattle.mv_chain.specs.{declared.version.Version.Version, Chain.raised, Idle.is_unused};
 ghost use Rattle.mv_chain.specs.Pool.{at, version_at, ChangesAt};
 ghost use Rattle.mv_chain.specs.Slots.{IsPutIn};
 

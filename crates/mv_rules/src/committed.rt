@@ -63,8 +63,7 @@ fn add_key(
 
 /// What has committed.
 impl Records {
-    ghost use Rattle.mv_rules.specs.Calls.{IfStood};
-    ghost use Rattle.mv_rules.specs.Committed.{branches_in, AreCommitted};
+    ghost use Rattle.mv_rules.specs.{Calls.IfStood, Committed.branches_in, Committed.AreCommitted};
 
     /// The last committed write of each key, by timestamp, those of one timestamp ascending by key: what a checkpoint
     /// writes of committed branches. It goes over all keys once.

@@ -1,6 +1,4 @@
-ghost use Rattle.mv_rules.specs.Committed.{CommittedLasts};
-ghost use Rattle.mv_rules.specs.Ties.{OneSource, OneLateness};
-ghost use Rattle.mv_rules.specs.Noted.{LeaveNothing, LeaveAll};
+ghost use Rattle.mv_rules.specs.{Committed.CommittedLasts, Ties.OneSource, Ties.OneLateness, Noted.LeaveNothing, Noted.LeaveAll};
 ghost use Rattle.mv_rules.specs.Restoring.{AreInTurn, LowRises, StandsRestored};
 
 /// What a timestamp reads of a key among the branches of the sequential resource manager, and which writes are late

@@ -1,8 +1,6 @@
 ghost use Rattle.std.specs.Prelude.{◌≡◌, ℕ, ◌+◌, [], ◌∷◌, Some, None, false, length, IsSome, IfOk, OnOk};
 ghost use Rattle.slab.specs.Slab.{get as chain_in};
-ghost use Rattle.mv_chain.specs.Accesses.{wrote, is_late};
-ghost use Rattle.mv_chain.specs.Chain.{fresh};
-ghost use Rattle.mv_chain.specs.Within.{IsShort};
+ghost use Rattle.mv_chain.specs.{Accesses.wrote, Accesses.is_late, Chain.fresh, Within.IsShort};
 
 use crate::own::Own;
 use crate::own_key::OwnKey;
@@ -24,8 +22,7 @@ impl Records {
     ghost use Rattle.mv_rules.specs.Calls.{IfStood, IfUnindexed, IfUnsettled};
     ghost use Rattle.mv_rules.specs.Noted.{Begins, Puts, PutsAll, Restores};
     ghost use Rattle.mv_rules.specs.Records.{StandsFor, index_of, own_of};
-    ghost use Rattle.mv_rules.specs.Restoring.{with_branch, IsRestorable};
-    ghost use Rattle.mv_rules.specs.Tidy.{KeepsBut};
+    ghost use Rattle.mv_rules.specs.{Restoring.with_branch, Restoring.IsRestorable, Tidy.KeepsBut};
     ghost use Rattle.mv_rules.specs.Within.{IsWithin, KeepsWithin, AreShort};
     ghost use Rattle.mv_rules.specs.Within.{IsKey, AreKeys, HasKeys, KeepsOwnBut, HaveKeys};
 

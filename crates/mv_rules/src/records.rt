@@ -2,9 +2,7 @@ ghost use Rattle.std.specs.Prelude.{◌≡◌, ◌≢◌, ℕ, ◌≤◌, max, L
 ghost use Rattle.std.specs.Prelude.{None, IfSome, IfNone, IfOk, OnOk, OnErr, option_map};
 ghost use Rattle.slab.specs.Slab.{get as chain_in};
 ghost use Rattle.mv_chain.specs.Accesses.{decided, AreWhole, IsUndecided, IsUnsettled};
-ghost use Rattle.mv_chain.specs.Calls.{bytes_of};
-ghost use Rattle.mv_chain.specs.Chain.{fresh, pruned};
-ghost use Rattle.mv_chain.specs.Within.{IsShort};
+ghost use Rattle.mv_chain.specs.{Calls.bytes_of, Chain.fresh, Chain.pruned, Within.IsShort};
 
 use crate::answers::{Got, Put};
 use crate::own::{Notes, Own, count, keep_decided, next_due};

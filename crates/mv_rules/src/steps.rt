@@ -3,13 +3,10 @@ ghost use Rattle.mv_chain.specs.Calls.{sees, IfLooked, Leaves, LeavesLooked};
 ghost use Rattle.mv_chain.specs.Chain.{marked_at, installed};
 ghost use Rattle.mv_chain.specs.Pool.{versions_of, IsKept, LeavesOthers};
 ghost use Rattle.mv_chain.specs.Within.{IsShort, IsWithin, KeepsWithin};
-ghost use Rattle.mv_rules.specs.Accesses.{answer_of};
-ghost use Rattle.mv_rules.specs.Held.{IsHeld};
-ghost use Rattle.mv_rules.specs.Noted.{AddsWritten, NotesRead};
+ghost use Rattle.mv_rules.specs.{Accesses.answer_of, Held.IsHeld, Noted.AddsWritten, Noted.NotesRead};
 ghost use Rattle.mv_rules.specs.Own.{own_in, OwnStays, OwnBecomes};
 ghost use Rattle.mv_rules.specs.Steps.{IsRead, IsWritten, SettlesListed};
-ghost use Rattle.mv_rules.specs.Tidy.{has_read};
-ghost use Rattle.mv_rules.specs.Within.{IsShortAnswer};
+ghost use Rattle.mv_rules.specs.{Tidy.has_read, Within.IsShortAnswer};
 
 use crate::answers::Got;
 use crate::own::{Notes, Own, note, note_read, unnote};

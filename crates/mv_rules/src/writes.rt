@@ -2,10 +2,8 @@ ghost use Rattle.std.specs.Prelude.{◌≡◌, ℕ, List, map, IfOk, option_map}
 ghost use Rattle.std.specs.BTreeMap.{get, IsOrdered};
 ghost use Rattle.std.specs.Cmp.Lexicographic.{slice_cmp};
 ghost use Rattle.std.specs.Ordering.{nat_cmp};
-ghost use Rattle.mv_chain.specs.Chain.{shows};
-ghost use Rattle.mv_chain.specs.Within.{IsShort, IsWithin};
-ghost use Rattle.mv_rules.specs.Collected.{as_write, collected};
-ghost use Rattle.mv_rules.specs.Held.{versions_at, IsHeld};
+ghost use Rattle.mv_chain.specs.{Chain.shows, Within.IsShort, Within.IsWithin};
+ghost use Rattle.mv_rules.specs.{Collected.as_write, Collected.collected, Held.versions_at, Held.IsHeld};
 ghost use Rattle.mv_rules.specs.Within.{AreShort, AreKeys, HaveKeys};
 ghost use Rattle.xa_limits.specs.declared.TheConstants.{MOST_WRITES};
 

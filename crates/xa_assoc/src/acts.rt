@@ -1,8 +1,7 @@
 ghost use Rattle.std.specs.Prelude.{◌≡◌, ◌+◌, ◌<◌, true, false, None, OnOk, OnErr, IsSome};
 ghost use Rattle.xa_assoc.specs.Seats.{seat_at, owns_at};
 ghost use Rattle.xa_assoc.specs.Changes.{Comes, Goes, Sets, Clears, ComesToWork, ComesToRest, LosesOwn, IsSameRoom};
-ghost use Rattle.xa_assoc.specs.Company.{company_of};
-ghost use Rattle.xa_assoc.specs.Sessions.{Stays};
+ghost use Rattle.xa_assoc.specs.{Company.company_of, Sessions.Stays};
 ghost use Rattle.xa_limits.specs.declared.TheConstants.{MOST_SESSIONS};
 
 use crate::free::{make_free, make_taken};

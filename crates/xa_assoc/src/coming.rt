@@ -5,8 +5,7 @@ ghost use Rattle.xa_codes.specs.declared.codes.TheConstants.{XAER_RMERR};
 ghost use Rattle.xa_model.specs.Answer.{plain, carrying, detailed};
 ghost use Rattle.xa_model.specs.Associations.{connect_by, open_by, close_by, hang_up_by};
 ghost use Rattle.xa_assoc.specs.Company.{company_of, Gains, Loses};
-ghost use Rattle.xa_assoc.specs.Refusals.{is_memory, IsBare};
-ghost use Rattle.xa_assoc.specs.Seats.{seat_at};
+ghost use Rattle.xa_assoc.specs.{Refusals.is_memory, Refusals.IsBare, Seats.seat_at};
 ghost use Rattle.xa_assoc.specs.Sessions.{Follows, Refuses, Replies, Stays};
 
 use crate::fault::ConnectFault;

@@ -1,8 +1,6 @@
 ghost use Rattle.std.specs.Prelude.{◌≡◌, [], map};
-ghost use Rattle.xa_model.specs.State.{State};
-ghost use Rattle.xa_model.specs.Restarting.{without_scan};
-ghost use Rattle.xa_assoc.specs.Company.{company_of};
-ghost use Rattle.xa_assoc.specs.Sessions.{SessionsStandFor};
+ghost use Rattle.xa_model.specs.{State.State, Restarting.without_scan};
+ghost use Rattle.xa_assoc.specs.{Company.company_of, Sessions.SessionsStandFor};
 
 use crate::sessions::Sessions;
 

@@ -1,8 +1,6 @@
 ghost use Rattle.std.specs.Prelude.{◌≡◌, ℕ, Some, false, IfOk, IfErr};
 ghost use Rattle.xa_model.specs.Recovering.{scan_of, scan_from, scan_after, scanning, moved, recover_by};
-ghost use Rattle.xa_assoc.specs.Company.{company_of};
-ghost use Rattle.xa_assoc.specs.Refusals.{is_memory, IsBare};
-ghost use Rattle.xa_assoc.specs.Seats.{scan_at};
+ghost use Rattle.xa_assoc.specs.{Company.company_of, Refusals.is_memory, Refusals.IsBare, Seats.scan_at};
 ghost use Rattle.xa_assoc.specs.Sessions.{FollowsAlways, InEach, Refuses};
 
 use crate::sessions::Sessions;

@@ -1,10 +1,7 @@
 ghost use Rattle.std.specs.Prelude.{◌≡◌, None, IsSome, MatchResult, OnErr};
 ghost use Rattle.xa_codes.specs.declared.codes.TheConstants.{XAER_PROTO};
-ghost use Rattle.xa_model.specs.State.{limit_of};
-ghost use Rattle.xa_model.specs.TimeLimits.{timeout_by};
-ghost use Rattle.xa_assoc.specs.Company.{company_of};
-ghost use Rattle.xa_assoc.specs.Seats.{opened_at, limit_at};
-ghost use Rattle.xa_assoc.specs.Sessions.{FollowsAlways, InEach};
+ghost use Rattle.xa_model.specs.{State.limit_of, TimeLimits.timeout_by};
+ghost use Rattle.xa_assoc.specs.{Company.company_of, Seats.opened_at, Seats.limit_at, Sessions.FollowsAlways, Sessions.InEach};
 
 use crate::sessions::Sessions;
 use xa_codes::{Code, XAER_PROTO};

@@ -1,8 +1,6 @@
 ghost use Rattle.std.specs.Prelude.{◌≡◌, false, OnOk, OnErr, IsSome};
 ghost use Rattle.xa_model.specs.Associations.{begun, joined, resumed, not_resumed, suspended, not_suspended, ended, failed};
-ghost use Rattle.xa_assoc.specs.Seats.{opened_at, owns_at};
-ghost use Rattle.xa_assoc.specs.Changes.{IsSameRoom};
-ghost use Rattle.xa_assoc.specs.Company.{company_of};
+ghost use Rattle.xa_assoc.specs.{Seats.opened_at, Seats.owns_at, Changes.IsSameRoom, Company.company_of};
 ghost use Rattle.xa_assoc.specs.Sessions.{CanResume, CanSuspend, Follows, FollowsIf, Stays};
 
 use crate::sessions::Sessions;

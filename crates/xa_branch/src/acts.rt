@@ -1,6 +1,5 @@
 ghost use Rattle.std.specs.Prelude.{◌≡◌, ◌+◌, ◌<◌, None, Some, Err, IfOk, IfNone, IfSome, OnOk, OnErr};
-ghost use Rattle.xa_model.specs.State.{timestamp_of, limit_of};
-ghost use Rattle.xa_model.specs.Associations.{begun};
+ghost use Rattle.xa_model.specs.{State.timestamp_of, State.limit_of, Associations.begun};
 ghost use Rattle.xa_branch.specs.Calls.{begin_fault_of, fault_of, marked_with};
 ghost use Rattle.xa_limits.specs.declared.TheConstants.{MOST_GIVEN};
 ghost use Rattle.xa_branch.specs.Branches.{BranchesStandFor, working_at, lasting_at};

@@ -1,8 +1,6 @@
 ghost use Rattle.std.specs.Prelude.{◌≡◌, ◌+◌, MatchResult, None, Some, [], length};
 ghost use Rattle.xa_model.specs.State.{State as ModelState, known_as, known_in, loose_of};
-ghost use Rattle.xa_model.specs.Associations.{timestamp_in};
-ghost use Rattle.xa_model.specs.Phases.{is_associated};
-ghost use Rattle.xa_model.specs.Logging.{prepared_count};
+ghost use Rattle.xa_model.specs.{Associations.timestamp_in, Phases.is_associated, Logging.prepared_count};
 
 use crate::known::Known;
 use crate::lasting::Lasting;
@@ -37,11 +35,8 @@ pub struct Branches {
 
 impl Branches {
     ghost use Rattle.xa_branch.specs.Branches.{BranchesStandFor, working_at, lasting_at, moment_of, number_of};
-    ghost use Rattle.xa_branch.specs.Calls.{readiness_of};
-    ghost use Rattle.xa_branch.specs.Facts.{fact_of};
-    ghost use Rattle.xa_branch.specs.Follows.{InEach, InSound};
-    ghost use Rattle.xa_branch.specs.Restored.{HasRestored};
-    ghost use Rattle.xa_branch.specs.State.{state_of};
+    ghost use Rattle.xa_branch.specs.{Calls.readiness_of, Facts.fact_of, Follows.InEach, Follows.InSound, Restored.HasRestored};
+    ghost use Rattle.xa_branch.specs.{State.state_of};
 
     /// No branch is known in this boot, and `next` is the number of the boot's next timestamp: 1 where it gave none,
     /// else one more than how many it gave. 0 counts as 1. `moment` is the last moment that was told, in seconds. Takes

@@ -1,10 +1,7 @@
 ghost use Rattle.std.specs.Prelude.{◌≡◌, IfOk, map};
-ghost use Rattle.xa_model.specs.State.{State};
-ghost use Rattle.xa_model.specs.Durable.{durable};
-ghost use Rattle.xa_model.specs.Trimming.{trimmed};
-ghost use Rattle.xa_branch.specs.Branches.{BranchesStandFor, boot_of};
-ghost use Rattle.xa_branch.specs.Checkpointed.{decided_as, TimesOf};
-ghost use Rattle.xa_branch.specs.Follows.{InEach, InSound};
+ghost use Rattle.xa_model.specs.{State.State, Durable.durable, Trimming.trimmed};
+ghost use Rattle.xa_branch.specs.{Branches.BranchesStandFor, Branches.boot_of, Checkpointed.decided_as, Checkpointed.TimesOf};
+ghost use Rattle.xa_branch.specs.{Follows.InEach, Follows.InSound};
 
 use crate::branches::Branches;
 use crate::lasting::Lasting;

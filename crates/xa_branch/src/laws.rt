@@ -1,5 +1,4 @@
-ghost use Rattle.xa_branch.specs.Restored.{RestoredStand};
-ghost use Rattle.xa_branch.specs.Worked.{WorkedStates};
+ghost use Rattle.xa_branch.specs.{Restored.RestoredStand, Worked.WorkedStates};
 
 /// Worked rows: the state of a branch, computed on the definitions alone.
 pub fn worked_states()

@@ -2,8 +2,7 @@ ghost use Rattle.std.specs.Prelude.{◌≡◌, ◌≤◌, IfOk, length, option_c
 ghost use Rattle.std.specs.BTreeMap.Range.{is_from_start};
 ghost use Rattle.std.specs.Range.Bound.{bound_map};
 ghost use Rattle.xa_xid.specs.Triple.{Triple, xid_cmp};
-ghost use Rattle.xa_model.specs.Durable.{durable};
-ghost use Rattle.xa_model.specs.Listed.{is_above, list_after};
+ghost use Rattle.xa_model.specs.{Durable.durable, Listed.is_above, Listed.list_after};
 ghost use Rattle.xa_branch.specs.Follows.{InSound};
 
 use crate::branches::Branches;

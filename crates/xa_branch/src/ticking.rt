@@ -1,7 +1,6 @@
 ghost use Rattle.std.specs.Prelude.{◌≡◌, nat_lt, is_err, IfOk, IfErr, OnOk, OnErr};
 ghost use Rattle.xa_codes.specs.declared.codes.TheConstants.{XAER_INVAL};
-ghost use Rattle.xa_model.specs.State.{count};
-ghost use Rattle.xa_model.specs.TimeLimits.{runs_out, ticked};
+ghost use Rattle.xa_model.specs.{State.count, TimeLimits.runs_out, TimeLimits.ticked};
 ghost use Rattle.xa_branch.specs.Follows.{Follows, InEach, InSound};
 
 use crate::branches::Branches;

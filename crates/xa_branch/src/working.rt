@@ -1,8 +1,7 @@
 ghost use Rattle.std.specs.Prelude.{◌≡◌, ◌||◌, nat_lt, None, Some, MatchResult};
 ghost use Rattle.xa_model.specs.State.{AtWork};
 ghost use Rattle.xa_branch.specs.Changes.{new_kept, marked, with_one, less_one};
-ghost use Rattle.xa_branch.specs.Due.{due_of, work_of};
-ghost use Rattle.xa_branch.specs.State.{state_by};
+ghost use Rattle.xa_branch.specs.{Due.due_of, Due.work_of, State.state_by};
 
 use crate::kind::Kind;
 use crate::state::State;

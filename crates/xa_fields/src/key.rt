@@ -1,7 +1,5 @@
 ghost use Rattle.std.specs.Prelude.{◌≡◌, ◌↔◌, IfSome, IsSome};
-ghost use Rattle.xa_fields.specs.Answers.{Gives};
-ghost use Rattle.xa_fields.specs.Limits.{IsKey};
-ghost use Rattle.xa_fields.specs.Reading.{key_at};
+ghost use Rattle.xa_fields.specs.{Answers.Gives, Limits.IsKey, Reading.key_at};
 
 use crate::fault::FieldFault;
 use crate::reading::take_key;

@@ -3,8 +3,7 @@ ghost use Rattle.xa_codes.specs.declared.direction.Direction.{Direction};
 ghost use Rattle.xa_fields.specs.Limits.{IsShort, IsKey, IsValue};
 ghost use Rattle.xa_fields.specs.Reading.{short_at, key_at, value_at, direction_at, name_at, ReadsBack};
 ghost use Rattle.xa_fields.specs.Spelling.{short_bytes, value_bytes, direction_bytes};
-ghost use Rattle.xa_xid.specs.Spelling.{bytes_of};
-ghost use Rattle.xa_xid.specs.Triple.{Triple, IsWithinLimits};
+ghost use Rattle.xa_xid.specs.{Spelling.bytes_of, Triple.Triple, Triple.IsWithinLimits};
 
 /// A field that is read is spelled there and within its limits, and one within them that is spelled is read. It does
 /// nothing.

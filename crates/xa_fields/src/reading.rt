@@ -1,6 +1,5 @@
 ghost use Rattle.std.specs.Prelude.{◌≡◌, IfOk, length};
-ghost use Rattle.xa_fields.specs.Answers.{Gives};
-ghost use Rattle.xa_fields.specs.Limits.{IsKey};
+ghost use Rattle.xa_fields.specs.{Answers.Gives, Limits.IsKey};
 ghost use Rattle.xa_fields.specs.Reading.{bytes_at, short_at, key_at, value_at, direction_at, name_at};
 
 use crate::fault::FieldFault;

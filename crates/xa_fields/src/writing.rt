@@ -1,8 +1,7 @@
 ghost use Rattle.std.specs.Int.{w16, to_be_bytes};
 ghost use Rattle.std.specs.Prelude.{◌≡◌, ◌++◌, OnOk};
 ghost use Rattle.xa_fields.specs.Spelling.{short_bytes, value_bytes, direction_bytes};
-ghost use Rattle.xa_xid.specs.Spelling.{bytes_of};
-ghost use Rattle.xa_xid.specs.Triple.{IsWithinLimits};
+ghost use Rattle.xa_xid.specs.{Spelling.bytes_of, Triple.IsWithinLimits};
 
 use arrayvec::ArrayVec;
 use std::alloc::AllocError;

@@ -1,6 +1,5 @@
 ghost use Rattle.std.specs.Prelude.{◌≡◌};
-ghost use Rattle.xa_frame.specs.declared.fault.FrameFault.TheVariants.{Memory};
-ghost use Rattle.xa_frame.specs.Fields.{fault_of_field};
+ghost use Rattle.xa_frame.specs.{declared.fault.FrameFault.TheVariants.Memory, Fields.fault_of_field};
 
 use std::alloc::{AllocError, AllocFailed};
 use thiserror::Error;

@@ -1,9 +1,7 @@
 ghost use Rattle.std.specs.Prelude.{◌≤◌, ℕ, List, length};
-ghost use Rattle.xa_frame.specs.declared.reply.Reply.{Reply};
+ghost use Rattle.xa_frame.specs.{declared.reply.Reply.Reply, Faults.fault_of_request, Faults.fault_of_reply, Laws.IsOneSpelling};
+ghost use Rattle.xa_frame.specs.{Questions.SpellsQuestion, Questions.fault_of_question};
 ghost use Rattle.xa_limits.specs.declared.TheConstants.{MOST_CONTENT};
-ghost use Rattle.xa_frame.specs.Faults.{fault_of_request, fault_of_reply};
-ghost use Rattle.xa_frame.specs.Laws.{IsOneSpelling};
-ghost use Rattle.xa_frame.specs.Questions.{SpellsQuestion, fault_of_question};
 ghost use Rattle.xa_frame.specs.Rows.{HasNumbers, SpelledSo, FaultyRequests, FaultyQuestions, FaultyReplies};
 ghost use Rattle.xa_frame.specs.Spelling.{SpellsRequest, SpellsReply};
 

@@ -33,8 +33,7 @@ pub(crate) trait Listed {
 
 impl Listed for Xid {
     ghost use Rattle.xa_frame.specs.Reading.{name_at};
-    ghost use Rattle.xa_xid.specs.Spelling.{bytes_of};
-    ghost use Rattle.xa_xid.specs.Triple.{IsWithinLimits};
+    ghost use Rattle.xa_xid.specs.{Spelling.bytes_of, Triple.IsWithinLimits};
 
     ghost spell = { bytes_of };
 
@@ -52,9 +51,7 @@ impl Listed for Xid {
 }
 
 impl Listed for KnownBranch {
-    ghost use Rattle.xa_frame.specs.Limits.{HoldsBranch};
-    ghost use Rattle.xa_frame.specs.Reading.{branch_at};
-    ghost use Rattle.xa_frame.specs.Spelling.{branch_bytes};
+    ghost use Rattle.xa_frame.specs.{Limits.HoldsBranch, Reading.branch_at, Spelling.branch_bytes};
 
     ghost spell = { branch_bytes };
 

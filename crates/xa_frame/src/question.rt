@@ -1,6 +1,5 @@
 ghost use Rattle.std.specs.Prelude.{◌≡◌, IfOk, IfErr, Err, None};
-ghost use Rattle.xa_frame.specs.declared.fault.FrameFault.TheVariants.{Memory};
-ghost use Rattle.xa_frame.specs.Answers.{IsOrWants, IsFault};
+ghost use Rattle.xa_frame.specs.{declared.fault.FrameFault.TheVariants.Memory, Answers.IsOrWants, Answers.IsFault};
 ghost use Rattle.xa_frame.specs.Questions.{IsQuestion, SpellsQuestion, bytes_of_question, fault_of_question};
 
 use crate::encode::{VERSION, encode_request};

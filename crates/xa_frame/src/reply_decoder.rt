@@ -2,10 +2,8 @@ ghost use Rattle.std.specs.Int.{w64};
 ghost use Rattle.std.specs.Prelude.{◌≡◌, IsOk, IfOk, IfErr, Err, None};
 ghost use Rattle.xa_fields.specs.Answers.{Gives};
 ghost use Rattle.xa_frame.specs.Answers.{Answers, IsOrWants, IsFault};
-ghost use Rattle.xa_frame.specs.declared.fault.FrameFault.TheVariants.{Memory};
-ghost use Rattle.xa_frame.specs.declared.reply.Reply.{Reply};
-ghost use Rattle.xa_frame.specs.Spelling.{SpellsReply};
-ghost use Rattle.xa_frame.specs.Faults.{fault_of_reply};
+ghost use Rattle.xa_frame.specs.{declared.fault.FrameFault.TheVariants.Memory, declared.reply.Reply.Reply, Spelling.SpellsReply};
+ghost use Rattle.xa_frame.specs.{Faults.fault_of_reply};
 ghost use Rattle.xa_frame.specs.Reading.{made, one_of, rest_of, value_of_first, number_at, value_at};
 ghost use Rattle.xa_frame.specs.Reading.{each_at, counted_at, status_at, body_at, answer_at, reply_at};
 

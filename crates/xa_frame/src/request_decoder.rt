@@ -1,8 +1,7 @@
 ghost use Rattle.std.specs.Int.{w32, w64};
 ghost use Rattle.std.specs.Prelude.{◌≡◌, IfOk, IfErr, Ok, Err, None, false};
 ghost use Rattle.xa_fields.specs.Answers.{Gives};
-ghost use Rattle.xa_frame.specs.declared.fault.FrameFault.TheVariants.{Memory};
-ghost use Rattle.xa_frame.specs.declared.request.Request.{Request};
+ghost use Rattle.xa_frame.specs.{declared.fault.FrameFault.TheVariants.Memory, declared.request.Request.Request};
 ghost use Rattle.xa_frame.specs.Answers.{Answers, IsOrWants, IsFault, brings_bytes};
 ghost use Rattle.xa_frame.specs.Faults.{fault_of_request};
 ghost use Rattle.xa_frame.specs.Reading.{made, one_of, two_of, number_at, info_at, key_at, value_at, direction_at};

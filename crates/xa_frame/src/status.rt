@@ -1,9 +1,7 @@
 ghost use Rattle.std.specs.Int.{w64};
 ghost use Rattle.std.specs.Prelude.{◌≡◌, ◌++◌, OnOk};
 ghost use Rattle.xa_fields.specs.Answers.{Gives};
-ghost use Rattle.xa_frame.specs.Limits.{HoldsStatus};
-ghost use Rattle.xa_frame.specs.Reading.{status_at};
-ghost use Rattle.xa_frame.specs.Spelling.{status_bytes};
+ghost use Rattle.xa_frame.specs.{Limits.HoldsStatus, Reading.status_at, Spelling.status_bytes};
 
 use crate::fault::FrameFault;
 use crate::fields::u64_at;

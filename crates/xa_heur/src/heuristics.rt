@@ -1,7 +1,6 @@
 ghost use Rattle.std.specs.Prelude.{◌≡◌, IfOk};
 ghost use Rattle.xa_record.specs.declared.record.Record.TheVariants as logged;
-ghost use Rattle.xa_model.specs.State.{Known};
-ghost use Rattle.xa_model.specs.Completions.{decide_refusal, forget_refusal};
+ghost use Rattle.xa_model.specs.{State.Known, Completions.decide_refusal, Completions.forget_refusal};
 ghost use Rattle.xa_heur.specs.Answers.{IsStateOf, refused, answered, completion_refusal};
 
 use xa_branch::State;

@@ -29,8 +29,7 @@ ghost use Rattle.xa_model.specs.ScanLaw.{ListedAscends, ScanListsFirst, ScanList
 ghost use Rattle.xa_model.specs.Laws.Restarts.{RestartLeads, RestartHappens};
 ghost use Rattle.xa_model.specs.Laws.LowWater.{BelowKnown, IsReached, BelowNext, NeverFalls};
 ghost use Rattle.xa_model.specs.Laws.LowWater.{WorksAbove, BeginsAbove, FloorNeverFalls};
-ghost use Rattle.xa_model.specs.Laws.Trim.{TrimGoesOn, TrimLists};
-ghost use Rattle.xa_model.specs.Laws.Time.{MomentsRise, OpensAtZero};
+ghost use Rattle.xa_model.specs.{Laws.Trim.TrimGoesOn, Laws.Trim.TrimLists, Laws.Time.MomentsRise, Laws.Time.OpensAtZero};
 
 /// From a given start, given events and outcomes have at most one legal history.
 pub fn one_history()

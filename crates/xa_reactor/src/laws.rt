@@ -1,6 +1,5 @@
 //! Worked rows.
-ghost use Rattle.xa_reactor.specs.Trimmed.{TrimRows};
-ghost use Rattle.xa_reactor.specs.Trims.{DueRows};
+ghost use Rattle.xa_reactor.specs.{Trimmed.TrimRows, Trims.DueRows};
 
 /// When trims are due of a few logs. It does nothing.
 pub fn trims_are_due()

@@ -1,7 +1,6 @@
 ghost use Rattle.std.specs.Prelude.{◌≡◌};
 ghost use Rattle.xa_connection.specs.Calls.{new_connection};
-ghost use Rattle.xa_reactor.specs.Asking.{IsAnswered};
-ghost use Rattle.xa_reactor.specs.Opening.{Opens};
+ghost use Rattle.xa_reactor.specs.{Asking.IsAnswered, Opening.Opens};
 ghost use Rattle.xa_reactor.specs.Turning.{CarriesOn, HasAnswered, HasFed, HasSent, HasTaken};
 
 use crate::ask::Ask;

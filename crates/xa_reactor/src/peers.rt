@@ -1,8 +1,6 @@
 ghost use Rattle.std.specs.Prelude.{◌≡◌, ◌+◌, ℕ, None, IsTrue, false, length};
 ghost use Rattle.slab.specs.Slab.{get};
-ghost use Rattle.xa_reactor.specs.Asking.{IsAnswered};
-ghost use Rattle.xa_reactor.specs.Opening.{OpensAt};
-ghost use Rattle.xa_reactor.specs.Peers.{HasRoom};
+ghost use Rattle.xa_reactor.specs.{Asking.IsAnswered, Opening.OpensAt, Peers.HasRoom};
 ghost use Rattle.xa_reactor.specs.Tending.{Tends, nobody, sessions_of};
 ghost use Rattle.xa_reactor.specs.Timing.{IsToEnd};
 

@@ -3,9 +3,7 @@ ghost use Rattle.xa_codes.specs.declared.direction.Direction.{Direction};
 ghost use Rattle.xa_record.specs.declared.record.Record.{Record};
 ghost use Rattle.xa_record.specs.declared.record.Record.TheVariants.{Opened, Completed, Decided, Forgotten, Known};
 ghost use Rattle.xa_limits.specs.declared.TheConstants.{MOST_BODY, MOST_SMALL};
-ghost use Rattle.xa_record.specs.Limits.{IsRecord};
-ghost use Rattle.xa_record.specs.Reading.{record_at};
-ghost use Rattle.xa_record.specs.Spelling.{spelled};
+ghost use Rattle.xa_record.specs.{Limits.IsRecord, Reading.record_at, Spelling.spelled};
 ghost use Rattle.xa_xid.specs.Triple.{Triple, IsWithinLimits};
 
 /// A body is that of one record at most, and what was written is read again.

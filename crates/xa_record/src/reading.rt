@@ -1,9 +1,7 @@
 ghost use Rattle.std.specs.Prelude.{◌≡◌, [], Err, IfOk, option_map, is_some, IsSome};
-ghost use Rattle.xa_record.specs.declared.fault.RecordFault.TheVariants.{Memory};
-ghost use Rattle.xa_record.specs.declared.record.Record.{Record};
+ghost use Rattle.xa_record.specs.{declared.fault.RecordFault.TheVariants.Memory, declared.record.Record.Record};
 ghost use Rattle.xa_record.specs.declared.record.Record.TheVariants.{Prepared, Committed, Base, Held};
-ghost use Rattle.xa_record.specs.Answers.{Answers, Gives};
-ghost use Rattle.xa_record.specs.Limits.{IsRecord};
+ghost use Rattle.xa_record.specs.{Answers.Answers, Answers.Gives, Limits.IsRecord};
 ghost use Rattle.xa_record.specs.Reading.{xid_front, last_direction, next_key, left_at, write_at, writes_at, head_at};
 ghost use Rattle.xa_record.specs.Reading.{stamped_at, opened_at, branch_at, directed_at, forgotten_at, record_at};
 ghost use Rattle.xa_record.specs.Spelling.{spelled};

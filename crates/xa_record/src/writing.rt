@@ -1,7 +1,6 @@
 ghost use Rattle.arrayvec.specs.ArrayVec.{array_vec_len};
 ghost use Rattle.std.specs.Prelude.{◌≡◌, ◌<◌, [], ◌∷◌, ◌++◌, flat_map, IfOk, OnOk};
-ghost use Rattle.xa_record.specs.Limits.{IsRecord};
-ghost use Rattle.xa_record.specs.declared.record.Record.TheVariants.{Base, Held};
+ghost use Rattle.xa_record.specs.{Limits.IsRecord, declared.record.Record.TheVariants.Base, declared.record.Record.TheVariants.Held};
 ghost use Rattle.xa_record.specs.Spelling.{spelled, branch_bytes, stamped_bytes, write_bytes, left_bytes};
 ghost use Rattle.xa_record.specs.Small.{IsSmall};
 ghost use Rattle.xa_limits.specs.declared.TheConstants.{MOST_SMALL};

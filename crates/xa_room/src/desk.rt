@@ -2,10 +2,7 @@ ghost use Rattle.std.specs.Prelude.{◌≡◌, ℕ, ◌+◌, ◌<◌, ◌^◌, l
 ghost use Rattle.xa_frame.specs.Limits.{IsRequest, IsReply};
 ghost use Rattle.xa_manager.specs.Answered.{connect_reply, wanted_memory};
 ghost use Rattle.xa_model.specs.declared.event.Event.{Event};
-ghost use Rattle.xa_room.specs.Book.{placed};
-ghost use Rattle.xa_room.specs.Gone.{WasGone};
-ghost use Rattle.xa_room.specs.Share.{Records};
-ghost use Rattle.xa_room.specs.Status.{IsTold};
+ghost use Rattle.xa_room.specs.{Book.placed, Gone.WasGone, Share.Records, Status.IsTold};
 
 use crate::call::Call;
 use crate::counted::Counted;

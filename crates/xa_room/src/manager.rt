@@ -8,14 +8,8 @@ use xa_model::Outcome;
 /// The manager over a log on two disks. Its counts of failures are those of the two.
 impl<D: Disk> Manages for Manager<D> {
     ghost use Rattle.xa_model.specs.Events.{is_trim};
-    ghost use Rattle.xa_manager.specs.Answered.{HasCalledFor};
-    ghost use Rattle.xa_manager.specs.Connected.{connected_to};
-    ghost use Rattle.xa_manager.specs.Counted.{counted_by};
-    ghost use Rattle.xa_manager.specs.Crash.{CrashesAs};
-    ghost use Rattle.xa_manager.specs.LogStands.{Trusts};
-    ghost use Rattle.xa_manager.specs.Managed.{ManagerStandsFor};
-    ghost use Rattle.xa_manager.specs.Parts.{log_of, outcome_of};
-    ghost use Rattle.xa_manager.specs.Status.{versions_of};
+    ghost use Rattle.xa_manager.specs.{Answered.HasCalledFor, Connected.connected_to, Counted.counted_by, Crash.CrashesAs};
+    ghost use Rattle.xa_manager.specs.{LogStands.Trusts, Managed.ManagerStandsFor, Parts.log_of, Parts.outcome_of, Status.versions_of};
     ghost use Rattle.xa_room.specs.Together.{CrashesTogether};
 
     ghost stands = { ManagerStandsFor D.Disk };

@@ -7,13 +7,9 @@ use xa_model::Outcome;
 pub trait Manages {
     ghost use Rattle.std.specs.Prelude.{ℕ, ◌≡◌, ◌+◌, Bool, true, List, MatchResult, pos};
     ghost use Rattle.xa_frame.specs.Limits.{IsReply};
-    ghost use Rattle.xa_model.specs.declared.event.Event.{Event};
-    ghost use Rattle.xa_model.specs.declared.outcome.Outcome.{Outcome};
-    ghost use Rattle.xa_model.specs.Answer.{plain};
-    ghost use Rattle.xa_model.specs.Events.{IsAsked};
-    ghost use Rattle.xa_model.specs.State.{State};
-    ghost use Rattle.xa_manager.specs.Answered.{connect_reply};
-    ghost use Rattle.xa_manager.specs.Status.{status_of};
+    ghost use Rattle.xa_model.specs.{declared.event.Event.Event, declared.outcome.Outcome.Outcome, Answer.plain, Events.IsAsked};
+    ghost use Rattle.xa_model.specs.{State.State};
+    ghost use Rattle.xa_manager.specs.{Answered.connect_reply, Status.status_of};
     ghost use Rattle.xa_room.specs.Manages.{Acts};
 
     /// The states that it stands for.

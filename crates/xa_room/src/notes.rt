@@ -1,6 +1,5 @@
 ghost use Rattle.std.specs.Prelude.{◌≡◌, ℕ, ◌+◌, ◌<◌, ◌≤◌, [], ◌∷◌, ◌++◌, length, true, vec_len, vec_capacity};
-ghost use Rattle.xa_room.specs.Book.{entry_of, receipt_of};
-ghost use Rattle.xa_room.specs.Spare.{HasRoom};
+ghost use Rattle.xa_room.specs.{Book.entry_of, Book.receipt_of, Spare.HasRoom};
 
 use crate::entry::Entry;
 use crate::receipt::Receipt;

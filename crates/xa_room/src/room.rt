@@ -2,13 +2,11 @@ ghost use Rattle.std.specs.Prelude.{◌≡◌, ℕ, ◌+◌, [], length, IfOk, I
 ghost use Rattle.xa_assoc.specs.Refusals.{is_memory};
 ghost use Rattle.xa_frame.specs.Limits.{IsRequest, IsReply};
 ghost use Rattle.xa_manager.specs.Answered.{connect_reply, wanted_memory};
-ghost use Rattle.xa_model.specs.State.{State};
-ghost use Rattle.xa_model.specs.Events.{HaveHappened, IsAsked};
+ghost use Rattle.xa_model.specs.{State.State, Events.HaveHappened, Events.IsAsked};
 ghost use Rattle.xa_room.specs.Book.{AreNumbered, placed, plain_entries};
 ghost use Rattle.xa_room.specs.Gone.{WasGone};
 ghost use Rattle.xa_room.specs.Upholds.{IsLegal, IsCounted, Adds, Leaves};
-ghost use Rattle.xa_room.specs.Promises.{Promises};
-ghost use Rattle.xa_room.specs.Status.{Tells};
+ghost use Rattle.xa_room.specs.{Promises.Promises, Status.Tells};
 
 use crate::call::Call;
 use crate::entry::Entry;
@@ -45,8 +43,7 @@ pub struct Room<M: Manages, S: Start> {
 
 impl<M: Manages, S: Start> Model for Room<M, S> {
     ghost use Rattle.std.specs.Prelude.{vec_capacity};
-    ghost use Rattle.xa_room.specs.Upholds.{Upholds};
-    ghost use Rattle.xa_room.specs.Told.{Told};
+    ghost use Rattle.xa_room.specs.{Upholds.Upholds, Told.Told};
 
     ghost Value = { Told M };
 

@@ -12,14 +12,8 @@ pub trait GroupCommits {
     ghost use Rattle.std.specs.Prelude.{◌≡◌, ◌≢◌, ◌+◌, true, is_none, List, Option, None, Some, MatchResult, IfErr, IfOk, OnErr, OnOk, pos};
     ghost use Rattle.std.specs.List.{AllByRecursion};
     ghost use Rattle.xa_frame.specs.Limits.{IsReply};
-    ghost use Rattle.xa_model.specs.declared.event.Event.{Event};
-    ghost use Rattle.xa_model.specs.Answer.{plain};
-    ghost use Rattle.xa_model.specs.Events.{IsAsked};
-    ghost use Rattle.xa_model.specs.State.{State};
-    ghost use Rattle.xa_manager.specs.Answered.{connect_reply};
-    ghost use Rattle.xa_manager.specs.Once.{AreOnce};
-    ghost use Rattle.xa_manager.specs.Status.{status_of};
-    ghost use Rattle.xa_manager.specs.declared.together.Asked.{Asked};
+    ghost use Rattle.xa_model.specs.{declared.event.Event.Event, Answer.plain, Events.IsAsked, State.State};
+    ghost use Rattle.xa_manager.specs.{Answered.connect_reply, Once.AreOnce, Status.status_of, declared.together.Asked.Asked};
     ghost use Rattle.xa_room.specs.declared.manages.Manages.{Ghosts};
     ghost use Rattle.xa_sequencer.specs.Associates.{IsAssociated, IsLogEnd};
     ghost use Rattle.xa_sequencer.specs.GroupCommits.{ActsAs, AnswersAs, RestsAs, pending_count};

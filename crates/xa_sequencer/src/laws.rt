@@ -1,5 +1,4 @@
-ghost use Rattle.xa_sequencer.specs.Posted.{EachOfGroup};
-ghost use Rattle.xa_sequencer.specs.Stands.{GoesOnTwice};
+ghost use Rattle.xa_sequencer.specs.{Posted.EachOfGroup, Stands.GoesOnTwice};
 
 use crate::group_commits::GroupCommits;
 use xa_room::Start;

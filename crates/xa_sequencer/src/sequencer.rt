@@ -3,8 +3,7 @@ ghost use Rattle.std.specs.List.{AllByRecursion};
 ghost use Rattle.xa_frame.specs.Limits.{IsRequest, IsReply};
 ghost use Rattle.xa_manager.specs.Once.{AreOnce};
 ghost use Rattle.xa_model.specs.State.{State};
-ghost use Rattle.xa_room.specs.Status.{Tells};
-ghost use Rattle.xa_room.specs.Together.{IsToldOf};
+ghost use Rattle.xa_room.specs.{Status.Tells, Together.IsToldOf};
 ghost use Rattle.xa_sequencer.specs.Numbers.{Called, Connected, Left};
 ghost use Rattle.xa_sequencer.specs.Stands.{AllPromise, HasHistory, Stands};
 ghost use Rattle.xa_sequencer.specs.Together.{CalledTogether, Rests};
@@ -33,8 +32,7 @@ pub struct Sequencer<M: GroupCommits, S: Start> {
 }
 
 impl<M: GroupCommits, S: Start> Model for Sequencer<M, S> {
-    ghost use Rattle.xa_sequencer.specs.GroupCommits.{KeepsPending};
-    ghost use Rattle.xa_sequencer.specs.Stands.{HasHistory, Numbered};
+    ghost use Rattle.xa_sequencer.specs.{GroupCommits.KeepsPending, Stands.HasHistory, Stands.Numbered};
 
     ghost Value = { Numbered M };
 

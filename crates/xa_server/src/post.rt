@@ -33,8 +33,7 @@ pub(crate) struct Post<'a, M: GroupCommits, S: Start, L: Ledger, R> {
 impl<'a, M: GroupCommits, S: Start, L: Ledger, R: Clock + Wait> Post<'a, M, S, L, R> {
     ghost use Rattle.std.specs.Prelude.{◌≡◌, ◌<◌, All, IfOk};
     ghost use Rattle.xa_reactor.specs.Asking.{IsAnswered, TellsSome};
-    ghost use Rattle.xa_server.specs.Loops.{Called};
-    ghost use Rattle.xa_server.specs.Rounds.{IsWithin, TellsAtMost};
+    ghost use Rattle.xa_server.specs.{Loops.Called, Rounds.IsWithin, Rounds.TellsAtMost};
 
     pub(crate) fn new(
         rt: &'a R,

@@ -1,8 +1,7 @@
 //! A manager over two files, whose sessions are the connections of a port.
 ghost use Rattle.std.specs.Prelude.{◌≡◌, ◌↔◌, ◌++◌, ℕ, List, IfErr, IfOk, IsErrOf, OnOk, codes, string_bytes};
 ghost use Rattle.std.specs.declared.marker.Brand.{Brand};
-ghost use Rattle.xa_log.specs.Missing.{missing_of};
-ghost use Rattle.xa_log.specs.declared.missing.Missing.TheVariants.{Neither};
+ghost use Rattle.xa_log.specs.{Missing.missing_of, declared.missing.Missing.TheVariants.Neither};
 ghost use Rattle.xa_manager.specs.Opening.{IsBadSetting, OpenRefused};
 ghost use Rattle.xa_server.specs.Faults.{file_fault};
 ghost use Rattle.xa_server.specs.Served.{AreFiles, HasFailed, HasFailedBy, HasOpened, HasServed, IsFileFault};

@@ -1,8 +1,7 @@
 ghost use Rattle.arrayvec.specs.ArrayVec.{array_vec_len};
 ghost use Rattle.std.specs.Prelude.{◌≡◌, ◌≤◌, ◌+◌, List, ℕ, length, ◌++◌, Some, IfSome};
-ghost use Rattle.xa_xid.specs.Triple.{Triple, IsWithinLimits};
-ghost use Rattle.xa_xid.specs.Spelling.{bytes_of, BeginsWith};
-ghost use Rattle.xa_xid.specs.Reading.{xid_at, parts_at};
+ghost use Rattle.xa_xid.specs.{Triple.Triple, Triple.IsWithinLimits, Spelling.bytes_of, Spelling.BeginsWith, Reading.xid_at};
+ghost use Rattle.xa_xid.specs.{Reading.parts_at};
 
 use crate::xid::Xid;
 use arrayvec::ArrayVec;

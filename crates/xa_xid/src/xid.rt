@@ -1,8 +1,6 @@
 ghost use Rattle.std.specs.Prelude.{◌≡◌, ◌≢◌, ◌↔◌, IfOk, IsOk, ◌≤◌, ◌<◌, length, All};
-ghost use Rattle.xa_xid.specs.Fault.{xid_of};
-ghost use Rattle.xa_xid.specs.Triple.{IsXid, IsWithinLimits};
+ghost use Rattle.xa_xid.specs.{Fault.xid_of, Triple.IsXid, Triple.IsWithinLimits, declared.xid.TheConstants.NULL_FORMAT};
 ghost use Rattle.xa_limits.specs.declared.TheConstants.{MOST_PART};
-ghost use Rattle.xa_xid.specs.declared.xid.TheConstants.{NULL_FORMAT};
 
 use arrayvec::ArrayVec;
 use std::cmp::Ordering;
