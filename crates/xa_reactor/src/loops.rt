@@ -1,6 +1,7 @@
 //! Several loops.
 ghost use Rattle.std.specs.Prelude.{◌≡◌, IfOk, length, map};
 ghost use Rattle.xa_reactor.specs.Tending.{HasTended, HaveTended, SeedsHaveTended};
+ghost use Rattle.xa_reactor.specs.declared.loops.LoopFault.TheVariants.{Memory, Wait};
 
 use crate::common::{Common, Settings};
 use crate::listener::Listener;
@@ -29,9 +30,6 @@ pub enum LoopFault {
 }
 
 impl From<AllocError> for LoopFault {
-    ghost use Rattle.std.specs.Prelude.{◌≡◌};
-    ghost use Rattle.xa_reactor.specs.declared.loops.LoopFault.TheVariants.{Memory};
-
     ghost from_gives = { λ _ fault. fault ≡ Memory };
 
     fn from(_: AllocError) -> LoopFault {
@@ -40,9 +38,6 @@ impl From<AllocError> for LoopFault {
 }
 
 impl From<io::Error> for LoopFault {
-    ghost use Rattle.std.specs.Prelude.{◌≡◌};
-    ghost use Rattle.xa_reactor.specs.declared.loops.LoopFault.TheVariants.{Wait};
-
     ghost from_gives = { λ _ fault. fault ≡ Wait };
 
     fn from(_: io::Error) -> LoopFault {

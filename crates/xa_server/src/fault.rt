@@ -1,3 +1,7 @@
+ghost use Rattle.std.specs.Prelude.{◌≡◌};
+ghost use Rattle.xa_server.specs.declared.fault.ServerFault.TheVariants.{Memory};
+ghost use Rattle.xa_server.specs.Faults.{loop_fault};
+
 use crate::engine::MOST_LOOPS;
 use crate::serving::MOST_WORKERS;
 use std::alloc::AllocError;
@@ -23,9 +27,6 @@ pub enum ServerFault {
 }
 
 impl From<AllocError> for ServerFault {
-    ghost use Rattle.std.specs.Prelude.{◌≡◌};
-    ghost use Rattle.xa_server.specs.declared.fault.ServerFault.TheVariants.{Memory};
-
     ghost from_gives = { λ _ fault. fault ≡ Memory };
 
     fn from(_: AllocError) -> ServerFault {
@@ -34,9 +35,6 @@ impl From<AllocError> for ServerFault {
 }
 
 impl From<WorkFault> for ServerFault {
-    ghost use Rattle.std.specs.Prelude.{◌≡◌};
-    ghost use Rattle.xa_server.specs.declared.fault.ServerFault.TheVariants.{Memory};
-
     ghost from_gives = { λ _ fault. fault ≡ Memory };
 
     fn from(fault: WorkFault) -> ServerFault {
@@ -47,9 +45,6 @@ impl From<WorkFault> for ServerFault {
 }
 
 impl From<LoopFault> for ServerFault {
-    ghost use Rattle.std.specs.Prelude.{◌≡◌};
-    ghost use Rattle.xa_server.specs.Faults.{loop_fault};
-
     ghost from_gives = { λ fault told. told ≡ loop_fault fault };
 
     fn from(fault: LoopFault) -> ServerFault {

@@ -1,3 +1,7 @@
+ghost use Rattle.std.specs.Prelude.{◌≡◌};
+ghost use Rattle.xa_server.specs.declared.serve_fault.ServeFault.TheVariants.{Memory};
+ghost use Rattle.xa_server.specs.Faults.{opening_fault, serving_fault};
+
 use crate::fault::ServerFault;
 use crate::log_file::LogFile;
 use std::alloc::AllocError;
@@ -33,9 +37,6 @@ pub enum ServeFault<'a> {
 }
 
 impl From<AllocError> for ServeFault<'_> {
-    ghost use Rattle.std.specs.Prelude.{◌≡◌};
-    ghost use Rattle.xa_server.specs.declared.serve_fault.ServeFault.TheVariants.{Memory};
-
     ghost from_gives = { λ _ fault. fault ≡ Memory };
 
     fn from(_: AllocError) -> Self {
@@ -44,9 +45,6 @@ impl From<AllocError> for ServeFault<'_> {
 }
 
 impl From<ManagerFault> for ServeFault<'_> {
-    ghost use Rattle.std.specs.Prelude.{◌≡◌};
-    ghost use Rattle.xa_server.specs.Faults.{opening_fault};
-
     ghost from_gives = { λ fault told. told ≡ opening_fault fault };
 
     fn from(fault: ManagerFault) -> Self {
@@ -58,9 +56,6 @@ impl From<ManagerFault> for ServeFault<'_> {
 }
 
 impl From<ServerFault> for ServeFault<'_> {
-    ghost use Rattle.std.specs.Prelude.{◌≡◌};
-    ghost use Rattle.xa_server.specs.Faults.{serving_fault};
-
     ghost from_gives = { λ fault told. told ≡ serving_fault fault };
 
     fn from(fault: ServerFault) -> Self {

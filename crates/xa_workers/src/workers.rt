@@ -2,6 +2,7 @@ ghost use Rattle.std.specs.Prelude.{◌≡◌, ℕ, ◌+◌, ◌<◌, ◌≤◌,
 ghost use Rattle.xa_room.specs.Gone.{WasGone};
 ghost use Rattle.xa_workers.specs.Connections.{AreReports, Gathers, Runs, Works};
 ghost use Rattle.xa_workers.specs.Reports.{told};
+ghost use Rattle.xa_workers.specs.declared.workers.WorkFault.TheVariants.{Memory};
 
 use crate::gate::Gate;
 use crate::numbers::Numbers;
@@ -25,9 +26,6 @@ pub enum WorkFault {
 }
 
 impl From<AllocError> for WorkFault {
-    ghost use Rattle.std.specs.Prelude.{◌≡◌};
-    ghost use Rattle.xa_workers.specs.declared.workers.WorkFault.TheVariants.{Memory};
-
     ghost from_gives = { λ _ fault. fault ≡ Memory };
 
     fn from(_: AllocError) -> WorkFault {
