@@ -106,33 +106,31 @@ module _ {D : Type 0} (disks : Ghosts D) (a b : List ℕ) (log : LogView D) (sca
     alive = alive;
   }
 
-  opens_first : disks.seen log.disk ≡ a → disks.seen log.other ≡ b → log.on_first ≡ true → IsCurrent a b true scan → IsOpenPair disks bodies (logged (disks.seen log.other)) log
-  opens_first da db first it = record {
-    current = stood a da s.first_fits it.scan_is;
-    other = read_other disks log.log_bytes log.other two (subst (λ f. length f ≤ log.log_bytes) (sym db) s.second_fits) (subst (λ f. is_newer (take 8 f) ≡ false) (sym db) s.second_known);
-    quiet = read_quiet disks log.log_bytes log.other two (subst (λ f. length f ≤ log.log_bytes) (sym db) s.second_fits) (subst (λ f. is_newer (take 8 f) ≡ false) (sym db) s.second_known);
-    older = λ has.
-        let hb : has_log b ≡ true = subst (λ f. has_log f ≡ true) db has in
-        let more = (and_parts (has_log a) _ (sym it.choice)).1 in
-        let wins : beats true (logged a) (logged b) ≡ true = ⊎_elim (λ absent. absurd (cc (absent, ap not hb))) (λ x. x) (or_cases (not (has_log b)) _ more) in
-        ap (λ (t : Bool). beats t bodies (logged (disks.seen log.other))) first ∙ ap (λ (l : List (List ℕ)). beats true l (logged (disks.seen log.other))) (sym (scan_logged a scan it.scan_is)) ∙ ap (λ (f : List ℕ). beats true (logged a) (logged f)) db ∙ wins;
-  }
-
-  opens_second : disks.seen log.disk ≡ b → disks.seen log.other ≡ a → log.on_first ≡ false → IsCurrent a b false scan → IsOpenPair disks bodies (logged (disks.seen log.other)) log
-  opens_second db da first it = record {
-    current = stood b db s.second_fits it.scan_is;
-    other = read_other disks log.log_bytes log.other two (subst (λ f. length f ≤ log.log_bytes) (sym da) s.first_fits) (subst (λ f. is_newer (take 8 f) ≡ false) (sym da) s.first_known);
-    quiet = read_quiet disks log.log_bytes log.other two (subst (λ f. length f ≤ log.log_bytes) (sym da) s.first_fits) (subst (λ f. is_newer (take 8 f) ≡ false) (sym da) s.first_known);
-    older = λ has.
-        let ha : has_log a ≡ true = subst (λ f. has_log f ≡ true) da has in
-        let less : beats true (logged a) (logged b) ≡ false = ⊎_elim (λ absent. absurd (cc (absent, ha))) (λ x. (or_parts (not (has_log b)) _ x).1) (and_cases (has_log a) _ (sym it.choice)) in
-        ap (λ (t : Bool). beats t bodies (logged (disks.seen log.other))) first ∙ ap (λ (l : List (List ℕ)). beats false l (logged (disks.seen log.other))) (sym (scan_logged b scan it.scan_is)) ∙ ap (λ (f : List ℕ). beats false (logged b) (logged f)) da ∙ beats_other (logged a) (logged b) less;
-  }
+  opens_by : (mine other : List ℕ) → disks.seen log.disk ≡ mine → disks.seen log.other ≡ other → length mine ≤ log.log_bytes → length other ≤ log.log_bytes → is_newer (take 8 other) ≡ false
+      → IsScan mine scan → (has_log other ≡ true → beats log.on_first (logged mine) (logged other) ≡ true) → IsOpenPair disks bodies (logged (disks.seen log.other)) log
+  opens_by mine other is other_is fits other_fits known it wins =
+      let short = subst (λ f. length f ≤ log.log_bytes) (sym other_is) other_fits in
+      let plain = subst (λ f. is_newer (take 8 f) ≡ false) (sym other_is) known in
+      record {
+        current = stood mine is fits it;
+        other = read_other disks log.log_bytes log.other two short plain;
+        quiet = read_quiet disks log.log_bytes log.other two short plain;
+        older = λ has.
+            ap (λ (l : List (List ℕ)). beats log.on_first l (logged (disks.seen log.other))) (sym (scan_logged mine scan it))
+            ∙ ap (λ (f : List ℕ). beats log.on_first (logged mine) (logged f)) other_is ∙ wins (subst (λ f. has_log f ≡ true) other_is has);
+      }
 
   -- what was read stands on the two disks
   pub opens : (t : Bool) → log.on_first ≡ t → disks.seen (cond t log.disk log.other) ≡ a → disks.seen (cond t log.other log.disk) ≡ b → IsCurrent a b t scan → IsOpenPair disks bodies (logged (disks.seen log.other)) log
-  opens true first x y it = opens_first x y first it
-  opens false first x y it = opens_second y x first it
+  opens true first x y it =
+      opens_by a b x y s.first_fits s.second_fits s.second_known it.scan_is (λ has.
+      let more = (and_parts (has_log a) _ (sym it.choice)).1 in
+      let wins : beats true (logged a) (logged b) ≡ true = ⊎_elim (λ absent. absurd (cc (absent, ap not has))) (λ z. z) (or_cases (not (has_log b)) _ more) in
+      ap (λ (t : Bool). beats t (logged a) (logged b)) first ∙ wins)
+  opens false first x y it =
+      opens_by b a y x s.second_fits s.first_fits s.first_known it.scan_is (λ has.
+      let less : beats true (logged a) (logged b) ≡ false = ⊎_elim (λ absent. absurd (cc (absent, has))) (λ z. (or_parts (not (has_log b)) _ z).1) (and_cases (has_log a) _ (sym it.choice)) in
+      ap (λ (t : Bool). beats t (logged b) (logged a)) first ∙ beats_other (logged a) (logged b) less)
 
 -- what was read of two files is read of what a crash leaves of them
 pub opened_leaves : (most : ℕ) (a b : List ℕ) (found : List (List ℕ)) (c d : List ℕ) → c ≡ a → d ≡ b → pair_fault most a b ≡ None → logged_pair a b ≡ found → (pair_fault most c d ≡ None) × (logged_pair c d ≡ found)

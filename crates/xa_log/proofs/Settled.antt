@@ -1,5 +1,5 @@
 -- A group that was written is settled: what is said of its append, from the log before it on.
-use Rattle.std.proofs.Common.{◌≡◌, ◌≢◌, ◌⊎◌, inl, inr, ℕ, ◌+◌, ◌-◌, ◌≤◌, true, false, List, length, refl, sym, ◌∙◌, subst, arith}
+use Rattle.std.proofs.Common.{◌≡◌, ◌≢◌, ◌⊎◌, inl, inr, ℕ, ◌+◌, ◌-◌, ◌≤◌, true, false, List, length, refl, sym, ◌∙◌, ap, subst, arith}
 use Rattle.std.specs.Prelude.{max}
 use Rattle.xa_disk.specs.declared.disk.Disk.{Ghosts}
 use Rattle.xa_disk.specs.Disk.{Torn}
@@ -36,40 +36,43 @@ module _ {D : Type 0} (disks : Ghosts D) (group : List (List ℕ)) (w : Written)
   pub passed : disks.honest → TimePasses disks (Torn mid.end (length (ready_range_of old group))) old.disk mid.disk
   passed honest = subst (λ e. TimePasses disks (Torn e (length (ready_range_of old group))) old.disk mid.disk) (sym h.ends.0) (h.time honest)
 
--- what stays of the log, whatever the group came to
-pub record Beside {D : Type 0} (mid new : LogView D) : Type 0 where
-  pub log_bytes : new.log_bytes ≡ mid.log_bytes
-  pub format : new.format ≡ mid.format
-  pub other : new.other ≡ mid.other
-  pub on_first : new.on_first ≡ mid.on_first
-  pub other_known : new.other_known ≡ mid.other_known
-  pub room : KeepsRoom mid new
+-- what its sync, or the zeros behind a sync that failed, came to on the disk
+pub record Settles {D : Type 0} (disks : Ghosts D) (group : List (List ℕ)) (old mid : LogView D) (o : Appended) (disk : D) : Type 0 where
+  pub not_full : o ≢ Full
+  pub went : disks.honest → PutAheadBecame disks o mid.end (range_of old group) (ready_range_of old group) old.disk disk
+  pub time : disks.honest → TimePasses disks (Torn mid.end (length (ready_range_of old group))) old.disk disk
+  pub calls : AppendsAhead (ready_for old (as_one group)) o (disks.failures old.disk) (disks.failures disk) (disks.counts old.disk) (disks.counts disk)
+
+-- of the log no more changes, whatever the group came to
+abbrev pub Beside : {D : Type 0} → LogView D → LogView D → Type 0
+Beside mid new =
+    new ≡ record mid { disk = new.disk; end = new.end; digest = new.digest; generation = new.generation; known = new.known; lost = new.lost; room = new.room }
 
 module _ {D : Type 0} (disks : Ghosts D)
     (tears_torn : (f : List ℕ) (at : ℕ) (bytes g : List ℕ) → disks.tears f at bytes g → Torn at (length bytes) f g)
     (only_now : (d : D) (c : List ℕ) → disks.left_since d (disks.moment d) c → disks.may_leave d c)
-    (group : List (List ℕ)) (w : Written) (old mid new : LogView D) (h : HasWritten disks group w old mid) (o : Appended) (not_full : o ≢ Full)
-    (went_there : disks.honest → PutAheadBecame disks o mid.end (range_of old group) (ready_range_of old group) old.disk new.disk)
-    (time_there : disks.honest → TimePasses disks (Torn mid.end (length (ready_range_of old group))) old.disk new.disk)
-    (calls : AppendsAhead (ready_for old (as_one group)) o (disks.failures old.disk) (disks.failures new.disk) (disks.counts old.disk) (disks.counts new.disk))
-    (b : Beside mid new) where
+    (group : List (List ℕ)) (w : Written) (old mid new : LogView D) (h : HasWritten disks group w old mid) (o : Appended)
+    (settles : Settles disks group old mid o new.disk) (b : Beside mid new) (keeps : KeepsRoom mid new) where
   went : disks.honest → PutAheadBecame disks o old.end (range_of old group) (ready_range_of old group) old.disk new.disk
-  went honest = subst (λ e. PutAheadBecame disks o e (range_of old group) (ready_range_of old group) old.disk new.disk) h.ends.0 (went_there honest)
+  went honest = subst (λ e. PutAheadBecame disks o e (range_of old group) (ready_range_of old group) old.disk new.disk) h.ends.0 (settles.went honest)
 
   time : disks.honest → TimePasses disks (Torn old.end (length (ready_range_of old group))) old.disk new.disk
-  time honest = subst (λ e. TimePasses disks (Torn e (length (ready_range_of old group))) old.disk new.disk) h.ends.0 (time_there honest)
+  time honest = subst (λ e. TimePasses disks (Torn e (length (ready_range_of old group))) old.disk new.disk) h.ends.0 (settles.time honest)
 
   log_bytes : new.log_bytes ≡ old.log_bytes
-  log_bytes = b.log_bytes ∙ h.settings.0
+  log_bytes = ap (λ l. l.log_bytes) b ∙ h.settings.0
 
   format : new.format ≡ old.format
-  format = b.format ∙ h.settings.1
+  format = ap (λ l. l.format) b ∙ h.settings.1
 
   other : new.other ≡ old.other
-  other = b.other ∙ h.other.0
+  other = ap (λ l. l.other) b ∙ h.other.0
 
   other_known : new.other_known ≡ old.other_known
-  other_known = b.other_known ∙ h.known.1
+  other_known = ap (λ l. l.other_known) b ∙ h.known.1
+
+  on_first : new.on_first ≡ old.on_first
+  on_first = ap (λ l. l.on_first) b ∙ h.other.1
 
   abbrev Room : Type 0
   Room = (old.end + (40 + as_one group + ready_for old (as_one group)) ≤ old.log_bytes) × (new.log_bytes ≡ old.log_bytes) × (new.format ≡ old.format)
@@ -84,17 +87,17 @@ module _ {D : Type 0} (disks : Ghosts D)
     answer = answer;
     any_moment = λ honest stand s. range_moments disks stand group old s (only_now old.disk) h.sizes new.disk (ready_for old (as_one group)) w.to (ready_range_of old group)
         (length-closed_by (ready_for old (as_one group)) old.digest group) h.to h.fits (time honest);
-    pair = λ honest stand stood p. appends_group disks stand group stood old new p o (answer honest stand p.current) other (b.on_first ∙ h.other.1) log_bytes;
+    pair = λ honest stand stood p. appends_group disks stand group stood old new p o (answer honest stand p.current) other on_first log_bytes;
     moves = moves;
     numbers = numbers;
-    calls = calls;
-    kept = λ low same. kept_ahead _ o _ _ _ _ calls low same not_full;
-    not_full = not_full;
+    calls = settles.calls;
+    kept = λ low same. kept_ahead _ o _ _ _ _ settles.calls low same settles.not_full;
+    not_full = settles.not_full;
     settings = log_bytes;
-    other = (other, b.on_first ∙ h.other.1);
+    other = (other, on_first);
     writes = λ honest is. writes_group disks group old new.disk (ready_for old (as_one group)) o refl is (went honest);
     known = known;
-    room = λ n holds. b.room n (h.room n holds);
+    room = λ n holds. keeps n (h.room n holds);
   }
 
   pub settled_kept : o ≡ Kept → new.end ≡ w.to - 4 → new.digest ≡ w.digest → new.generation ≡ w.generation → new.lost ≡ false → new.known ≡ max mid.known w.to → AppendsGroup disks group o old new
@@ -126,20 +129,20 @@ module _ {D : Type 0} (disks : Ghosts D)
 
     refused : (o ≡ Refused) ⊎ (o ≡ Full) → o ≡ Refused
     refused (inl is) = is
-    refused (inr is) = absurd (not_full is)
+    refused (inr is) = absurd (settles.not_full is)
 
     pub settled_refused : (o ≡ Refused) ⊎ (o ≡ Full) → new.lost ≡ false → AppendsGroup disks group o old new
     settled_refused is alive =
         let lost : new.lost ≡ old.lost = alive ∙ sym h.alive in
         with_parts
-        (λ honest stand s. answers_refused disks stand group (ready_for old (as_one group)) old new tears_torn s h.some h.sizes room o is not_full (went honest) end digest number lost)
+        (λ honest stand s. answers_refused disks stand group (ready_for old (as_one group)) old new tears_torn s h.some h.sizes room o is settles.not_full (went honest) end digest number lost)
         (subst (λ x. Moves x (as_one group) old new) (sym (refused is)) (end, format, digest, lost, far, other_known))
         (subst (λ x. Renumbers x (first_of_group group) old new) (sym (refused is)) number)
         known
 
     lost_or : (o ≡ Lost) ⊎ (o ≡ Full) → o ≡ Lost
     lost_or (inl is) = is
-    lost_or (inr is) = absurd (not_full is)
+    lost_or (inr is) = absurd (settles.not_full is)
 
     pub settled_lost : (o ≡ Lost) ⊎ (o ≡ Full) → new.lost ≡ true → AppendsGroup disks group o old new
     settled_lost is lost =

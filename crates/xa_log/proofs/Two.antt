@@ -62,6 +62,10 @@ replaced disks bodies stood old new s format fresh less o d is left disk other m
       quiet,
     )
 
+pub kept_pair : {D : Type 0} (disks : Ghosts D) (bodies stood fresh : List (List ℕ)) (new : LogView D) (o : Appended) → o ≡ Kept
+    → Pair disks fresh bodies new × IsQuiet disks bodies new.other → Checkpoints disks o bodies stood fresh new
+kept_pair disks bodies stood fresh new o is kept = subst (λ x. Checkpoints disks x bodies stood fresh new) (sym is) kept
+
 module _ {D : Type 0} (disks : Ghosts D)
     (bodies stood : List (List ℕ)) (old new : LogView D) (p : Pair disks bodies stood old) where
   -- the other file stays
@@ -80,14 +84,6 @@ module _ {D : Type 0} (disks : Ghosts D)
   -- the log's generation is that of its bodies
   above : (fresh : List (List ℕ)) → old.generation < generation fresh → generation bodies < generation fresh
   above fresh less = subst (λ (n : ℕ). n < generation fresh) p.current.number less
-
-  pub kept_pair : (format : Format) (fresh : List (List ℕ)) → old.generation < generation fresh → (o : Appended) (d : D) → o ≡ Kept
-      → Left format o fresh d → new.disk ≡ d → new.other ≡ old.disk → new.log_bytes ≡ old.log_bytes → new.format ≡ format
-      → new.end ≡ length (text format fresh) → new.digest ≡ last (start format) fresh → new.generation ≡ generation fresh → new.lost ≡ old.lost
-      → Checkpoints disks o bodies stood fresh new
-  kept_pair format fresh less o d is left disk other most form end digest number lost =
-      subst (λ x. Checkpoints disks x bodies stood fresh new) (sym is)
-      (replaced disks bodies stood old new p.current format fresh less o d is left disk other most form end digest number lost)
 
   -- the current file stays
   rests_still : new.disk ≡ old.disk → new.format ≡ old.format → Rests new.format bodies (disks.seen new.disk)

@@ -1,6 +1,5 @@
 use Rattle.std.proofs.Common.{arith, ◌∙◌, rules, ◌+◌, List, ℕ, take, drop, ap, length}
-use Rattle.xa_disk.specs.Disk.{Same}
-use Rattle.xa_log.proofs.Torn.{then}
+use Rattle.xa_log.proofs.Torn.{same_then}
 use Rattle.xa_log.proofs.Fetch.{fetch_more, joined, on_fault}
 use Rattle.xa_log.proofs.Pieces.{length-part}
 use Rattle.xa_log.proofs.found.read_pieces.Goals as goal
@@ -31,7 +30,7 @@ pieces-preserved g c =
           (c.pieces.invariant.read h front) (c.read_at.auto.into ∙ n ∙ omega arith)
           ((c.in_ok-read_at.ensures.value h).bytes_are ∙ ap (λ (f : List ℕ). take (length c.read_at.new.into) (drop (c.args.at + c.pieces.done) f)) same);
       same = search rules;
-      time = λ h. then Same (λ a b d p q. q ∙ p) _ _ _ _ _ _ _ _ _ (c.pieces.invariant.time h) (c.in_ok-read_at.ensures.time h);
+      time = λ h. same_then (c.pieces.invariant.time h) (c.in_ok-read_at.ensures.time h);
       faults = search rules;
       fetched = λ start f. fetch_more c.args.len (c.args.at + c.pieces.done) _ (c.args.at + (c.pieces.done + c.min.result)) start _ _ (c.pieces.invariant.fetched start f)
           (omega arith) (omega (arith, n)) (omega arith) (omega (arith, n)) (λ more. omega (arith, n)) c.read_at.ensures.calls;

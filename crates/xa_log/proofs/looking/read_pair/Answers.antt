@@ -1,13 +1,12 @@
 use Rattle.std.proofs.Common.{arith, ◌∙◌, ◌≡◌, List, ℕ, ap, sym, subst, length, true, false, MatchResult}
 use Rattle.xa_log.specs.declared.fault.OpenFault.TheVariants.{NotALog}
-use Rattle.xa_disk.specs.Disk.{Same}
 use Rattle.xa_log.specs.Calls.{MOST_BRIEF}
 use Rattle.xa_log.specs.Looking.{IsFront, IsHead, IsCurrent, either_newer, either_log}
 use Rattle.xa_log.proofs.Choosing.{pair_value}
 use Rattle.xa_log.proofs.Fetch.{reads_some, some_within}
 use Rattle.xa_log.proofs.Known.{measures}
 use Rattle.xa_log.proofs.Looks.{looks_by, looks_second, briefly, little_by, fronts_short, heads_short, current_short}
-use Rattle.xa_log.proofs.Torn.{then}
+use Rattle.xa_log.proofs.Torn.{same_then}
 use Rattle.xa_log.proofs.looking.read_pair.Goals as goal
 
 pub returns-in_err-fronts-clause-calls : goal.returns-in_err-fronts-clause-calls
@@ -91,32 +90,22 @@ returns-clause-little g c =
     (λ h. fronts.same_second h ∙ c.in_ok-lens.ensures.same_second h))
 
 pub returns-in_err-fronts-clause-time : goal.returns-in_err-fronts-clause-time
-returns-in_err-fronts-clause-time g c h = then Same (λ a b d p q. q ∙ p) _ _ _ _ _ _ _ _ _ (c.in_ok-lens.ensures.time h) (c.in_err-fronts.ensures.time h)
+returns-in_err-fronts-clause-time g c h = same_then (c.in_ok-lens.ensures.time h) (c.in_err-fronts.ensures.time h)
 
 pub returns-in_err-heads-clause-time : goal.returns-in_err-heads-clause-time
-returns-in_err-heads-clause-time g c h =
-    then Same (λ a b d p q. q ∙ p) _ _ _ _ _ _ _ _ _ (c.in_ok-lens.ensures.time h)
-    (then Same (λ a b d p q. q ∙ p) _ _ _ _ _ _ _ _ _ (c.in_ok-fronts.ensures.time h) (c.in_err-heads.ensures.time h))
+returns-in_err-heads-clause-time g c h = same_then (c.in_ok-lens.ensures.time h) (same_then (c.in_ok-fronts.ensures.time h) (c.in_err-heads.ensures.time h))
 
 pub returns-clause-time : goal.returns-clause-time
-returns-clause-time g c h =
-    then Same (λ a b d p q. q ∙ p) _ _ _ _ _ _ _ _ _ (c.in_ok-lens.ensures.time h)
-    (then Same (λ a b d p q. q ∙ p) _ _ _ _ _ _ _ _ _ (c.in_ok-fronts.ensures.time h)
-    (then Same (λ a b d p q. q ∙ p) _ _ _ _ _ _ _ _ _ (c.in_ok-heads.ensures.time h) (c.read_current.ensures.time h)))
+returns-clause-time g c h = same_then (c.in_ok-lens.ensures.time h) (same_then (c.in_ok-fronts.ensures.time h) (same_then (c.in_ok-heads.ensures.time h) (c.read_current.ensures.time h)))
 
 pub returns-in_err-fronts-clause-time_second : goal.returns-in_err-fronts-clause-time_second
-returns-in_err-fronts-clause-time_second g c h = then Same (λ a b d p q. q ∙ p) _ _ _ _ _ _ _ _ _ (c.in_ok-lens.ensures.time_second h) (c.in_err-fronts.ensures.time_second h)
+returns-in_err-fronts-clause-time_second g c h = same_then (c.in_ok-lens.ensures.time_second h) (c.in_err-fronts.ensures.time_second h)
 
 pub returns-in_err-heads-clause-time_second : goal.returns-in_err-heads-clause-time_second
-returns-in_err-heads-clause-time_second g c h =
-    then Same (λ a b d p q. q ∙ p) _ _ _ _ _ _ _ _ _ (c.in_ok-lens.ensures.time_second h)
-    (then Same (λ a b d p q. q ∙ p) _ _ _ _ _ _ _ _ _ (c.in_ok-fronts.ensures.time_second h) (c.in_err-heads.ensures.time_second h))
+returns-in_err-heads-clause-time_second g c h = same_then (c.in_ok-lens.ensures.time_second h) (same_then (c.in_ok-fronts.ensures.time_second h) (c.in_err-heads.ensures.time_second h))
 
 pub returns-clause-time_second : goal.returns-clause-time_second
-returns-clause-time_second g c h =
-    then Same (λ a b d p q. q ∙ p) _ _ _ _ _ _ _ _ _ (c.in_ok-lens.ensures.time_second h)
-    (then Same (λ a b d p q. q ∙ p) _ _ _ _ _ _ _ _ _ (c.in_ok-fronts.ensures.time_second h)
-    (then Same (λ a b d p q. q ∙ p) _ _ _ _ _ _ _ _ _ (c.in_ok-heads.ensures.time_second h) (c.read_current.ensures.time_second h)))
+returns-clause-time_second g c h = same_then (c.in_ok-lens.ensures.time_second h) (same_then (c.in_ok-fronts.ensures.time_second h) (same_then (c.in_ok-heads.ensures.time_second h) (c.read_current.ensures.time_second h)))
 
 pub returns-clause-end : goal.returns-clause-end
 returns-clause-end g c = c.read_current.ensures.end

@@ -1,8 +1,7 @@
-use Rattle.std.proofs.Common.{◌≡◌, ◌∙◌, ◌+◌, length, take, arith}
+use Rattle.std.proofs.Common.{◌≡◌, ◌+◌, length, take, arith}
 use Rattle.std.proofs.lemmas.Result.{err_from_is_err_and}
-use Rattle.xa_disk.specs.Disk.{Same}
 use Rattle.xa_log.proofs.Fetch.{reads_none, reads_some, reads_upto, looked, looked_format, looked_front, looked_records, read_kinds, some_within, any_reach}
-use Rattle.xa_log.proofs.Torn.{then}
+use Rattle.xa_log.proofs.Torn.{same_then}
 use Rattle.xa_log.proofs.reading.read_whole.Goals as goal
 
 pub returns-in_err-len-clause-calls : goal.returns-in_err-len-clause-calls
@@ -18,21 +17,16 @@ pub returns-then-len-clause-calls_once : goal.returns-then-len-clause-calls_once
 returns-then-len-clause-calls_once g c h = reads_none _ _ _ c.in_ok-len.ensures.calls
 
 pub returns-in_err-span-clause-time : goal.returns-in_err-span-clause-time
-returns-in_err-span-clause-time g c h = then Same (λ a b d p q. q ∙ p) _ _ _ _ _ _ _ _ _ (c.in_ok-len.ensures.time h) (c.in_err-span.ensures.time h)
+returns-in_err-span-clause-time g c h = same_then (c.in_ok-len.ensures.time h) (c.in_err-span.ensures.time h)
 
 pub returns-in_err-format-clause-time : goal.returns-in_err-format-clause-time
-returns-in_err-format-clause-time g c h = then Same (λ a b d p q. q ∙ p) _ _ _ _ _ _ _ _ _ (c.in_ok-len.ensures.time h) (c.in_ok-span.ensures.time h)
+returns-in_err-format-clause-time g c h = same_then (c.in_ok-len.ensures.time h) (c.in_ok-span.ensures.time h)
 
 pub returns-in_err-first-clause-time : goal.returns-in_err-first-clause-time
-returns-in_err-first-clause-time g c h =
-    then Same (λ a b d p q. q ∙ p) _ _ _ _ _ _ _ _ _ (c.in_ok-len.ensures.time h)
-    (then Same (λ a b d p q. q ∙ p) _ _ _ _ _ _ _ _ _ (c.in_ok-span.ensures.time h) (c.in_err-first.ensures.time h))
+returns-in_err-first-clause-time g c h = same_then (c.in_ok-len.ensures.time h) (same_then (c.in_ok-span.ensures.time h) (c.in_err-first.ensures.time h))
 
 pub returns-clause-time : goal.returns-clause-time
-returns-clause-time g c h =
-    then Same (λ a b d p q. q ∙ p) _ _ _ _ _ _ _ _ _ (c.in_ok-len.ensures.time h)
-    (then Same (λ a b d p q. q ∙ p) _ _ _ _ _ _ _ _ _ (c.in_ok-span.ensures.time h)
-    (then Same (λ a b d p q. q ∙ p) _ _ _ _ _ _ _ _ _ (c.in_ok-first.ensures.time h) (c.read_records.ensures.time h)))
+returns-clause-time g c h = same_then (c.in_ok-len.ensures.time h) (same_then (c.in_ok-span.ensures.time h) (same_then (c.in_ok-first.ensures.time h) (c.read_records.ensures.time h)))
 
 pub returns-in_err-span-clause-calls : goal.returns-in_err-span-clause-calls
 returns-in_err-span-clause-calls g c =

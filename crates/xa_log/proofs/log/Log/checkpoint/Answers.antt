@@ -1,17 +1,50 @@
-use Rattle.std.proofs.Common.{rules, ◌≡◌, ◌∙◌, ap, sym, subst, ℕ, ◌+◌, ◌-◌, ◌^◌, ◌<◌, ◌≤◌, min, length, refl, arith}
+use Rattle.std.proofs.Common.{rules, ◌≡◌, ◌∙◌, ap, sym, subst, ℕ, List, ◌+◌, ◌-◌, ◌^◌, ◌<◌, ◌≤◌, min, length, refl, arith}
+use Rattle.xa_disk.specs.Time.{LeavesOnly}
 use Rattle.xa_log.specs.Ahead.{IsKnown}
 use Rattle.xa_log.specs.Chain.{newest, start, text, records}
-use Rattle.xa_log.specs.Checkpoint.{IsOther}
+use Rattle.xa_log.specs.Checkpoint.{IsOther, LeavesAny, Checkpointed}
 use Rattle.xa_log.specs.LogFields.{shown}
 use Rattle.xa_log.specs.Pair.{generation}
 use Rattle.xa_log.specs.Stands.{Stands}
 use Rattle.xa_log.specs.TwoFiles.{Pair}
+use Rattle.xa_log.specs.declared.appending.Appended.TheVariants.{Kept}
 use Rattle.xa_log.proofs.Cleared.{cleared_by}
 use Rattle.xa_log.proofs.Known.{known_swapped, known_beside}
 use Rattle.xa_log.proofs.Records.{length-text}
 use Rattle.xa_log.proofs.Two.{replaced, kept_pair, refused_pair, lost_pair, other_still, wrote_kept, wrote_lost, wrote_refused, moments_of, kept_by}
 use Rattle.xa_log.proofs.Viewed.{moments_seen, of_fields}
 use Rattle.xa_log.proofs.log.Log.checkpoint.Goals as goal
+use Rattle.xa_log.proofs.log.Log.checkpoint.Goals.{After-checkpoint_on-outcome}
+
+-- what holds once the three parts were tried, whatever they came to
+module _ (g : _) (c : goal.After-checkpoint_on-outcome g) where
+  above : c.self.inside.generation < generation c.args.bodies.now
+  above = of_fields (λ l. l.generation < generation c.args.bodies.now) c.self.view_is c.requires.above
+
+  pair : (old stood : List (List ℕ)) → Pair g.D.Disk old stood c.args.self.now → Pair g.D.Disk old stood (shown c.self.inside)
+  pair old stood is = of_fields (λ l. Pair g.D.Disk old stood l) c.self.view_is is
+
+  room : 12 + (length (records (start c.newest-format.result) c.args.bodies.now) + c.zeros_behind-more.result) ≤ c.self.inside.log_bytes
+  room = omega (arith, c.in-Some.ensures.some.0, c.zeros_behind-more.ensures.within, length-text c.newest-format.result c.args.bodies.now)
+
+  came : g.D.Disk.honest → (stood : List (List ℕ)) → IsOther g.D.Disk c.self.inside.log_bytes stood c.self.inside.other
+      → Checkpointed g.D.Disk c.checkpoint_on-outcome.result.0 c.self.inside.log_bytes c.newest-format.result stood c.args.bodies.now
+      c.self.inside.other c.checkpoint_on-outcome.new.disk
+  came h stood other = c.checkpoint_on-outcome.ensures.answer h c.self.inside.log_bytes stood room other
+
+  module _ (now : _) (is : now ≡ c.checkpoint_on-outcome.new.disk) where
+    moments : g.D.Disk.honest → (old stood : List (List ℕ)) → Pair g.D.Disk old stood c.args.self.now
+        → LeavesOnly g.D.Disk c.args.self.now.other now (LeavesAny c.args.self.now.log_bytes newest stood c.args.bodies.now)
+    moments h old stood p = moments_seen c.self.view_is
+        (moments_of g.D.Disk c.self.inside.log_bytes c.newest-format.result stood c.args.bodies.now c.self.inside.other c.checkpoint_on-outcome.new.disk now is
+        c.newest-format.ensures (c.checkpoint_on-outcome.ensures.any_moment h c.self.inside.log_bytes stood room (pair old stood p).other))
+
+    none_failed : g.D.Disk.failures c.args.self.now.other < 2 ^ 64 - 1 → g.D.Disk.failures now ≡ g.D.Disk.failures c.args.self.now.other
+        → c.checkpoint_on-outcome.result.0 ≡ Kept
+    none_failed few was =
+        let other = ap (λ l. g.D.Disk.failures l.other) (sym c.self.view_is) in
+        kept_by g.D.Disk.failures _ c.checkpoint_on-outcome.new.disk now _ is c.checkpoint_on-outcome.ensures.cause
+        (subst (λ n. n < 2 ^ 64 - 1) other few) (was ∙ other) c.checkpoint_on-outcome.ensures.not_full
 
 pub returns-in-None-clause-any_moment : goal.returns-in-None-clause-any_moment
 returns-in-None-clause-any_moment g c h old stood p =
@@ -19,133 +52,61 @@ returns-in-None-clause-any_moment g c h old stood p =
     other_still g.D.Disk old stood log log p (g.met.D.Disk.only_now log.other) newest c.args.bodies.now
 
 pub returns-in-Kept-clause-any_moment : goal.returns-in-Kept-clause-any_moment
-returns-in-Kept-clause-any_moment g c h old stood is =
-    let p = of_fields (λ l. Pair g.D.Disk old stood l) c.self.view_is is in
-    let old_log = shown c.self.inside in
-    let most = old_log.log_bytes in
-    let fresh = c.args.bodies.now in
-    let wrote = c.checkpoint_on-outcome in
-    let format = c.newest-format.result in
-    let end : c.in-Some.end ≡ length (text format c.args.bodies.now) = c.in-Some.ensures.some.0 in
-    let room : 12 + (length (records (start format) c.args.bodies.now) + c.zeros_behind-more.result) ≤ c.self.inside.log_bytes =
-    omega (arith, c.in-Some.ensures.some.0, c.zeros_behind-more.ensures.within, length-text format c.args.bodies.now) in
-    moments_seen c.self.view_is
-    (moments_of g.D.Disk most format stood fresh old_log.other wrote.new.disk _ (wrote_kept _ _ wrote.new.disk c.in-Kept.is c.swap.ensures.x_after)
-    c.newest-format.ensures (wrote.ensures.any_moment h most stood room p.other))
+returns-in-Kept-clause-any_moment g c h old stood p =
+    moments g (goal.at.returns-in-Kept-clause-any_moment g c).After-checkpoint_on-outcome _
+    (wrote_kept _ _ c.checkpoint_on-outcome.new.disk c.in-Kept.is c.swap.ensures.x_after) h old stood p
 
 pub returns-in-Lost-clause-any_moment : goal.returns-in-Lost-clause-any_moment
-returns-in-Lost-clause-any_moment g c h old stood is =
-    let p = of_fields (λ l. Pair g.D.Disk old stood l) c.self.view_is is in
-    let old_log = shown c.self.inside in
-    let most = old_log.log_bytes in
-    let fresh = c.args.bodies.now in
-    let wrote = c.checkpoint_on-outcome in
-    let format = c.newest-format.result in
-    let end : c.in-Some.end ≡ length (text format c.args.bodies.now) = c.in-Some.ensures.some.0 in
-    let room : 12 + (length (records (start format) c.args.bodies.now) + c.zeros_behind-more.result) ≤ c.self.inside.log_bytes =
-    omega (arith, c.in-Some.ensures.some.0, c.zeros_behind-more.ensures.within, length-text format c.args.bodies.now) in
-    moments_seen c.self.view_is
-    (moments_of g.D.Disk most format stood fresh old_log.other wrote.new.disk _ (wrote_lost _ _ wrote.new.disk c.in-Lost.is refl)
-    c.newest-format.ensures (wrote.ensures.any_moment h most stood room p.other))
+returns-in-Lost-clause-any_moment g c h old stood p =
+    moments g (goal.at.returns-in-Lost-clause-any_moment g c).After-checkpoint_on-outcome _
+    (wrote_lost _ _ c.checkpoint_on-outcome.new.disk c.in-Lost.is refl) h old stood p
 
 pub returns-in-Refused-clause-any_moment : goal.returns-in-Refused-clause-any_moment
-returns-in-Refused-clause-any_moment g c h old stood is =
-    let p = of_fields (λ l. Pair g.D.Disk old stood l) c.self.view_is is in
-    let old_log = shown c.self.inside in
-    let most = old_log.log_bytes in
-    let fresh = c.args.bodies.now in
-    let wrote = c.checkpoint_on-outcome in
-    let format = c.newest-format.result in
-    let end : c.in-Some.end ≡ length (text format c.args.bodies.now) = c.in-Some.ensures.some.0 in
-    let room : 12 + (length (records (start format) c.args.bodies.now) + c.zeros_behind-more.result) ≤ c.self.inside.log_bytes =
-    omega (arith, c.in-Some.ensures.some.0, c.zeros_behind-more.ensures.within, length-text format c.args.bodies.now) in
-    moments_seen c.self.view_is
-    (moments_of g.D.Disk most format stood fresh old_log.other wrote.new.disk _ (wrote_refused _ _ wrote.new.disk c.in-Refused.is refl)
-    c.newest-format.ensures (wrote.ensures.any_moment h most stood room p.other))
+returns-in-Refused-clause-any_moment g c h old stood p =
+    moments g (goal.at.returns-in-Refused-clause-any_moment g c).After-checkpoint_on-outcome _
+    (wrote_refused _ _ c.checkpoint_on-outcome.new.disk c.in-Refused.is refl) h old stood p
 
 pub returns-in-Kept-clause-replaces : goal.returns-in-Kept-clause-replaces
 returns-in-Kept-clause-replaces g c h old stood stands is_other kept =
-    let s = of_fields (λ l. Stands g.D.Disk old l) c.self.view_is stands in
-    let o = of_fields (λ l. IsOther g.D.Disk l.log_bytes stood l.other) c.self.view_is is_other in
-    let old_log = shown c.self.inside in
-    let fresh = c.args.bodies.now in
+    let at = (goal.at.returns-in-Kept-clause-replaces g c).After-checkpoint_on-outcome in
     let wrote = c.checkpoint_on-outcome in
-    let format = c.newest-format.result in
-    let end : c.in-Some.end ≡ length (text format c.args.bodies.now) = c.in-Some.ensures.some.0 in
-    let room : 12 + (length (records (start format) c.args.bodies.now) + c.zeros_behind-more.result) ≤ c.self.inside.log_bytes =
-    omega (arith, c.in-Some.ensures.some.0, c.zeros_behind-more.ensures.within, length-text format c.args.bodies.now) in
-    replaced g.D.Disk old stood old_log _ s format fresh (of_fields (λ l. l.generation < generation fresh) c.self.view_is c.requires.above) _ wrote.new.disk c.in-Kept.is
-    (wrote.ensures.answer h old_log.log_bytes stood room o)
-    c.swap.ensures.x_after c.swap.ensures.y_after refl refl end (wrote.ensures.digest c.in-Kept.is) c.generation_of_snapshot-self-inside.ensures refl
+    replaced g.D.Disk old stood (shown c.self.inside) _ (of_fields (λ l. Stands g.D.Disk old l) c.self.view_is stands)
+    c.newest-format.result c.args.bodies.now (above g at) _ wrote.new.disk c.in-Kept.is
+    (came g at h stood (of_fields (λ l. IsOther g.D.Disk l.log_bytes stood l.other) c.self.view_is is_other))
+    c.swap.ensures.x_after c.swap.ensures.y_after refl refl c.in-Some.ensures.some.0 (wrote.ensures.digest c.in-Kept.is) c.generation_of_snapshot-self-inside.ensures refl
 
 pub returns-in-Kept-clause-answer : goal.returns-in-Kept-clause-answer
-returns-in-Kept-clause-answer g c h old stood is =
-    let p = of_fields (λ l. Pair g.D.Disk old stood l) c.self.view_is is in
-    let old_log = shown c.self.inside in
-    let most = old_log.log_bytes in
-    let fresh = c.args.bodies.now in
-    let wrote = c.checkpoint_on-outcome in
-    let format = c.newest-format.result in
-    let end : c.in-Some.end ≡ length (text format c.args.bodies.now) = c.in-Some.ensures.some.0 in
-    let room : 12 + (length (records (start format) c.args.bodies.now) + c.zeros_behind-more.result) ≤ c.self.inside.log_bytes =
-    omega (arith, c.in-Some.ensures.some.0, c.zeros_behind-more.ensures.within, length-text format c.args.bodies.now) in
-    kept_pair g.D.Disk old stood old_log _ p format fresh (of_fields (λ l. l.generation < generation fresh) c.self.view_is c.requires.above) _ wrote.new.disk c.in-Kept.is
-    (wrote.ensures.answer h most stood room p.other)
-    c.swap.ensures.x_after c.swap.ensures.y_after refl refl end (wrote.ensures.digest c.in-Kept.is) c.generation_of_snapshot-self-inside.ensures refl
+returns-in-Kept-clause-answer g c h old stood p =
+    kept_pair g.D.Disk old stood c.args.bodies.now _ _ c.in-Kept.is (returns-in-Kept-clause-replaces g c h old stood p.current p.other c.in-Kept.is)
 
 pub returns-in-Lost-clause-answer : goal.returns-in-Lost-clause-answer
 returns-in-Lost-clause-answer g c h old stood is =
-    let p = of_fields (λ l. Pair g.D.Disk old stood l) c.self.view_is is in
-    let old_log = shown c.self.inside in
-    let most = old_log.log_bytes in
-    let fresh = c.args.bodies.now in
-    let wrote = c.checkpoint_on-outcome in
-    let format = c.newest-format.result in
-    let end : c.in-Some.end ≡ length (text format c.args.bodies.now) = c.in-Some.ensures.some.0 in
-    let room : 12 + (length (records (start format) c.args.bodies.now) + c.zeros_behind-more.result) ≤ c.self.inside.log_bytes =
-    omega (arith, c.in-Some.ensures.some.0, c.zeros_behind-more.ensures.within, length-text format c.args.bodies.now) in
-    lost_pair g.D.Disk old stood old_log _ p format fresh (of_fields (λ l. l.generation < generation fresh) c.self.view_is c.requires.above) _ c.in-Lost.is
-    (wrote.ensures.answer h most stood room p.other)
+    let at = (goal.at.returns-in-Lost-clause-answer g c).After-checkpoint_on-outcome in
+    let p = pair g at old stood is in
+    lost_pair g.D.Disk old stood (shown c.self.inside) _ p c.newest-format.result c.args.bodies.now (above g at) _ c.in-Lost.is (came g at h stood p.other)
     refl refl refl refl
 
 pub returns-in-Refused-clause-answer : goal.returns-in-Refused-clause-answer
 returns-in-Refused-clause-answer g c h old stood is =
-    let p = of_fields (λ l. Pair g.D.Disk old stood l) c.self.view_is is in
-    let old_log = shown c.self.inside in
-    let most = old_log.log_bytes in
-    let fresh = c.args.bodies.now in
-    let wrote = c.checkpoint_on-outcome in
-    let format = c.newest-format.result in
-    let end : c.in-Some.end ≡ length (text format c.args.bodies.now) = c.in-Some.ensures.some.0 in
-    let room : 12 + (length (records (start format) c.args.bodies.now) + c.zeros_behind-more.result) ≤ c.self.inside.log_bytes =
-    omega (arith, c.in-Some.ensures.some.0, c.zeros_behind-more.ensures.within, length-text format c.args.bodies.now) in
-    refused_pair g.D.Disk old stood old_log _ p format fresh _ c.in-Refused.is wrote.ensures.not_full
-    (wrote.ensures.answer h most stood room p.other)
-    refl refl refl refl refl refl refl refl
+    let at = (goal.at.returns-in-Refused-clause-answer g c).After-checkpoint_on-outcome in
+    let p = pair g at old stood is in
+    refused_pair g.D.Disk old stood (shown c.self.inside) _ p c.newest-format.result c.args.bodies.now _ c.in-Refused.is c.checkpoint_on-outcome.ensures.not_full
+    (came g at h stood p.other) refl refl refl refl refl refl refl refl
 
 pub returns-in-Kept-clause-kept : goal.returns-in-Kept-clause-kept
 returns-in-Kept-clause-kept g c alive fits few was =
-    let other = ap (λ l. g.D.Disk.failures l.other) (sym c.self.view_is) in
-    let low = subst (λ n. n < 2 ^ 64 - 1) other few in
-    let same = was ∙ other in
-    let wrote = c.checkpoint_on-outcome in
-    kept_by g.D.Disk.failures _ wrote.new.disk _ _ (wrote_kept _ _ wrote.new.disk c.in-Kept.is c.swap.ensures.x_after) wrote.ensures.cause low same wrote.ensures.not_full
+    none_failed g (goal.at.returns-in-Kept-clause-kept g c).After-checkpoint_on-outcome _
+    (wrote_kept _ _ c.checkpoint_on-outcome.new.disk c.in-Kept.is c.swap.ensures.x_after) few was
 
 pub returns-in-Refused-clause-kept : goal.returns-in-Refused-clause-kept
 returns-in-Refused-clause-kept g c alive fits few was =
-    let other = ap (λ l. g.D.Disk.failures l.other) (sym c.self.view_is) in
-    let low = subst (λ n. n < 2 ^ 64 - 1) other few in
-    let same = was ∙ other in
-    let wrote = c.checkpoint_on-outcome in
-    kept_by g.D.Disk.failures _ wrote.new.disk _ _ (wrote_refused _ _ wrote.new.disk c.in-Refused.is refl) wrote.ensures.cause low same wrote.ensures.not_full
+    none_failed g (goal.at.returns-in-Refused-clause-kept g c).After-checkpoint_on-outcome _
+    (wrote_refused _ _ c.checkpoint_on-outcome.new.disk c.in-Refused.is refl) few was
 
 pub returns-in-Lost-clause-kept : goal.returns-in-Lost-clause-kept
 returns-in-Lost-clause-kept g c alive fits few was =
-    let other = ap (λ l. g.D.Disk.failures l.other) (sym c.self.view_is) in
-    let low = subst (λ n. n < 2 ^ 64 - 1) other few in
-    let same = was ∙ other in
-    let wrote = c.checkpoint_on-outcome in
-    kept_by g.D.Disk.failures _ wrote.new.disk _ _ (wrote_lost _ _ wrote.new.disk c.in-Lost.is refl) wrote.ensures.cause low same wrote.ensures.not_full
+    none_failed g (goal.at.returns-in-Lost-clause-kept g c).After-checkpoint_on-outcome _
+    (wrote_lost _ _ c.checkpoint_on-outcome.new.disk c.in-Lost.is refl) few was
 
 pub returns-in-Kept-clause-swaps : goal.returns-in-Kept-clause-swaps
 returns-in-Kept-clause-swaps g c = search rules
