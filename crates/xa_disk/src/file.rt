@@ -108,26 +108,8 @@ impl<F: Drop> FileDisk<F> {
 }
 
 impl<F: RawFile> FileDisk<F> {
-    // Syncs the file, unless a sync has failed.
-    fn try_sync(&mut self) -> io::Result<()>
-        ensures refused { self.old.unsynced ≡ true → IsErr result }
-        ensures durable { F.honest → OnOk result (Only (F.seen self.old.file) (F.may_leave self.new.file)) }
-        ensures same { F.honest → F.seen self.new.file ≡ F.seen self.old.file }
-        ensures time { F.honest → Passes Same (F.moment self.old.file) (F.moment self.new.file)
-            (F.left_since self.old.file) (F.left_since self.new.file)
-            (F.may_leave self.old.file) (F.may_leave self.new.file) }
-        ensures called { F.recorded → F.calls self.new.file
-            ≡ (if self.old.unsynced then F.calls self.old.file else Syncs ∷ F.calls self.old.file) }
-        ensures tally { self.new.tally ≡ self.old.tally }
-    {
-        if self.unsynced {
-            return Err(failed_before());
-        }
-        self.file.sync()
-    }
-
     // Takes what a sync was answered, or syncs the file, unless a sync has failed.
-    fn try_take_sync(&mut self, answer: SyncAnswer) -> io::Result<()>
+    fn try_sync(&mut self, answer: SyncAnswer) -> io::Result<()>
         ensures refused { self.old.unsynced ≡ true → IsErr result }
         ensures durable { F.honest → OnOk result (Only (F.seen self.old.file) (F.may_leave self.new.file)) }
         ensures same { F.honest → F.seen self.new.file ≡ F.seen self.old.file }
@@ -253,11 +235,7 @@ impl<F: RawFile> Disk for FileDisk<F> {
             (λ _. self.new.tally.error ≢ None) }
         ensures first { self.old.tally.error ≢ None → self.new.tally.error ≡ self.old.tally.error }
     {
-        self.tally.counts = self.tally.counts.with_sync();
-        let synced = self.try_sync();
-        let answer = self.tally.answer(FileCall::Sync, synced);
-        self.unsynced = answer.is_err();
-        answer
+        self.take_sync(SyncAnswer::none())
     }
 
     fn syncer(&self) -> Syncer
@@ -283,8 +261,8 @@ impl<F: RawFile> Disk for FileDisk<F> {
         ensures first { self.old.tally.error ≢ None → self.new.tally.error ≡ self.old.tally.error }
     {
         self.tally.counts = self.tally.counts.with_sync();
-        let taken = self.try_take_sync(answer);
-        let answer = self.tally.answer(FileCall::Sync, taken);
+        let synced = self.try_sync(answer);
+        let answer = self.tally.answer(FileCall::Sync, synced);
         self.unsynced = answer.is_err();
         answer
     }
