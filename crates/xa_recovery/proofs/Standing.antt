@@ -227,24 +227,12 @@ complete_stands m x xid p cs ps ns read st found entries left named =
     subst (λ (o : Option PreparedBranch). StandsFor (record m { committed = cs; prepared = ps; names = ns }) (record { durable = commit_prepared o (record x.durable { prepared = without (prepared_as xid) x.durable.prepared }); is_snapshot = x.is_snapshot; timestamps = x.timestamps }))
     (sym found) stands
 
--- a boot, and whether the snapshot goes on
+-- whether the snapshot goes on
 
 pub flag_stands : (m : Rebuilding) (x : Reading) (b : Bool) → StandsFor m x → StandsFor (record m { is_snapshot = b }) (record { durable = x.durable; is_snapshot = b; timestamps = x.timestamps })
 flag_stands m x b st = record {
   boot = st.boot;
   is_snapshot = refl;
-  committed = record { ordered = st.committed.ordered; last = st.committed.last; used = st.committed.used; apart = st.committed.apart };
-  prepared = st.prepared;
-  decided = st.decided;
-  names = st.names;
-  timestamps = st.timestamps;
-}
-
-pub open_stands : (m : Rebuilding) (x : Reading) (boot : ℕ) (b c : Bool) → b ≡ c → StandsFor m x
-    → StandsFor (record m { boot = boot; is_snapshot = b }) (record { durable = record x.durable { boot = boot }; is_snapshot = c; timestamps = x.timestamps })
-open_stands m x boot b c same st = record {
-  boot = refl;
-  is_snapshot = same;
   committed = record { ordered = st.committed.ordered; last = st.committed.last; used = st.committed.used; apart = st.committed.apart };
   prepared = st.prepared;
   decided = st.decided;
