@@ -1,3 +1,6 @@
+ghost use Rattle.std.specs.Prelude.{◌≡◌};
+ghost use Rattle.xa_desk.specs.declared.served.Served.TheVariants.{Memory};
+
 use std::alloc::AllocError;
 
 /// How a connection ended.
@@ -16,9 +19,6 @@ pub enum Served {
 }
 
 impl From<AllocError> for Served {
-    ghost use Rattle.std.specs.Prelude.{◌≡◌};
-    ghost use Rattle.xa_desk.specs.declared.served.Served.TheVariants.{Memory};
-
     ghost from_gives = { λ _ end. end ≡ Memory };
 
     fn from(_: AllocError) -> Served {

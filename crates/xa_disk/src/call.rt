@@ -1,7 +1,6 @@
 //! The record of a disk in memory: its writes and syncs.
 ghost use Rattle.std.specs.Prelude.{◌≡◌, ◌-◌, ◌≤◌, ◌++◌, ◌∷◌, [], List, ℕ, length, take, drop, OnOk, OnErr, IfOk};
-ghost use Rattle.xa_disk.specs.declared.call.Call.TheVariants.{Write, Sync};
-ghost use Rattle.xa_disk.specs.Replay.{replay};
+ghost use Rattle.xa_disk.specs.{declared.call.Call.TheVariants.Write, declared.call.Call.TheVariants.Sync, Replay.replay};
 ghost use Rattle.xa_disk.specs.Keeping.{unsynced, put_front, put_fronts, kept};
 
 use crate::bytes::put_bytes;

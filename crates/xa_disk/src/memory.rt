@@ -26,8 +26,7 @@ pub struct MemDisk {
 }
 
 impl Model for MemDisk {
-    ghost use Rattle.xa_disk.specs.MemDiskFields.{shown};
-    ghost use Rattle.xa_disk.specs.MemDiskView.{MemDiskView};
+    ghost use Rattle.xa_disk.specs.{MemDiskFields.shown, MemDiskView.MemDiskView};
 
     ghost Value = { MemDiskView };
 

@@ -1,6 +1,5 @@
 ghost use Rattle.std.specs.Prelude.{◌≡◌, ◌≢◌, None, IfOk, IsErr, MatchResult};
-ghost use Rattle.xa_disk.specs.Counts.{no_calls};
-ghost use Rattle.xa_disk.specs.Disk.{CountsFault};
+ghost use Rattle.xa_disk.specs.{Counts.no_calls, Disk.CountsFault};
 
 use crate::teller::Teller;
 use crate::{Counts, DiskFault, FileCall};

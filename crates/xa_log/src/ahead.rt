@@ -1,7 +1,6 @@
 //! How far a file is made ready ahead of its log.
 ghost use Rattle.std.specs.Prelude.{◌≡◌, ◌+◌, ◌≤◌};
-ghost use Rattle.xa_log.specs.Ahead.{ready};
-ghost use Rattle.xa_log.specs.declared.ahead.TheConstants.{READY_BYTES};
+ghost use Rattle.xa_log.specs.{Ahead.ready, declared.ahead.TheConstants.READY_BYTES};
 
 /// Bytes of a piece of the current file. An append that reaches into a new piece writes zeros up to its end in the same
 /// write, unless the file is known to reach that far: the appends that follow write over bytes that are there, and a

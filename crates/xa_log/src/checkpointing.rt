@@ -4,8 +4,7 @@ ghost use Rattle.std.specs.Prelude.{ℕ, length, min, take, drop, replicate, OnO
 ghost use Rattle.std.specs.Int.{w32, to_be_bytes};
 ghost use Rattle.std.specs.List.{AllByRecursion};
 ghost use Rattle.xa_disk.specs.Disk.{put, Torn, Only, CountsFault};
-ghost use Rattle.xa_disk.specs.Time.{TimePasses, LeavesOnly};
-ghost use Rattle.xa_disk.specs.Counts.{with_write};
+ghost use Rattle.xa_disk.specs.{Time.TimePasses, Time.LeavesOnly, Counts.with_write};
 ghost use Rattle.xa_log.specs.declared.format.Format.{Format};
 ghost use Rattle.xa_log.specs.Chain.{start, preamble, last, digest, text, behind_text, IsBody};
 ghost use Rattle.xa_log.specs.Answers.{PutBecame, FailedPut, HasCause};

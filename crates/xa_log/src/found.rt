@@ -1,13 +1,10 @@
 //! One record of a log that is read: by way of a window, and where it is long mostly straight into its body.
 ghost use Rattle.std.specs.Prelude.{◌≡◌, ◌≢◌, ◌⊎◌, ◌+◌, ◌-◌, ◌≤◌, ◌<◌, List, ℕ, length, take, drop, OnOk, IfOk, IfErr, IfSome, MatchResult};
 ghost use Rattle.std.specs.Int.{w32, to_be_bytes};
-ghost use Rattle.xa_disk.specs.Disk.{Same, CountsFault};
-ghost use Rattle.xa_disk.specs.Time.{TimePasses};
-ghost use Rattle.xa_disk.specs.declared.counts.Counts.{Counts};
+ghost use Rattle.xa_disk.specs.{Disk.Same, Disk.CountsFault, Time.TimePasses, declared.counts.Counts.Counts};
 ghost use Rattle.xa_log.specs.Answers.{CountsDevice};
 ghost use Rattle.xa_log.specs.Calls.{Fetched, FetchedWithin, FetchedUpto, FetchedNext, Reaches, ReachesTo};
-ghost use Rattle.xa_log.specs.Chain.{most_body, size_at};
-ghost use Rattle.xa_log.specs.Reading.{Finds, Fits};
+ghost use Rattle.xa_log.specs.{Chain.most_body, Chain.size_at, Reading.Finds, Reading.Fits};
 ghost use Rattle.xa_log.specs.Window.{Caches, Covers, Ahead};
 
 use crate::OpenFault;

@@ -1,8 +1,6 @@
 //! The first record of a log, which has its generation.
 ghost use Rattle.std.specs.Prelude.{◌≡◌, ◌⊎◌, ◌+◌, List, ℕ, length, IfOk, IfErr, MatchResult};
-ghost use Rattle.xa_disk.specs.Disk.{Same};
-ghost use Rattle.xa_disk.specs.Time.{TimePasses};
-ghost use Rattle.xa_disk.specs.declared.counts.Counts.{Counts};
+ghost use Rattle.xa_disk.specs.{Disk.Same, Time.TimePasses, declared.counts.Counts.Counts};
 ghost use Rattle.xa_log.specs.Answers.{CountsDevice, CountsDeviceOf};
 ghost use Rattle.xa_log.specs.Calls.{Fetched, FetchedWithin, MOST_BRIEF, brief};
 ghost use Rattle.xa_log.specs.Pair.{generation};

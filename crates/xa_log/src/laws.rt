@@ -1,8 +1,6 @@
 //! What can be said of every log, and of logs on disks in memory.
 ghost use Rattle.std.specs.Prelude.{List, ℕ};
-ghost use Rattle.xa_log.specs.Group.{NoChance, PlainByBody};
-ghost use Rattle.xa_log.specs.Pair.{CalmTears};
-ghost use Rattle.xa_log.specs.Checkpoint.{SealTears};
+ghost use Rattle.xa_log.specs.{Group.NoChance, Group.PlainByBody, Pair.CalmTears, Checkpoint.SealTears};
 ghost use Rattle.xa_log.specs.Laws.{BehindLaw, PairLaw, AppendLaw, HeaderLaw, SealLaw, OpenedLaw, StrayLaw, StaleLaw};
 
 use xa_disk::{Disk, MemDisk};

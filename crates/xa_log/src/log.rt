@@ -1,13 +1,11 @@
 //! The log on its two disks.
 ghost use Rattle.std.specs.Prelude.{◌≡◌, ◌+◌, ◌-◌, ◌≤◌, ◌<◌, ◌↔◌, List, [], ◌∷◌, ℕ, true, false, length};
-ghost use Rattle.xa_disk.specs.Counts.{top};
-ghost use Rattle.xa_disk.specs.Time.{LeavesOnly};
+ghost use Rattle.xa_disk.specs.{Counts.top, Time.LeavesOnly};
 ghost use Rattle.std.specs.List.{AllByRecursion};
 ghost use Rattle.xa_log.specs.Calls.{CheckpointCalls};
 ghost use Rattle.xa_log.specs.Chain.{newest, format_number, most_body, text, IsBody};
 ghost use Rattle.xa_log.specs.Checkpoint.{IsOther, IsQuiet, IsCleared, LeavesAny};
-ghost use Rattle.xa_log.specs.Pair.{generation};
-ghost use Rattle.xa_log.specs.Answers.{HasCause};
+ghost use Rattle.xa_log.specs.{Pair.generation, Answers.HasCause};
 ghost use Rattle.xa_limits.specs.declared.TheConstants.{AROUND_CLOSED, MOST_BODY};
 
 use crate::appending::Appended;

@@ -2,8 +2,7 @@
 ghost use Rattle.std.specs.Prelude.{◌≡◌, ◌≢◌, ◌⊎◌, ◌+◌, ◌≤◌, ◌<◌, min, true, false, List, ℕ};
 ghost use Rattle.std.specs.Prelude.{length, drop, OnOk, IfOk, IfErr, IfSome, MatchResult, MatchBool, Some, None, if◌then◌else◌};
 ghost use Rattle.xa_disk.specs.Disk.{Same, Only, CountsFault};
-ghost use Rattle.xa_disk.specs.Time.{TimePasses};
-ghost use Rattle.xa_disk.specs.declared.counts.Counts.{Counts};
+ghost use Rattle.xa_disk.specs.{Time.TimePasses, declared.counts.Counts.Counts};
 ghost use Rattle.xa_log.specs.Answers.{CountsDeviceOf};
 ghost use Rattle.xa_log.specs.Calls.{Fetched, FetchedSome, Looks, LooksSecond, LooksAt, LooksSecondAt, ReadsLittle, asked};
 ghost use Rattle.xa_log.specs.Reading.{Ends, Explains};

@@ -1,13 +1,11 @@
 //! How a log comes to stand on its disks.
 ghost use Rattle.std.specs.Prelude.{◌≡◌, ◌≤◌, ◌<◌, ◌↔◌, [], List, ℕ, true, false};
 ghost use Rattle.std.specs.Prelude.{if◌then◌else◌, length, OnOk, IfOk, IfErr, IsErrOf, MatchResult, None};
-ghost use Rattle.xa_disk.specs.Disk.{Same};
-ghost use Rattle.xa_disk.specs.Time.{TimePasses};
+ghost use Rattle.xa_disk.specs.{Disk.Same, Time.TimePasses};
 ghost use Rattle.xa_disk.specs.Counts.{with_length, with_write, with_sync};
 ghost use Rattle.xa_log.specs.Ahead.{IsMeasured};
 ghost use Rattle.xa_log.specs.Calls.{OnlyReads, ReadsLittle, asked};
-ghost use Rattle.xa_log.specs.Chain.{logged};
-ghost use Rattle.xa_log.specs.Checkpoint.{IsQuiet};
+ghost use Rattle.xa_log.specs.{Chain.logged, Checkpoint.IsQuiet};
 ghost use Rattle.xa_log.specs.Opened.{IsOpened, found_in, found_in_first, limit_of};
 ghost use Rattle.xa_log.specs.Pair.{generation, pair_fault, logged_pair};
 ghost use Rattle.xa_log.specs.Reading.{Ends, bodies_of, TellsFault, ExplainsNew};

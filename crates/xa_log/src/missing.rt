@@ -1,7 +1,6 @@
 //! Whether one of a log's two files is missing.
 ghost use Rattle.std.specs.Prelude.{◌≡◌, ◌⊎◌, List, ℕ, length, IfErr, IfOk};
-ghost use Rattle.xa_disk.specs.Disk.{Same};
-ghost use Rattle.xa_disk.specs.Time.{TimePasses};
+ghost use Rattle.xa_disk.specs.{Disk.Same, Time.TimePasses};
 ghost use Rattle.xa_log.specs.Missing.{generation_in, missing_of};
 
 use crate::OpenFault;

@@ -2,8 +2,7 @@
 ghost use Rattle.std.specs.Prelude.{◌≡◌, ◌⊎◌, ◌+◌, ◌-◌, ◌≤◌, ◌<◌, ◌^◌, ◌++◌, ◌∷◌, [], ℕ};
 ghost use Rattle.std.specs.Prelude.{min, length, take, slice_index, OnOk, IfOk, IfErr, IfSome, None, Some, MatchResult};
 ghost use Rattle.xa_disk.specs.Disk.{Same, Only, CountsFault};
-ghost use Rattle.xa_disk.specs.Time.{TimePasses};
-ghost use Rattle.xa_disk.specs.declared.counts.Counts.{Counts};
+ghost use Rattle.xa_disk.specs.{Time.TimePasses, declared.counts.Counts.Counts};
 ghost use Rattle.xa_log.specs.Calls.{Fetched, FetchedSome, FetchedNext, Looks, asked};
 ghost use Rattle.xa_disk.specs.Counts.{with_sync};
 ghost use Rattle.xa_log.specs.Chain.{magic, start, logged};

@@ -1,14 +1,11 @@
 //! Reading a log again, and giving its disks back.
 ghost use Rattle.std.specs.Prelude.{◌≡◌, ◌⊎◌, List, ℕ, length, OnOk, OnErr, IfOk, IfErr};
-ghost use Rattle.xa_log.specs.Ahead.{IsMeasured};
-ghost use Rattle.xa_log.specs.Answers.{CountsDeviceOf};
-ghost use Rattle.xa_log.specs.Buffer.{KeepsRoom};
+ghost use Rattle.xa_log.specs.{Ahead.IsMeasured, Answers.CountsDeviceOf, Buffer.KeepsRoom};
 ghost use Rattle.xa_log.specs.Calls.{Looks, LooksSecond, ReadsLittle};
 ghost use Rattle.xa_log.specs.Chain.{logged};
 ghost use Rattle.xa_log.specs.LogStates.{LogState, IsIn, MayFind, LostTears, IsCalmBeside, LeavesBoth, LooksTo, LeftByLook, KeepsAll};
 ghost use Rattle.xa_log.specs.Pair.{generation, fault_pair, logged_of};
-ghost use Rattle.xa_log.specs.Reading.{bodies_of, TellsFault};
-ghost use Rattle.xa_log.specs.Stands.{EndsBehind, Untouched};
+ghost use Rattle.xa_log.specs.{Reading.bodies_of, Reading.TellsFault, Stands.EndsBehind, Stands.Untouched};
 ghost use Rattle.xa_log.specs.TwoFiles.{IsOpenPair, IsReadPair, first_of, second_of};
 
 use crate::generation::generation_of_bodies;

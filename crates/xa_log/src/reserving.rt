@@ -1,8 +1,6 @@
 //! Making room for a long record, so that its append or its checkpoint takes no memory.
 ghost use Rattle.std.specs.Prelude.{◌≡◌, ◌≤◌, OnOk, OnErr};
-ghost use Rattle.xa_log.specs.Buffer.{Holds, KeepsRoom};
-ghost use Rattle.xa_log.specs.LogStates.{KeepsAll};
-ghost use Rattle.xa_log.specs.Stands.{Untouched};
+ghost use Rattle.xa_log.specs.{Buffer.Holds, Buffer.KeepsRoom, LogStates.KeepsAll, Stands.Untouched};
 
 use crate::Log;
 use crate::ahead::READY_BYTES;

@@ -1,6 +1,5 @@
 ghost use Rattle.std.specs.Prelude.{◌≡◌, List, ℕ, ◌∷◌, ◌++◌, [], length};
-ghost use Rattle.xa_record.specs.Limits.{IsRecord};
-ghost use Rattle.xa_record.specs.Spelling.{spelled};
+ghost use Rattle.xa_record.specs.{Limits.IsRecord, Spelling.spelled};
 ghost use Rattle.xa_recovery.specs.Log.{HasComeTo, BodyTaken, LogRebuilt};
 ghost use Rattle.xa_recovery.specs.Snapshots.{bytes_of};
 

@@ -2,8 +2,7 @@ ghost use Rattle.std.specs.Prelude.{◌≡◌, filter, not, IfOk, OnOk};
 ghost use Rattle.std.specs.BTreeMap.{insert_entry};
 ghost use Rattle.std.specs.Ordering.{nat_cmp};
 ghost use Rattle.xa_model.specs.Durable.{Pairwise, commits_before, last_writes};
-ghost use Rattle.xa_recovery.specs.Durable.{committed_of};
-ghost use Rattle.xa_recovery.specs.Last.{Notes, has_key};
+ghost use Rattle.xa_recovery.specs.{Durable.committed_of, Last.Notes, Last.has_key};
 
 use std::alloc::{AllocError, Global};
 use std::collections::{BTreeMap, BTreeSet};

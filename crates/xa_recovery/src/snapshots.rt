@@ -1,6 +1,5 @@
 ghost use Rattle.std.specs.Prelude.{◌≡◌, ◌∷◌, [], map, IfOk, OnOk};
-ghost use Rattle.xa_record.specs.Spelling.{spelled};
-ghost use Rattle.xa_record.specs.declared.record.Record.TheVariants.{Opened};
+ghost use Rattle.xa_record.specs.{Spelling.spelled, declared.record.Record.TheVariants.Opened};
 ghost use Rattle.xa_model.specs.Fold.{snapshot};
 ghost use Rattle.xa_recovery.specs.Snapshots.{Puts, base_body, held_body, known_body};
 

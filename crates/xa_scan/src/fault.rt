@@ -1,3 +1,6 @@
+ghost use Rattle.std.specs.Prelude.{◌≡◌};
+ghost use Rattle.xa_scan.specs.{declared.fault.ScanFault.TheVariants.Memory, Faults.fault_of};
+
 use std::alloc::AllocError;
 use thiserror::Error;
 use xa_log::OpenFault;
@@ -15,9 +18,6 @@ pub enum ScanFault {
 }
 
 impl From<AllocError> for ScanFault {
-    ghost use Rattle.std.specs.Prelude.{◌≡◌};
-    ghost use Rattle.xa_scan.specs.declared.fault.ScanFault.TheVariants.{Memory};
-
     ghost from_gives = { λ _ fault. fault ≡ Memory };
 
     fn from(_: AllocError) -> ScanFault {
@@ -26,9 +26,6 @@ impl From<AllocError> for ScanFault {
 }
 
 impl From<OpenFault> for ScanFault {
-    ghost use Rattle.std.specs.Prelude.{◌≡◌};
-    ghost use Rattle.xa_scan.specs.Faults.{fault_of};
-
     ghost from_gives = { λ fault scanned. scanned ≡ fault_of fault };
 
     fn from(fault: OpenFault) -> ScanFault {
