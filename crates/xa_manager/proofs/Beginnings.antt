@@ -1,16 +1,25 @@
 -- A boot that is planned, for the state that the log came to.
-use Rattle.std.proofs.Common.{◌≡◌, ◌<◌, ◌≤◌, ◌+◌, ℕ, true, false, List, Option, Some, None, refl, sym, subst, arith}
+use Rattle.std.proofs.Common.{◌≡◌, ◌<◌, ◌≤◌, ◌+◌, ℕ, true, false, List, Option, Some, None, Ok, refl, ap, sym, ◌∙◌, subst, arith}
 use Rattle.std.specs.Prelude.{nat_lt, IfSome}
 use Rattle.std.specs.List.{AllByRecursion}
 use Rattle.std.proofs.lemmas.Bool.Decides.{nat_tests}
+use Rattle.xa_disk.specs.declared.disk.Disk.{Ghosts}
 use Rattle.xa_limits.specs.declared.TheConstants.{MOST_BOOTS, MOST_VALUE}
 use Rattle.mv_rules.specs.Within.{IsWithin, HasKeys}
 use Rattle.xa_log.specs.Chain.{IsBody, newest}
-use Rattle.xa_model.specs.Durable.{Durable}
+use Rattle.xa_model.specs.State.{State}
+use Rattle.xa_model.specs.Durable.{Durable, durable}
 use Rattle.xa_model.specs.Fold.{snapshot}
+use Rattle.xa_model.specs.Invariants.Loggable.{IsRecoverable}
+use Rattle.xa_recovery.specs.Log.{LogRebuilt}
 use Rattle.xa_manager.specs.declared.boots.NextBoot.{NextBoot}
-use Rattle.xa_manager.specs.Rereading.{IsNext, IsReady}
+use Rattle.xa_manager.specs.declared.boots.Planned.{Planned}
+use Rattle.xa_manager.specs.declared.manager.Manager.{Manager}
+use Rattle.xa_manager.specs.Managed.{view, ManagerStandsFor}
+use Rattle.xa_manager.specs.Rereading.{Found, IsFate, IsNext, IsReady}
+use Rattle.xa_manager.proofs.Generations.{rebuilt_is}
 use Rattle.xa_manager.proofs.NextBoots.{are_bodies}
+use Rattle.xa_manager.proofs.Standing.{outside}
 
 pub next_sizes : (moment : ℕ) (d : Durable) (o : Option NextBoot) (next : NextBoot) → o ≡ Some next → IsNext d moment o → AllByRecursion (IsBody newest) next.bodies.items
 next_sizes moment d None next e h = absurd (cc e)
@@ -49,3 +58,15 @@ next_is moment d (Some n) next e h = let same : n ≡ next = cc e in subst (λ (
 pub none_next : (moment : ℕ) (d : Durable) (o : Option NextBoot) → o ≡ None → IsNext d moment o → nat_lt d.boot MOST_BOOTS ≡ false
 none_next moment d None e h = isnt_less d.boot MOST_BOOTS h
 none_next moment d (Some n) e h = absurd (cc e)
+
+-- a boot that was planned follows the state that was found, which is the one behind so many survivors
+pub planned_fate : {D : Type 0} (disks : Ghosts D) (m : Manager D) (s : State) (bodies : List (List ℕ)) (planned : Planned) (survivors : ℕ) → ManagerStandsFor disks m s → (f : Found disks bodies m.log s)
+    → LogRebuilt bodies (Ok planned.durable.value) → IsNext planned.durable.value m.tables.branches.moment planned.next → planned.boot ≡ planned.durable.value.boot
+    → (IsRecoverable s → planned.boot ≡ f.state.logged_boot → survivors ≡ f.many)
+    → IsNext (durable f.state) m.tables.branches.moment planned.next × IsFate survivors s f.state
+planned_fate disks m s bodies planned survivors st f rebuilt next boot many =
+    let is : planned.durable.value ≡ durable f.state = rebuilt_is bodies f.records planned.durable.value (durable f.state) rebuilt f.spelled_as f.backs.records f.backs.lasts in
+    let recoverable = (outside m.up (view m) s st.tables).recoverable in (
+      subst (λ (d : Durable). IsNext d m.tables.branches.moment planned.next) is next,
+      subst (λ (k : ℕ). IsFate k s f.state) (sym (many recoverable (boot ∙ ap (λ (d : Durable). d.boot) is))) f.fate,
+    )

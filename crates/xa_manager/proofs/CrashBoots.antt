@@ -1,5 +1,5 @@
 -- What a crash leaves while the first records of a boot are written.
-use Rattle.std.proofs.Common.{◌≡◌, ◌+◌, ◌<◌, ℕ, true, List, [], ◌∷◌, Option, Some, map, refl, sym, subst}
+use Rattle.std.proofs.Common.{◌≡◌, ◌+◌, ◌<◌, ℕ, true, List, [], ◌∷◌, Option, Some, map, refl, ap, sym, ◌∙◌, subst, ltb-true}
 use Rattle.std.specs.Prelude.{nat_lt, IsSomeAnd}
 use Rattle.xa_disk.specs.Time.{LeavesOnly}
 use Rattle.xa_disk.specs.declared.disk.Disk.{Ghosts}
@@ -9,7 +9,8 @@ use Rattle.xa_record.specs.declared.record.Record.TheVariants as logged
 use Rattle.xa_log.specs.Chain.{newest}
 use Rattle.xa_log.specs.Checkpoint.{LeavesAny}
 use Rattle.xa_log.specs.Pair.{generation}
-use Rattle.xa_log.specs.TwoFiles.{Swaps}
+use Rattle.xa_log.specs.TwoFiles.{Swaps, written}
+use Rattle.xa_log.specs.declared.appending.Appended.{Appended as Told}
 use Rattle.xa_log.specs.LogView.{LogView}
 use Rattle.xa_log.proofs.Parts.{leaves_more}
 use Rattle.xa_limits.specs.declared.TheConstants.{MOST_BOOTS}
@@ -24,13 +25,16 @@ use Rattle.xa_model.specs.Fold.{snapshot}
 use Rattle.xa_model.specs.Invariants.Loggable.{IsRecoverable}
 use Rattle.xa_model.specs.Restarting.{boot_became, restart_turn}
 use Rattle.xa_model.specs.State.{State}
+use Rattle.xa_manager.specs.declared.manager.Manager.{Manager}
 use Rattle.xa_manager.specs.Answered.{as_appended}
 use Rattle.xa_manager.specs.Crash.{LeavesLook, LeavesCurrent, LeavesCheckpoint, LeavesBoot, LeavesBy, wrote}
 use Rattle.xa_manager.specs.LogStands.{HasRecords, snapshot_bodies}
+use Rattle.xa_manager.specs.Managed.{ManagerStandsFor}
 use Rattle.xa_manager.specs.Rereading.{IsFate}
 use Rattle.xa_manager.proofs.CrashFiles.{checkpoint_files}
 use Rattle.xa_manager.proofs.Fates.{down_backed, turn_opens}
 use Rattle.xa_manager.proofs.Generations.{newer}
+use Rattle.xa_manager.proofs.Standing.{lost_recoverable}
 
 -- it is written, and the state is one in which its opened record is lost
 pub snapshot_leaves : {D : Type 0} (disks : Ghosts D) (old new : LogView D) (lost : State) (boot : ℕ) (rs : List Record) (a : Appending)
@@ -52,22 +56,42 @@ snapshot_leaves disks old new lost boot rs a h opens backs has above same curren
       leaves;
 }
 
-pub boot_leaves : {D : Type 0} (disks : Ghosts D) (old new : LogView D) (s t : State) (survived : ℕ) (rs : List Record) (a : Appending)
-    → IsRecoverable (boot_became t (t.logged_boot + 1) Lost).after → IsFate survived s t → Backs rs t → (has : HasRecords disks rs old)
-    → nat_lt t.logged_boot MOST_BOOTS ≡ true → t.logged_boot < MOST_BOOTS
-    → new.log_bytes ≡ old.log_bytes → LeavesCurrent a old new
-    → LeavesOnly disks old.other (wrote a new) (LeavesAny old.log_bytes newest has.0 (map spelled (snapshot (durable t) (t.logged_boot + 1))))
-    → LeavesBoot disks old (restart_turn s) (Reread survived (Some a)) new
-boot_leaves disks old new s t survived rs a h fate backs has less below same current leaves =
-    let lost = (boot_became t (t.logged_boot + 1) Lost).after in
-    subst (λ (o : Option Answer). IsSomeAnd o (λ l. LeavesCheckpoint disks old a new l.after)) (sym (turn_opens survived s t Lost fate less))
-    (snapshot_leaves disks old new lost (t.logged_boot + 1) rs a h refl (down_backed rs t _ backs) has (newer rs (durable t) backs.lasts below) same current leaves)
-
 -- the current file isn't touched
-pub swap_leaves : {D : Type 0} (a : Appending) (fresh : List (List ℕ)) (old new : LogView D) → Swaps (as_appended a) fresh old new → LeavesCurrent a old new
+swap_leaves : {D : Type 0} (a : Appending) (fresh : List (List ℕ)) (old new : LogView D) → Swaps (as_appended a) fresh old new → LeavesCurrent a old new
 swap_leaves Kept fresh old new x = (x.0, x.1)
 swap_leaves Refused fresh old new x = (x.0, x.1)
 swap_leaves Lost fresh old new x = (x.0, x.1)
+
+wrote_is : {D : Type 0} (a : Appending) (log : LogView D) → written (as_appended a) log ≡ wrote a log
+wrote_is Kept log = refl
+wrote_is Refused log = refl
+wrote_is Lost log = refl
+
+-- the two files of a log whose checkpoint of these bodies was answered so
+pub record Checkpointed {D : Type 0} (disks : Ghosts D) (old new : LogView D) (a : Appending) (stood fresh : List (List ℕ)) : Type 0 where
+  pub log_bytes : new.log_bytes ≡ old.log_bytes
+  pub current : LeavesCurrent a old new
+  pub other : LeavesOnly disks old.other (wrote a new) (LeavesAny old.log_bytes newest stood fresh)
+
+pub checkpointed : {D : Type 0} (disks : Ghosts D) (old new : LogView D) (a : Appending) (told : Told) (stood fresh bodies : List (List ℕ)) → told ≡ as_appended a → fresh ≡ bodies → new.log_bytes ≡ old.log_bytes
+    → Swaps told fresh old new → LeavesOnly disks old.other (written told new) (LeavesAny old.log_bytes newest stood fresh) → Checkpointed disks old new a stood bodies
+checkpointed {D} disks old new a told stood fresh bodies is same bytes swaps leaves = record {
+  log_bytes = bytes;
+  current = swap_leaves a fresh old new (subst (λ (r : Told). Swaps r fresh old new) is swaps);
+  other = subst (λ (b : List (List ℕ)). LeavesOnly disks old.other (wrote a new) (LeavesAny old.log_bytes newest stood b)) same
+      (subst (λ (d : D). LeavesOnly disks old.other d (LeavesAny old.log_bytes newest stood fresh)) (ap (λ (r : Told). written r new) is ∙ wrote_is a new) leaves);
+}
+
+pub boot_leaves : {D : Type 0} (disks : Ghosts D) (m : Manager D) (new : LogView D) (s t : State) (survived : ℕ) (rs : List Record) (a : Appending) (o : Outcome)
+    → ManagerStandsFor disks m s → IsFate survived s t → Backs rs t → (has : HasRecords disks rs m.log) → nat_lt t.logged_boot MOST_BOOTS ≡ true → o ≡ Reread survived (Some a)
+    → Checkpointed disks m.log new a has.0 (map spelled (snapshot (durable t) (t.logged_boot + 1))) → LeavesBoot disks m.log (restart_turn s) o new
+boot_leaves disks m new s t survived rs a o st fate backs has less told left =
+    let lost = (boot_became t (t.logged_boot + 1) Lost).after in
+    let below = ltb-true t.logged_boot MOST_BOOTS less in
+    subst (λ (x : Outcome). LeavesBoot disks m.log (restart_turn s) x new) (sym told)
+    (subst (λ (x : Option Answer). IsSomeAnd x (λ l. LeavesCheckpoint disks m.log a new l.after)) (sym (turn_opens survived s t Lost fate less))
+    (snapshot_leaves disks m.log new lost (t.logged_boot + 1) rs a (lost_recoverable disks m s t survived st fate below) refl (down_backed rs t _ backs) has (newer rs (durable t) backs.lasts below)
+    left.log_bytes left.current left.other))
 
 -- once the log in the middle is known
 pub boot_by : {D : Type 0} (disks : Ghosts D) (old mid : LogView D) (s : State) (o : Outcome) (new : LogView D) → LeavesLook disks old mid s

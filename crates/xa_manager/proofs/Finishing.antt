@@ -22,8 +22,6 @@ use Rattle.xa_branch.proofs.Rooms.{no_rooms_left}
 use Rattle.xa_codes.specs.declared.direction.Direction.{Direction}
 use Rattle.xa_codes.specs.declared.direction.Direction.TheVariants.{Commit, Rollback}
 use Rattle.xa_model.specs.Invariants.Loggable.{IsRecoverable}
-use Rattle.xa_assoc.specs.declared.sessions.Sessions.{Sessions}
-use Rattle.xa_assoc.specs.Sessions.{SessionsStandFor}
 use Rattle.xa_assoc.proofs.Follows.{unmoved}
 use Rattle.xa_manager.specs.View.{View}
 use Rattle.xa_manager.specs.Changes.{fate_of as direction_fate}
@@ -128,6 +126,18 @@ without_rooms m s st = record {
   recoverable = st.recoverable;
 }
 
+-- the branches alone changed, to where these have their rooms
+pub other_rooms : (xids others : List Triple) (m : View) (b : Branches) (s : State) → HaveRooms others b s → StandsWithRooms xids m s → StandsWithRooms others (record m { branches = b }) s
+other_rooms xids others m b s branches st = record {
+  name = st.name;
+  log_bytes = st.log_bytes;
+  up = st.up;
+  sessions = st.sessions;
+  branches = branches;
+  records = st.records;
+  recoverable = st.recoverable;
+}
+
 -- The operator completes a prepared branch.
 
 named_phase : (xid : Triple) (s : State) (o : Option Branch) → known_of s.branches xid ≡ o → known_among o (decided_of s.decided xid) ≡ InDoubt → IsSome (known_of s.branches xid)
@@ -142,33 +152,23 @@ named_phase xid s None e h = absurd (undecided_by (decided_of s.decided xid) h)
 pub doubtful_known : (s : State) (xid : Triple) → known_as s xid ≡ InDoubt → IsSome (known_of s.branches xid)
 doubtful_known s xid h = named_phase xid s (known_of s.branches xid) refl h
 
-pub decided_records : (s : State) (xid : Triple) (direction : Direction) (t : ℕ) (r r' : Records) → IsSound s → known_as s xid ≡ InDoubt → t ≡ timestamp_in s xid → RecordsStandFor (history_of s) r
-    → Settles t (direction_fate direction) r r' → RecordsStandFor (history_of (decided_by s direction xid)) r'
-decided_records s xid Commit t r r' sound doubt time st settles = committed_records s xid t r r' sound (doubtful_known s xid doubt) time st settles
-decided_records s xid Rollback t r r' sound doubt time st settles = gone_records s xid t r r' sound (doubtful_known s xid doubt) time st settles
-
-pub decided_sessions : (m : Sessions) (s : State) (xid : Triple) (direction : Direction) (end : ℕ) → SessionsStandFor m s → SessionsStandFor m (ending (decided_by s direction xid) end)
-decided_sessions m s xid Commit end st = unmoved m s (ending (decided_by s Commit xid) end) refl refl st
-decided_sessions m s xid Rollback end st = unmoved m s (ending (decided_by s Rollback xid) end) refl refl st
-
-pub decided_stands : (m m' : View) (s : State) (xid : Triple) (direction : Direction) (end t : ℕ) → StandsFor m s → known_as s xid ≡ InDoubt → t ≡ timestamp_in s xid
-    → m'.name ≡ m.name → m'.log_bytes ≡ m.log_bytes → m'.sessions ≡ m.sessions → BranchesStandFor m'.branches (decided_by s direction xid) → Settles t (direction_fate direction) m.records m'.records
-    → IsRecoverable (ending (decided_by s direction xid) end) → StandsFor m' (ending (decided_by s direction xid) end)
-decided_stands m m' s xid Commit end t st doubt time name bytes sessions branches settles recoverable = record {
-  name = name ∙ st.name;
-  log_bytes = bytes ∙ st.log_bytes;
-  up = st.up;
-  sessions = rw sessions (decided_sessions m.sessions s xid Commit end st.sessions);
-  branches = moved_end m'.branches (decided_by s Commit xid) end branches;
-  records = decided_records s xid Commit t m.records m'.records st.recoverable.sound doubt time st.records settles;
+-- the branches and the records follow to another state, wherever the log ends then
+pub settled_stands : (m : View) (b : Branches) (r : Records) (s t : State) (end : ℕ) → t.name ≡ s.name → t.log_bytes ≡ s.log_bytes → t.standing ≡ s.standing → t.sessions ≡ s.sessions → t.associations ≡ s.associations
+    → StandsFor m s → BranchesStandFor b t → RecordsStandFor (history_of t) r → IsRecoverable (ending t end) → StandsFor (record m { branches = b; records = r }) (ending t end)
+settled_stands m b r s t end name bytes standing sessions associations st branches records recoverable = record {
+  name = st.name ∙ sym name;
+  log_bytes = st.log_bytes ∙ sym bytes;
+  up = standing ∙ st.up;
+  sessions = unmoved m.sessions s (ending t end) sessions associations st.sessions;
+  branches = moved_end b t end branches;
+  records = records;
   recoverable = recoverable;
 }
-decided_stands m m' s xid Rollback end t st doubt time name bytes sessions branches settles recoverable = record {
-  name = name ∙ st.name;
-  log_bytes = bytes ∙ st.log_bytes;
-  up = st.up;
-  sessions = rw sessions (decided_sessions m.sessions s xid Rollback end st.sessions);
-  branches = moved_end m'.branches (decided_by s Rollback xid) end branches;
-  records = decided_records s xid Rollback t m.records m'.records st.recoverable.sound doubt time st.records settles;
-  recoverable = recoverable;
-}
+
+pub decided_stands : (m : View) (b : Branches) (r : Records) (s : State) (xid : Triple) (direction : Direction) (end t : ℕ) → StandsFor m s → known_as s xid ≡ InDoubt → t ≡ timestamp_in s xid
+    → BranchesStandFor b (decided_by s direction xid) → Settles t (direction_fate direction) m.records r → IsRecoverable (ending (decided_by s direction xid) end)
+    → StandsFor (record m { branches = b; records = r }) (ending (decided_by s direction xid) end)
+decided_stands m b r s xid Commit end t st doubt time branches settles =
+    settled_stands m b r s (decided_by s Commit xid) end refl refl refl refl refl st branches (committed_records s xid t m.records r st.recoverable.sound (doubtful_known s xid doubt) time st.records settles)
+decided_stands m b r s xid Rollback end t st doubt time branches settles =
+    settled_stands m b r s (decided_by s Rollback xid) end refl refl refl refl refl st branches (gone_records s xid t m.records r st.recoverable.sound (doubtful_known s xid doubt) time st.records settles)

@@ -26,6 +26,7 @@ use Rattle.xa_model.proofs.Ascending.{parts, parts_none, found_in, absent}
 use Rattle.xa_model.proofs.Counts.{count_none}
 use Rattle.xa_model.proofs.Lists.{found_passes, found_all}
 use Rattle.xa_model.proofs.Members.{Member, IsStrict, member_all, same_members, same_place_by}
+use Rattle.xa_model.proofs.Recoveries.{recoverable_durable}
 use Rattle.xa_model.proofs.Remains.{held_of, held_as, held_named, in_doubt, once, working_held}
 use Rattle.xa_model.proofs.Tests.{prepares_transitive}
 use Rattle.xa_model.proofs.Xids.{cmp_is_eq}
@@ -235,6 +236,16 @@ gathers_more ps rest e made v order name told h =
     by p here there time q m false at (inl (inl same)) = absurd (differs q.timestamp e.1 at (ap (λ (z : Triple × ℕ). z.1) same))
     by p here there time q m false at (inl (inr n)) = inl n
     by p here there time q m false at (inr n) = inr (others_stay as_prepared (λ z. z.timestamp) (λ d. refl) q e.1 v made (differs q.timestamp e.1 at) n)
+
+-- with what the records list of it
+pub gathers_next : (m : View) (xid : Triple) (t : ℕ) (writes listed : List Write) (before rest : List (Triple × ℕ)) (made after : List (ℕ × InDoubt)) → before ≡ (xid, t) ∷ rest
+    → after ≡ insert_entry nat_cmp made t (record { xid = xid; writes = writes }) → writes ≡ listed → ((h : Accesses) → RecordsStandFor h m.records → IsUndecided t h.writes → IsWritesOf t h.writes listed)
+    → ((s : State) → StandsFor m s → Gathers (durable s).prepared before made) → (s : State) → StandsFor m s → Gathers (durable s).prepared rest after
+gathers_next m xid t writes listed before rest made after steps inserts copied told gathers s st =
+    let ps = (durable s).prepared in
+    subst (λ (es : List (ℕ × InDoubt)). Gathers ps rest es) (sym inserts)
+    (gathers_more ps rest (xid, t) made (record { xid = xid; writes = writes }) (recoverable_durable s st.recoverable).prepared refl (λ p found time. copied ∙ told_held m s xid p t listed st found time told)
+    (subst (λ (es : List (Triple × ℕ)). Gathers ps es made) steps (gathers s st)))
 
 -- and behind the last
 

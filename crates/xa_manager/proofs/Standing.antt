@@ -5,7 +5,8 @@ use Rattle.xa_disk.specs.declared.disk.Disk.{Ghosts}
 use Rattle.xa_record.specs.Spelling.{spelled}
 use Rattle.xa_record.specs.declared.record.Record.{Record}
 use Rattle.xa_record.specs.declared.record.Record.TheVariants as logged
-use Rattle.xa_log.specs.Chain.{newest}
+use Rattle.xa_log.specs.Chain.{newest, text}
+use Rattle.xa_limits.specs.declared.TheConstants.{LENGTH_BYTES}
 use Rattle.xa_log.specs.LogView.{LogView}
 use Rattle.xa_log.specs.Checkpoint.{IsQuiet}
 use Rattle.xa_log.specs.TwoFiles.{Pair, MaySeal}
@@ -35,6 +36,7 @@ use Rattle.xa_manager.specs.declared.doubt.Doubt.TheVariants.{Boot, Record as La
 use Rattle.xa_manager.specs.declared.manager.Manager.{Manager}
 use Rattle.xa_manager.specs.declared.tables.Tables.{Tables}
 use Rattle.xa_manager.specs.View.{View, view_of}
+use Rattle.xa_manager.proofs.LogLengths.{text_size}
 use Rattle.xa_manager.specs.Stands.{StandsFor, StandsDown, TablesStandFor}
 use Rattle.xa_manager.specs.LogStands.{Trusts, HasRecords, LogStandsFor}
 use Rattle.xa_manager.specs.Managed.{view, Doubts, ManagerStandsFor}
@@ -180,13 +182,14 @@ begun_stands disks m m' s t b rs name log_bytes up doubt bytes st fate backs les
 
 -- a log that has the records has room for the new boot
 pub never_full : {D : Type 0} (disks : Ghosts D) (m : Manager D) (s t : State) (b : ℕ) (rs : List Record)
-    → ManagerStandsFor disks m s → IsFate b s t → Backs rs t → m.log.log_bytes < 8 + sizes (snapshot (durable t) (t.logged_boot + 1)) + 4 → ⊥
-never_full disks m s t b rs st fate backs full =
+    → ManagerStandsFor disks m s → IsFate b s t → Backs rs t → (fresh : List (List ℕ)) → fresh ≡ map spelled (snapshot (durable t) (t.logged_boot + 1)) → m.log.log_bytes < length (text newest fresh) + LENGTH_BYTES → ⊥
+never_full disks m s t b rs st fate backs fresh same full =
     let h = outside m.up (view m) s st.tables in
     let short : snapshot_end t (t.logged_boot + 1) ≤ t.end = recoverable_snapshot_ends rs t (t.logged_boot + 1) (fate_recoverable b s t h.recoverable fate) backs in
     let room = room_is t.log_bytes t.end (prepared_count t) (length t.decided) (fate_room b s t (st.roomy h.standing) fate) in
     let bytes : m.log.log_bytes ≡ t.log_bytes = st.log_bytes ∙ sym (fate_same b s t fate).log_bytes in
-    omega (arith, short, room, bytes, full)
+    let size : length (text newest fresh) ≡ 8 + sizes (snapshot (durable t) (t.logged_boot + 1)) = ap (λ (ys : List (List ℕ)). length (text newest ys)) same ∙ text_size newest (snapshot (durable t) (t.logged_boot + 1)) in
+    omega (arith, short, room, bytes, size, full)
 
 pub refused_pair : {D : Type 0} (disks : Ghosts D) (bodies stood : List (List ℕ)) (log : LogView D)
     → Pair disks bodies stood log ⊎ (Pair disks bodies [] log × IsQuiet disks [] log.other) → (other : List (List ℕ)) × Pair disks bodies other log

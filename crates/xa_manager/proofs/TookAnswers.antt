@@ -143,33 +143,26 @@ all_took Lost s cs m found took = absurd (found refl)
 
 -- the tables after one call, by what its row is
 
+prepare_is : (row : Row) → is_prepare row ≡ true → row ≡ Writes Prepare
+prepare_is (Writes Prepare) e = refl
+prepare_is (Writes CommitOnePhase) e = absurd (cc e)
+prepare_is CommitTwoPhase e = absurd (cc e)
+prepare_is Rollback e = absurd (cc e)
+prepare_is (Decide direction) e = absurd (cc e)
+prepare_is Forget e = absurd (cc e)
+
 kept_next : (t t' : Tables) (s w : State) (c : Member) (cs : List Member) → is_prepare c.row ≡ true → TakesFirst t c.row c.xid Kept t' → IsApart c.xid (prepares_of cs)
     → StandsWithRooms (c.xid ∷ prepares_of cs) (view_of t) w → IsRecoverable (applied (record_of c.row c.xid s) w)
     → StandsWithRooms (prepares_of cs) (view_of t') (applied (record_of c.row c.xid s) w)
-kept_next t t' s w c cs = by c.row
-  where
-    by : (row : Row) → is_prepare row ≡ true → TakesFirst t row c.xid Kept t' → IsApart c.xid (prepares_of cs)
-        → StandsWithRooms (c.xid ∷ prepares_of cs) (view_of t) w → IsRecoverable (applied (record_of row c.xid s) w)
-        → StandsWithRooms (prepares_of cs) (view_of t') (applied (record_of row c.xid s) w)
-    by (Writes Prepare) e takes apart st recoverable = takes (prepares_of cs) w (w.end + size_of (record_of (Writes Prepare) c.xid s)) apart st recoverable
-    by (Writes CommitOnePhase) e takes apart st recoverable = absurd (cc e)
-    by CommitTwoPhase e takes apart st recoverable = absurd (cc e)
-    by Rollback e takes apart st recoverable = absurd (cc e)
-    by (Decide direction) e takes apart st recoverable = absurd (cc e)
-    by Forget e takes apart st recoverable = absurd (cc e)
+kept_next t t' s w c cs e takes apart st =
+    subst (λ (row : Row). TakesFirst t row c.xid Kept t' → IsRecoverable (applied (record_of row c.xid s) w) → StandsWithRooms (prepares_of cs) (view_of t') (applied (record_of row c.xid s) w)) (sym (prepare_is c.row e))
+    (λ first. first (prepares_of cs) w (w.end + size_of (record_of (Writes Prepare) c.xid s)) apart st) takes
 
 refused_next : (t t' : Tables) (w : State) (c : Member) (cs : List Member) → is_prepare c.row ≡ true → TakesFirst t c.row c.xid Refused t' → IsApart c.xid (prepares_of cs)
     → StandsWithRooms (c.xid ∷ prepares_of cs) (view_of t) w → StandsWithRooms (prepares_of cs) (view_of t') (rows.left_by c.row c.xid w)
-refused_next t t' w c cs = by c.row
-  where
-    by : (row : Row) → is_prepare row ≡ true → TakesFirst t row c.xid Refused t' → IsApart c.xid (prepares_of cs)
-        → StandsWithRooms (c.xid ∷ prepares_of cs) (view_of t) w → StandsWithRooms (prepares_of cs) (view_of t') (rows.left_by row c.xid w)
-    by (Writes Prepare) e takes apart st = takes (prepares_of cs) w apart st
-    by (Writes CommitOnePhase) e takes apart st = absurd (cc e)
-    by CommitTwoPhase e takes apart st = absurd (cc e)
-    by Rollback e takes apart st = absurd (cc e)
-    by (Decide direction) e takes apart st = absurd (cc e)
-    by Forget e takes apart st = absurd (cc e)
+refused_next t t' w c cs e takes apart st =
+    subst (λ (row : Row). TakesFirst t row c.xid Refused t' → StandsWithRooms (prepares_of cs) (view_of t') (rows.left_by row c.xid w)) (sym (prepare_is c.row e))
+    (λ first. first (prepares_of cs) w apart st) takes
 
 -- a call that doesn't prepare finds no rooms
 no_rooms_at : (c : Member) (cs : List Member) (m : View) (w : State) → is_prepare c.row ≡ false → PreparesFirst (c ∷ cs) → StandsWithRooms (prepares_of (c ∷ cs)) m w → StandsFor m w
@@ -185,6 +178,21 @@ no_rooms_after c cs m w e first st = subst (λ (l : List Triple). StandsWithRoom
 
 -- the next call takes it
 
+goes_on : (a : Appending) (s w : State) (all : List Member) (c : Member) (cs : List Member) (m m' : View) (took : Took a s all (c ∷ cs) m) → WalkBy a s w (took.records ++ (part_of s c).appended ∷ []) (parts_of s cs)
+    → StandsWithRooms (prepares_of cs) m' w → group_after a w (parts_of s cs) ≡ group_after a s (parts_of s all) → Took a s all cs m'
+goes_on a s w all c cs m m' took walk tables comes = record {
+  at = w;
+  records = took.records ++ (part_of s c).appended ∷ [];
+  walk = walk;
+  tables = tables;
+  comes = comes;
+  appends = took.appends.1;
+  apart = took.apart.1;
+  room = took.room.1;
+  rows = took.rows.1;
+  first = took.first.1;
+}
+
 took_kept : (t t' : Tables) (s : State) (all : List Member) (c : Member) (cs : List Member) → s.standing ≡ Up → TakesAnswer t c.row c.xid Kept t' → TakesFirst t c.row c.xid Kept t'
     → Took Kept s all (c ∷ cs) (view_of t) → Took Kept s all cs (view_of t')
 took_kept t t' s all c cs up takes first took =
@@ -192,18 +200,8 @@ took_kept t t' s all c cs up takes first took =
     let w = took.at in
     let now = keeping.next_turn s w took.records p (parts_of s cs) up took.walk took.appends.0 took.room.0 in
     let next = keeping.next_walk s w took.records p (parts_of s cs) took.walk took.appends.0 now took.apart.0 in
-    let same : record_of c.row c.xid w ≡ p.appended = record_same c.row c.xid s w took.walk.same.0 in record {
-      at = applied p.appended w;
-      records = took.records ++ p.appended ∷ [];
-      walk = next;
-      tables = by (is_prepare c.row) refl next.recovers same now.last.may;
-      comes = took.comes;
-      appends = took.appends.1;
-      apart = took.apart.1;
-      room = took.room.1;
-      rows = took.rows.1;
-      first = took.first.1;
-    }
+    let same : record_of c.row c.xid w ≡ p.appended = record_same c.row c.xid s w took.walk.same.0 in
+    goes_on Kept s (applied p.appended w) all c cs (view_of t) (view_of t') took next (by (is_prepare c.row) refl next.recovers same now.last.may) took.comes
   where
     by : (b : Bool) → is_prepare c.row ≡ b → IsRecoverable (applied (record_of c.row c.xid s) took.at) → record_of c.row c.xid took.at ≡ record_of c.row c.xid s → MayLog took.at (record_of c.row c.xid s)
         → StandsWithRooms (prepares_of cs) (view_of t') (applied (record_of c.row c.xid s) took.at)
@@ -223,19 +221,9 @@ took_refused t t' s all c cs up takes first took =
     let next = refusing.next_walk s w p (parts_of s cs) took.walk took.appends.0 now took.apart.0 in
     let same : record_of c.row c.xid w ≡ p.appended = record_same c.row c.xid s w took.walk.same.0 in
     let left : rows.left_by c.row c.xid w ≡ left_by c.request w = left_same c.request c.row c.xid w took.rows.0 in
-    let last = logged_record w (Asked (keeping.asked_by p)) p.appended now.after took.appends.0.event took.walk.recovers now.appends in record {
-      at = left_by c.request w;
-      records = took.records ++ p.appended ∷ [];
-      walk = next;
-      tables = subst (λ (u : State). StandsWithRooms (prepares_of cs) (view_of t') u) left
-          (by (is_prepare c.row) refl (subst IsRecoverable (sym left) next.recovers) same last.may);
-      comes = took.comes;
-      appends = took.appends.1;
-      apart = took.apart.1;
-      room = took.room.1;
-      rows = took.rows.1;
-      first = took.first.1;
-    }
+    let last = logged_record w (Asked (keeping.asked_by p)) p.appended now.after took.appends.0.event took.walk.recovers now.appends in
+    let tables = subst (λ (u : State). StandsWithRooms (prepares_of cs) (view_of t') u) left (by (is_prepare c.row) refl (subst IsRecoverable (sym left) next.recovers) same last.may) in
+    goes_on Refused s (left_by c.request w) all c cs (view_of t) (view_of t') took next tables took.comes
   where
     by : (b : Bool) → is_prepare c.row ≡ b → IsRecoverable (rows.left_by c.row c.xid took.at) → record_of c.row c.xid took.at ≡ record_of c.row c.xid s → MayLog took.at (record_of c.row c.xid s)
         → StandsWithRooms (prepares_of cs) (view_of t') (rows.left_by c.row c.xid took.at)

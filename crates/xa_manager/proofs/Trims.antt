@@ -5,20 +5,20 @@ use Rattle.std.specs.List.{AllByRecursion}
 use Rattle.std.proofs.lemmas.Bool.Decides.{nat_tests}
 use Rattle.xa_codes.specs.declared.codes.TheConstants.{XAER_RMERR}
 use Rattle.xa_codes.specs.declared.detail.Detail.TheVariants as detail
-use Rattle.xa_disk.specs.Time.{LeavesOnly}
 use Rattle.xa_disk.specs.declared.disk.Disk.{Ghosts}
 use Rattle.xa_frame.specs.declared.reply.Reply.{Reply}
 use Rattle.xa_record.specs.Spelling.{spelled}
 use Rattle.xa_record.specs.declared.record.Record.{Record}
 use Rattle.xa_record.specs.declared.record.Record.TheVariants as logged
-use Rattle.xa_log.specs.Answers.{HasRisen}
-use Rattle.xa_log.specs.Chain.{IsBody, newest}
+use Rattle.xa_log.specs.Answers.{HasCause, HasRisen}
+use Rattle.xa_log.specs.Chain.{IsBody, newest, text}
 use Rattle.xa_log.specs.Pair.{generation}
 use Rattle.xa_log.specs.declared.appending.Appended.{Appended as Told}
 use Rattle.xa_log.specs.declared.appending.Appended.TheVariants as told
-use Rattle.xa_log.specs.Checkpoint.{LeavesAny}
-use Rattle.xa_log.specs.TwoFiles.{MaySeal}
+use Rattle.xa_log.specs.TwoFiles.{MaySeal, Swaps, written}
 use Rattle.xa_log.specs.LogView.{LogView}
+use Rattle.xa_limits.specs.declared.TheConstants.{LENGTH_BYTES}
+use Rattle.xa_model.specs.declared.outcome.Outcome.{Outcome}
 use Rattle.xa_model.specs.declared.outcome.Outcome.TheVariants.{Quiet, Appended}
 use Rattle.xa_model.specs.declared.outcome.Appending.{Appending}
 use Rattle.xa_model.specs.declared.outcome.Appending.TheVariants.{Kept, Refused, Lost}
@@ -40,8 +40,8 @@ use Rattle.xa_model.proofs.Written.{snapshot_is_written}
 use Rattle.xa_assoc.specs.Refusals.{is_memory}
 use Rattle.xa_manager.specs.declared.doubt.Doubt.TheVariants.{Boot}
 use Rattle.xa_manager.specs.declared.manager.Manager.{Manager}
-use Rattle.xa_manager.specs.Answered.{HasCalledToTrim, NoneRises, OneRises}
-use Rattle.xa_manager.specs.Crash.{LeavesBy, LeavesCurrent, LeavesWritten, checkpoints, wrote}
+use Rattle.xa_manager.specs.Answered.{as_appended, HasCalledToTrim, NoneRises, OneRises}
+use Rattle.xa_manager.specs.Crash.{LeavesBy, LeavesCurrent, LeavesWritten, checkpoints}
 use Rattle.xa_manager.specs.LogStands.{HasRecords, Trusts, snapshot_bodies}
 use Rattle.xa_manager.specs.Managed.{view, AnswersAs, ManagerStandsFor}
 use Rattle.xa_manager.specs.Reserving.{HasReserved}
@@ -50,7 +50,7 @@ use Rattle.xa_manager.specs.Tables.{TablesBecome}
 use Rattle.xa_manager.specs.Turns.{HasTrimmed}
 use Rattle.xa_manager.specs.declared.tables.Tables.{Tables}
 use Rattle.xa_manager.specs.View.{view_of}
-use Rattle.xa_manager.proofs.CrashBoots.{snapshot_leaves}
+use Rattle.xa_manager.proofs.CrashBoots.{Checkpointed, snapshot_leaves}
 use Rattle.xa_manager.proofs.Generations.{newer}
 use Rattle.xa_manager.proofs.LogsBehind.{stands_whole}
 use Rattle.xa_manager.proofs.NextBoots.{are_bodies}
@@ -135,6 +135,9 @@ module _ {D : Type 0} (disks : Ghosts D) (m : Manager D) (s : State) (st : Manag
     log = λ trusts. stands_whole disks m'.log s rs backs (has trusts);
   }
 
+  backs_settled : (rs : List Record) → Backs rs s → Backs rs (record s { open_records = [] })
+  backs_settled rs k = record { records = k.records; lasts = k.lasts; end = k.end; new = λ same. record { given = (k.new same).given; unused = (k.new same).unused } }
+
   -- it was lost
   pub sealed_stands : (m' : Manager D) (rs : List Record) (next : ℕ) → trim_refusal s ≡ None → next ≡ s.logged_boot + 1 → Backs rs s
       → m'.tables ≡ m.tables → m'.up ≡ false → m'.doubt ≡ Some (Boot next) → m'.log.log_bytes ≡ m.log.log_bytes
@@ -143,16 +146,12 @@ module _ {D : Type 0} (disks : Ghosts D) (m : Manager D) (s : State) (st : Manag
   sealed_stands m' rs next e number backs tables stopped doubt bytes seal =
       lost_stands disks m m' s (record s { open_records = [] }) 0 rs tables stopped (doubt ∙ ap (λ (n : ℕ). Some (Boot n)) number) bytes st refl
       (backs_settled rs backs) (less_of e) seal
-    where
-      backs_settled : (rs : List Record) → Backs rs s → Backs rs (record s { open_records = [] })
-      backs_settled rs k = record { records = k.records; lasts = k.lasts; end = k.end; new = λ same. record { given = (k.new same).given; unused = (k.new same).unused } }
 
-  -- a log that has the records has room for the snapshot
-  pub fits_always : (rs : List Record) → Backs rs s → m.log.log_bytes < 8 + sizes (snapshot (durable s) (s.logged_boot + 1)) + 4 → ⊥
-  fits_always rs backs full =
-      never_full disks m s (record s { open_records = [] }) 0 rs st refl
-      (record { records = backs.records; lasts = backs.lasts; end = backs.end; new = λ same. record { given = (backs.new same).given; unused = (backs.new same).unused } })
-      full
+  -- where a log that has the records has room for the snapshot, as it always has, it was refused by a failure
+  pub is_refused : (rs : List Record) (fresh : List (List ℕ)) (r : Told) → Backs rs s → fresh ≡ snapshot_bodies s (s.logged_boot + 1) → (r ≡ told.Full → m.log.log_bytes < length (text newest fresh) + LENGTH_BYTES)
+      → (r ≡ told.Refused) ⊎ (r ≡ told.Full) → r ≡ told.Refused
+  is_refused rs fresh r backs same full (inl is) = is
+  is_refused rs fresh r backs same full (inr is) = absurd (never_full disks m s (record s { open_records = [] }) 0 rs st refl (backs_settled rs backs) fresh same (full is))
 
 -- ---- what a crash leaves
 
@@ -162,20 +161,19 @@ current_same disks old mid new Kept r x = (x.0 ∙ r.files.0, x.1 ∙ ap not r.f
 current_same disks old mid new Refused r x = (x.0 ∙ r.files.0, x.1 ∙ r.fields.on_first)
 current_same disks old mid new Lost r x = (x.0 ∙ r.files.0, x.1 ∙ r.fields.on_first)
 
-pub trim_leaves : {D : Type 0} (disks : Ghosts D) (old mid new : LogView D) (s : State) (rs : List Record) (a : Appending) → HasReserved disks old mid
-    → IsRecoverable s → trim_refusal s ≡ None → Backs rs s → (has : HasRecords disks rs old)
-    → new.log_bytes ≡ mid.log_bytes → LeavesCurrent a mid new
-    → LeavesOnly disks mid.other (wrote a new) (LeavesAny mid.log_bytes newest has.0 (snapshot_bodies s (s.logged_boot + 1)))
-    → LeavesBy disks old (trim_turn s) (Appended a) new s
-trim_leaves disks old mid new s rs a r h e backs has same current leaves =
+pub trim_leaves : {D : Type 0} (disks : Ghosts D) (m : Manager D) (log new : LogView D) (s : State) (rs : List Record) (a : Appending) (o : Outcome)
+    → ManagerStandsFor disks m s → m.up ≡ true → HasReserved disks log m.log → trim_refusal s ≡ None → Backs rs s → (has : HasRecords disks rs log) → o ≡ Appended a
+    → Checkpointed disks m.log new a has.0 (snapshot_bodies s (s.logged_boot + 1)) → LeavesBy disks log (trim_turn s) o new s
+trim_leaves disks m log new s rs a o st up r e backs has told left =
     let boot : ℕ = s.logged_boot + 1 in
     let after : State = (lost s (logged.Opened boot)).after in
     let less : s.logged_boot < 4294967295 = omega (arith, (may_trim s e).boots) in
-    subst (λ (o : Option Answer). IsSomeAnd o (λ l. LeavesWritten disks (checkpoints (trim_turn s)) old a new s l.after)) (sym (trim_taken s Lost e))
-    (subst (λ (b : Bool). LeavesWritten disks b old a new s after) (sym (ap checkpoints (trim_is s e)))
-    (snapshot_leaves disks old new after boot rs a (lost_in_doubt s h less).recoverable refl (lost_backed rs s (logged.Opened boot) backs) has
-    (newer rs (durable s) backs.lasts less) (same ∙ r.fields.log_bytes) (current_same disks old mid new a r current)
-    (rw (← r.fields.log_bytes, ← r.files.1) leaves)))
+    subst (λ (x : Outcome). LeavesBy disks log (trim_turn s) x new s) (sym told)
+    (subst (λ (x : Option Answer). IsSomeAnd x (λ l. LeavesWritten disks (checkpoints (trim_turn s)) log a new s l.after)) (sym (trim_taken s Lost e))
+    (subst (λ (b : Bool). LeavesWritten disks b log a new s after) (sym (ap checkpoints (trim_is s e)))
+    (snapshot_leaves disks log new after boot rs a (lost_in_doubt s (trim_recoverable disks m s st up) less).recoverable refl (lost_backed rs s (logged.Opened boot) backs) has
+    (newer rs (durable s) backs.lasts less) (left.log_bytes ∙ r.fields.log_bytes) (current_same disks log m.log new a r left.current)
+    (rw (← r.fields.log_bytes, ← r.files.1) left.other))))
 
 -- ---- a refusal before the device was called
 
@@ -190,11 +188,6 @@ refused_trim disks m reply up served refuses = record {
 
 -- ---- what the device did
 
--- where the snapshot has room, it was refused by a failure
-pub is_refused : (r : Told) → (r ≡ told.Refused) ⊎ (r ≡ told.Full) → (r ≡ told.Full → ⊥) → r ≡ told.Refused
-is_refused r (inl is) fits = is
-is_refused r (inr is) fits = absurd (fits is)
-
 -- of the file that isn't the current one
 rises_by : {D : Type 0} (failures : D → ℕ) (b c : Bool) (x y v w : D) → c ≡ b → v ≡ x → HasRisen (failures y) (failures w)
     → (HasRisen (failures (cond b x y)) (failures (cond c v w)) × (failures (cond c w v) ≡ failures (cond b y x)))
@@ -204,7 +197,7 @@ rises_by failures false false x y v w e same h = inl (h, ap failures same)
 rises_by failures true false x y v w e same h = absurd (cc e)
 rises_by failures false true x y v w e same h = absurd (cc e)
 
-pub other_rises : {D : Type 0} (failures : D → ℕ) (old new : LogView D) → new.on_first ≡ old.on_first → new.disk ≡ old.disk
+other_rises : {D : Type 0} (failures : D → ℕ) (old new : LogView D) → new.on_first ≡ old.on_first → new.disk ≡ old.disk
     → HasRisen (failures old.other) (failures new.other) → OneRises failures old new
 other_rises failures old new first same h = rises_by failures old.on_first new.on_first old.disk old.other new.disk new.other first same h
 
@@ -216,7 +209,7 @@ swapped_by failures false true x y v w e same h = (h, ap failures same)
 swapped_by failures true true x y v w e same h = absurd (cc e)
 swapped_by failures false false x y v w e same h = absurd (cc e)
 
-pub none_rises_swapped : {D : Type 0} (failures : D → ℕ) (old new : LogView D) → new.on_first ≡ not old.on_first → new.other ≡ old.disk
+none_rises_swapped : {D : Type 0} (failures : D → ℕ) (old new : LogView D) → new.on_first ≡ not old.on_first → new.other ≡ old.disk
     → failures new.disk ≡ failures old.other → NoneRises failures old new
 none_rises_swapped failures old new first same h = swapped_by failures old.on_first new.on_first old.disk old.other new.disk new.other first same h
 
@@ -224,11 +217,24 @@ one_same : (a b x y v w : ℕ) → a ≡ x → b ≡ y → (HasRisen a v × (w �
 one_same a b x y v w e f (inl (risen, same)) = inl (subst (λ (n : ℕ). HasRisen n v) e risen, same ∙ f)
 one_same a b x y v w e f (inr (same, risen)) = inr (same ∙ e, subst (λ (n : ℕ). HasRisen n w) f risen)
 
-pub called_same : {D : Type 0} (disks : Ghosts D) (old mid new : LogView D) (a : Appending) → HasReserved disks old mid
+called_same : {D : Type 0} (disks : Ghosts D) (old mid new : LogView D) (a : Appending) → HasReserved disks old mid
     → HasCalledToTrim disks (Appended a) mid new → HasCalledToTrim disks (Appended a) old new
 called_same disks old mid new Kept r h = (h.0 ∙ ap disks.failures (first_same disks old mid r), h.1 ∙ ap disks.failures (second_same disks old mid r))
 called_same disks old mid new Refused r h = one_same _ _ _ _ _ _ (ap disks.failures (first_same disks old mid r)) (ap disks.failures (second_same disks old mid r)) h
 called_same disks old mid new Lost r h = one_same _ _ _ _ _ _ (ap disks.failures (first_same disks old mid r)) (ap disks.failures (second_same disks old mid r)) h
+
+-- of a log whose buffer alone was another
+pub trim_called : {D : Type 0} (disks : Ghosts D) (log old new : LogView D) (fresh : List (List ℕ)) (r : Told) (a : Appending) (o : Outcome) → r ≡ as_appended a → o ≡ Appended a → HasReserved disks log old
+    → Swaps r fresh old new → HasCause r (disks.failures old.other) (disks.failures (written r new)) → HasCalledToTrim disks o log new
+trim_called disks log old new fresh r a o is told reserved swaps cause =
+    subst (λ (x : Outcome). HasCalledToTrim disks x log new) (sym told)
+    (called_same disks log old new a reserved
+    (by a (subst (λ (x : Told). Swaps x fresh old new) is swaps) (subst (λ (x : Told). HasCause x (disks.failures old.other) (disks.failures (written x new))) is cause)))
+  where
+    by : (a : Appending) → Swaps (as_appended a) fresh old new → HasCause (as_appended a) (disks.failures old.other) (disks.failures (written (as_appended a) new)) → HasCalledToTrim disks (Appended a) old new
+    by Kept x y = none_rises_swapped disks.failures old new x.1 x.0 y
+    by Refused x y = other_rises disks.failures old new x.1 x.0 y
+    by Lost x y = other_rises disks.failures old new x.1 x.0 y
 
 -- ---- the snapshot is one that the other file takes
 

@@ -1,9 +1,6 @@
-use Rattle.std.proofs.Common.{◌≡◌, ◌<◌, ◌+◌, ℕ, List, map, Some, length, refl, ap, sym, ◌∙◌, subst, ltb-true, arith}
-use Rattle.xa_disk.specs.Time.{LeavesOnly}
+use Rattle.std.proofs.Common.{◌≡◌, ◌+◌, ℕ, List, map, Some, refl, ap, ◌∙◌, subst, ltb-true}
 use Rattle.xa_record.specs.Spelling.{spelled}
-use Rattle.xa_log.specs.Checkpoint.{LeavesAny}
-use Rattle.xa_log.specs.Chain.{newest, text}
-use Rattle.xa_log.specs.TwoFiles.{Pair, MaySeal, Checkpoints, Swaps, written}
+use Rattle.xa_log.specs.TwoFiles.{Pair, MaySeal, Checkpoints, Swaps}
 use Rattle.xa_log.specs.declared.appending.Appended.{Appended}
 use Rattle.xa_model.specs.declared.outcome.Appending.TheVariants.{Kept, Refused, Lost}
 use Rattle.xa_model.specs.Durable.{durable}
@@ -13,18 +10,16 @@ use Rattle.xa_limits.specs.declared.TheConstants.{MOST_BOOTS}
 use Rattle.xa_model.specs.Turn.{taken}
 use Rattle.xa_model.specs.declared.outcome.Outcome.{Outcome}
 use Rattle.xa_manager.specs.declared.doubt.Doubt.TheVariants.{Boot}
-use Rattle.xa_manager.specs.Crash.{LeavesBoot, wrote}
-use Rattle.xa_manager.proofs.CrashBoots.{boot_leaves, swap_leaves}
+use Rattle.xa_manager.proofs.CrashBoots.{boot_leaves, checkpointed}
 use Rattle.xa_manager.proofs.Fates.{is_answer, turn_opens}
-use Rattle.xa_manager.proofs.Rescanned.{text_size}
-use Rattle.xa_manager.proofs.Standing.{down_stands, lost_stands, lost_recoverable, begun_stands, never_full, refused_pair}
+use Rattle.xa_manager.proofs.LogLengths.{text_size}
+use Rattle.xa_manager.proofs.Standing.{down_stands, lost_stands, begun_stands, never_full, refused_pair}
 use Rattle.xa_manager.proofs.manager.Manager.log_boot.Goals as goal
 
 pub returns-in-Kept-clause-turn : goal.returns-in-Kept-clause-turn
 returns-in-Kept-clause-turn g c =
     λ s t rs st trusts fate backs has alive less boot ready.
     let bodies : c.deref.result.now ≡ map spelled (snapshot (durable t) (t.logged_boot + 1)) = cc (ready.bodies, c.deref.ensures.value) in
-    let below : t.logged_boot < MOST_BOOTS = ltb-true t.logged_boot MOST_BOOTS less in
     let went = c.checkpoint.ensures.answer trusts.disk (map spelled rs) has.0 has.1 in
     let kept = subst (λ (a : Appended). Checkpoints g.D.Disk a (map spelled rs) has.0 c.deref.result.now c.checkpoint.new.self) c.in-Kept.is went in
     let swaps = subst (λ (a : Appended). Swaps a c.deref.result.now c.args.self.now.log c.checkpoint.new.self) c.in-Kept.is (c.checkpoint.ensures.swaps alive) in
@@ -39,7 +34,6 @@ pub returns-in-Refused-clause-turn : goal.returns-in-Refused-clause-turn
 returns-in-Refused-clause-turn g c =
     λ s t rs st trusts fate backs has alive less boot ready.
     let bodies : c.deref.result.now ≡ map spelled (snapshot (durable t) (t.logged_boot + 1)) = cc (ready.bodies, c.deref.ensures.value) in
-    let below : t.logged_boot < MOST_BOOTS = ltb-true t.logged_boot MOST_BOOTS less in
     let went = c.checkpoint.ensures.answer trusts.disk (map spelled rs) has.0 has.1 in
     let kept = subst (λ (a : Appended). Checkpoints g.D.Disk a (map spelled rs) has.0 c.deref.result.now c.checkpoint.new.self) c.in-Refused.is went in
     is_answer _ (boot_became t (t.logged_boot + 1) Refused) _ (ap (λ (o : Outcome). taken (restart_turn s) o) c.begun-in-Refused.ensures.told ∙ turn_opens c.args.survived s t Refused fate less)
@@ -49,69 +43,41 @@ pub returns-in-Lost-clause-turn : goal.returns-in-Lost-clause-turn
 returns-in-Lost-clause-turn g c =
     λ s t rs st trusts fate backs has alive less boot ready.
     let bodies : c.deref.result.now ≡ map spelled (snapshot (durable t) (t.logged_boot + 1)) = cc (ready.bodies, c.deref.ensures.value) in
-    let below : t.logged_boot < MOST_BOOTS = ltb-true t.logged_boot MOST_BOOTS less in
     let went = c.checkpoint.ensures.answer trusts.disk (map spelled rs) has.0 has.1 in
     let kept = subst (λ (a : Appended). Checkpoints g.D.Disk a (map spelled rs) has.0 c.deref.result.now c.checkpoint.new.self) c.in-Lost.is went in
     is_answer _ (boot_became t (t.logged_boot + 1) Lost) _ (ap (λ (o : Outcome). taken (restart_turn s) o) c.begun-in-Lost.ensures.told ∙ turn_opens c.args.survived s t Lost fate less) (
       cc,
-      lost_stands g.D.Disk c.args.self.now _ s t c.args.survived rs refl refl (ap (λ (n : ℕ). Some (Boot n)) boot) c.checkpoint.ensures.settings st fate backs below
+      lost_stands g.D.Disk c.args.self.now _ s t c.args.survived rs refl refl (ap (λ (n : ℕ). Some (Boot n)) boot) c.checkpoint.ensures.settings st fate backs (ltb-true t.logged_boot MOST_BOOTS less)
           (subst (λ (b : List (List ℕ)). MaySeal g.D.Disk (map spelled rs) b c.checkpoint.new.self) bodies kept),
     )
 
 pub returns-in-Full-clause-turn : goal.returns-in-Full-clause-turn
 returns-in-Full-clause-turn g c =
     λ s t rs st trusts fate backs has alive less boot ready.
-    let full = (c.checkpoint.ensures.full alive).0 c.in-Full.is in
-    let bodies : c.deref.result.now ≡ map spelled (snapshot (durable t) (t.logged_boot + 1)) = cc (ready.bodies, c.deref.ensures.value) in
-    let size = ap (λ (b : List (List ℕ)). length (text newest b)) bodies ∙ text_size newest (snapshot (durable t) (t.logged_boot + 1)) in
-    absurd (never_full g.D.Disk c.args.self.now s t c.args.survived rs st fate backs (omega (arith, full, size)))
+    absurd (never_full g.D.Disk c.args.self.now s t c.args.survived rs st fate backs c.deref.result.now (cc (ready.bodies, c.deref.ensures.value)) ((c.checkpoint.ensures.full alive).0 c.in-Full.is))
 
 pub returns-in-Kept-clause-leaves : goal.returns-in-Kept-clause-leaves
 returns-in-Kept-clause-leaves g c =
     λ s t rs st trusts fate backs has alive less ready.
-    let bodies : c.deref.result.now ≡ map spelled (snapshot (durable t) (t.logged_boot + 1)) = cc (ready.bodies, c.deref.ensures.value) in
-    let below : t.logged_boot < MOST_BOOTS = ltb-true t.logged_boot MOST_BOOTS less in
-    let old = c.args.self.now.log in
-    let went = c.checkpoint.ensures.any_moment trusts.disk (map spelled rs) has.0 has.1 in
-    let of = subst (λ (a : Appended). LeavesOnly g.D.Disk old.other (written a c.checkpoint.new.self) (LeavesAny old.log_bytes newest has.0 c.deref.result.now)) c.in-Kept.is went in
-    let swaps = subst (λ (a : Appended). Swaps a c.deref.result.now old c.checkpoint.new.self) c.in-Kept.is (c.checkpoint.ensures.swaps alive) in
-    let leaves = subst (λ (b : List (List ℕ)). LeavesOnly g.D.Disk old.other (wrote Kept c.checkpoint.new.self) (LeavesAny old.log_bytes newest has.0 b)) bodies of in
-    subst (λ (o : Outcome). LeavesBoot g.D.Disk old (restart_turn s) o c.checkpoint.new.self) (sym c.begun.ensures.told)
-    (boot_leaves g.D.Disk old c.checkpoint.new.self s t c.args.survived rs Kept (lost_recoverable g.D.Disk c.args.self.now s t c.args.survived st fate below) fate backs has less below
-    c.checkpoint.ensures.settings (swap_leaves Kept c.deref.result.now old c.checkpoint.new.self swaps) leaves)
+    boot_leaves g.D.Disk c.args.self.now c.checkpoint.new.self s t c.args.survived rs Kept _ st fate backs has less c.begun.ensures.told
+    (checkpointed g.D.Disk c.args.self.now.log c.checkpoint.new.self Kept c.checkpoint.result has.0 c.deref.result.now _ c.in-Kept.is (cc (ready.bodies, c.deref.ensures.value)) c.checkpoint.ensures.settings
+    (c.checkpoint.ensures.swaps alive) (c.checkpoint.ensures.any_moment trusts.disk (map spelled rs) has.0 has.1))
 
 pub returns-in-Refused-clause-leaves : goal.returns-in-Refused-clause-leaves
 returns-in-Refused-clause-leaves g c =
     λ s t rs st trusts fate backs has alive less ready.
-    let bodies : c.deref.result.now ≡ map spelled (snapshot (durable t) (t.logged_boot + 1)) = cc (ready.bodies, c.deref.ensures.value) in
-    let below : t.logged_boot < MOST_BOOTS = ltb-true t.logged_boot MOST_BOOTS less in
-    let old = c.args.self.now.log in
-    let went = c.checkpoint.ensures.any_moment trusts.disk (map spelled rs) has.0 has.1 in
-    let of = subst (λ (a : Appended). LeavesOnly g.D.Disk old.other (written a c.checkpoint.new.self) (LeavesAny old.log_bytes newest has.0 c.deref.result.now)) c.in-Refused.is went in
-    let swaps = subst (λ (a : Appended). Swaps a c.deref.result.now old c.checkpoint.new.self) c.in-Refused.is (c.checkpoint.ensures.swaps alive) in
-    let leaves = subst (λ (b : List (List ℕ)). LeavesOnly g.D.Disk old.other (wrote Refused c.checkpoint.new.self) (LeavesAny old.log_bytes newest has.0 b)) bodies of in
-    subst (λ (o : Outcome). LeavesBoot g.D.Disk old (restart_turn s) o c.checkpoint.new.self) (sym c.begun-in-Refused.ensures.told)
-    (boot_leaves g.D.Disk old c.checkpoint.new.self s t c.args.survived rs Refused (lost_recoverable g.D.Disk c.args.self.now s t c.args.survived st fate below) fate backs has less below
-    c.checkpoint.ensures.settings (swap_leaves Refused c.deref.result.now old c.checkpoint.new.self swaps) leaves)
+    boot_leaves g.D.Disk c.args.self.now c.checkpoint.new.self s t c.args.survived rs Refused _ st fate backs has less c.begun-in-Refused.ensures.told
+    (checkpointed g.D.Disk c.args.self.now.log c.checkpoint.new.self Refused c.checkpoint.result has.0 c.deref.result.now _ c.in-Refused.is (cc (ready.bodies, c.deref.ensures.value)) c.checkpoint.ensures.settings
+    (c.checkpoint.ensures.swaps alive) (c.checkpoint.ensures.any_moment trusts.disk (map spelled rs) has.0 has.1))
 
 pub returns-in-Lost-clause-leaves : goal.returns-in-Lost-clause-leaves
 returns-in-Lost-clause-leaves g c =
     λ s t rs st trusts fate backs has alive less ready.
-    let bodies : c.deref.result.now ≡ map spelled (snapshot (durable t) (t.logged_boot + 1)) = cc (ready.bodies, c.deref.ensures.value) in
-    let below : t.logged_boot < MOST_BOOTS = ltb-true t.logged_boot MOST_BOOTS less in
-    let old = c.args.self.now.log in
-    let went = c.checkpoint.ensures.any_moment trusts.disk (map spelled rs) has.0 has.1 in
-    let of = subst (λ (a : Appended). LeavesOnly g.D.Disk old.other (written a c.checkpoint.new.self) (LeavesAny old.log_bytes newest has.0 c.deref.result.now)) c.in-Lost.is went in
-    let swaps = subst (λ (a : Appended). Swaps a c.deref.result.now old c.checkpoint.new.self) c.in-Lost.is (c.checkpoint.ensures.swaps alive) in
-    let leaves = subst (λ (b : List (List ℕ)). LeavesOnly g.D.Disk old.other (wrote Lost c.checkpoint.new.self) (LeavesAny old.log_bytes newest has.0 b)) bodies of in
-    subst (λ (o : Outcome). LeavesBoot g.D.Disk old (restart_turn s) o c.checkpoint.new.self) (sym c.begun-in-Lost.ensures.told)
-    (boot_leaves g.D.Disk old c.checkpoint.new.self s t c.args.survived rs Lost (lost_recoverable g.D.Disk c.args.self.now s t c.args.survived st fate below) fate backs has less below
-    c.checkpoint.ensures.settings (swap_leaves Lost c.deref.result.now old c.checkpoint.new.self swaps) leaves)
+    boot_leaves g.D.Disk c.args.self.now c.checkpoint.new.self s t c.args.survived rs Lost _ st fate backs has less c.begun-in-Lost.ensures.told
+    (checkpointed g.D.Disk c.args.self.now.log c.checkpoint.new.self Lost c.checkpoint.result has.0 c.deref.result.now _ c.in-Lost.is (cc (ready.bodies, c.deref.ensures.value)) c.checkpoint.ensures.settings
+    (c.checkpoint.ensures.swaps alive) (c.checkpoint.ensures.any_moment trusts.disk (map spelled rs) has.0 has.1))
 
 pub returns-in-Full-clause-leaves : goal.returns-in-Full-clause-leaves
 returns-in-Full-clause-leaves g c =
     λ s t rs st trusts fate backs has alive less ready.
-    let full = (c.checkpoint.ensures.full alive).0 c.in-Full.is in
-    let bodies : c.deref.result.now ≡ map spelled (snapshot (durable t) (t.logged_boot + 1)) = cc (ready.bodies, c.deref.ensures.value) in
-    let size = ap (λ (b : List (List ℕ)). length (text newest b)) bodies ∙ text_size newest (snapshot (durable t) (t.logged_boot + 1)) in
-    absurd (never_full g.D.Disk c.args.self.now s t c.args.survived rs st fate backs (omega (arith, full, size)))
+    absurd (never_full g.D.Disk c.args.self.now s t c.args.survived rs st fate backs c.deref.result.now (cc (ready.bodies, c.deref.ensures.value)) ((c.checkpoint.ensures.full alive).0 c.in-Full.is))

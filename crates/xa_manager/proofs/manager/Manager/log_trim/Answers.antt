@@ -1,28 +1,21 @@
-use Rattle.std.proofs.Common.{◌+◌, ℕ, List, map, length, refl, ap, sym, ◌∙◌, subst, arith}
-use Rattle.xa_disk.specs.Time.{LeavesOnly}
+use Rattle.std.proofs.Common.{◌+◌, ℕ, List, map, refl, ap, sym, ◌∙◌, subst}
 use Rattle.xa_frame.specs.Made.{carrying}
 use Rattle.xa_frame.specs.declared.body.Body.TheVariants.{Number}
 use Rattle.xa_record.specs.Spelling.{spelled}
-use Rattle.xa_log.specs.Answers.{HasCause}
-use Rattle.xa_log.specs.Checkpoint.{LeavesAny}
-use Rattle.xa_log.specs.Chain.{newest, text}
-use Rattle.xa_log.specs.TwoFiles.{Pair, MaySeal, Checkpoints, Swaps, written}
+use Rattle.xa_log.specs.TwoFiles.{Pair, MaySeal, Checkpoints, Swaps}
 use Rattle.xa_log.specs.declared.appending.Appended.{Appended as Told}
 use Rattle.xa_model.specs.declared.outcome.Appending.TheVariants.{Kept, Refused, Lost}
-use Rattle.xa_model.specs.declared.outcome.Outcome.{Outcome}
 use Rattle.xa_model.specs.Durable.{durable}
 use Rattle.xa_model.specs.Fold.{snapshot}
 use Rattle.xa_model.specs.Trimming.{trim_became, trim_turn}
 use Rattle.xa_model.specs.Turn.{taken}
-use Rattle.xa_manager.specs.Answered.{HasCalledToTrim}
-use Rattle.xa_manager.specs.Crash.{LeavesBy, wrote}
 use Rattle.xa_manager.specs.declared.done.Done.{Done}
-use Rattle.xa_manager.proofs.CrashBoots.{swap_leaves}
+use Rattle.xa_manager.proofs.CrashBoots.{checkpointed}
 use Rattle.xa_manager.proofs.Fates.{is_answer}
 use Rattle.xa_manager.proofs.LogLengths.{text_size}
 use Rattle.xa_manager.proofs.Reserved.{pair_same}
 use Rattle.xa_manager.proofs.Standing.{refused_pair}
-use Rattle.xa_manager.proofs.Trims.{trim_taken, trim_recoverable, kept_stands, refused_stands, sealed_stands, fits_always, trim_leaves, is_refused, other_rises, none_rises_swapped, called_same}
+use Rattle.xa_manager.proofs.Trims.{trim_taken, kept_stands, refused_stands, sealed_stands, trim_leaves, trim_called, is_refused}
 use Rattle.xa_manager.proofs.manager.Manager.log_trim.Goals as goal
 
 pub returns-in-Kept-clause-turn : goal.returns-in-Kept-clause-turn
@@ -47,14 +40,9 @@ pub returns-in-Kept-clause-leaves : goal.returns-in-Kept-clause-leaves
 returns-in-Kept-clause-leaves g c =
     λ log s rs r st trusts backs has e bodies.
     let m = c.args.self.now in
-    let fresh = c.args.bodies.now in
-    let went = c.checkpoint.ensures.any_moment trusts.disk (map spelled rs) has.0 (pair_same g.D.Disk log m.log r (map spelled rs) has.0 has.1) in
-    let of = subst (λ (a : Told). LeavesOnly g.D.Disk m.log.other (written a c.checkpoint.new.self) (LeavesAny m.log.log_bytes newest has.0 fresh)) c.in-Kept.is went in
-    let swaps = subst (λ (a : Told). Swaps a fresh m.log c.checkpoint.new.self) c.in-Kept.is (c.checkpoint.ensures.swaps (st.alive c.requires.up)) in
-    let leaves = subst (λ (b : List (List ℕ)). LeavesOnly g.D.Disk m.log.other (wrote Kept c.checkpoint.new.self) (LeavesAny m.log.log_bytes newest has.0 b)) bodies of in
-    subst (λ (o : Outcome). LeavesBy g.D.Disk log (trim_turn s) o c.checkpoint.new.self s) (sym (ap (λ (d : Done). d.outcome) c.trimmed.ensures))
-    (trim_leaves g.D.Disk log m.log c.checkpoint.new.self s rs Kept r (trim_recoverable g.D.Disk m s st c.requires.up) e backs has
-    c.checkpoint.ensures.settings (swap_leaves Kept fresh m.log c.checkpoint.new.self swaps) leaves)
+    trim_leaves g.D.Disk m log c.checkpoint.new.self s rs Kept _ st c.requires.up r e backs has (ap (λ (d : Done). d.outcome) c.trimmed.ensures)
+    (checkpointed g.D.Disk m.log c.checkpoint.new.self Kept c.checkpoint.result has.0 c.args.bodies.now _ c.in-Kept.is bodies c.checkpoint.ensures.settings (c.checkpoint.ensures.swaps (st.alive c.requires.up))
+    (c.checkpoint.ensures.any_moment trusts.disk (map spelled rs) has.0 (pair_same g.D.Disk log m.log r (map spelled rs) has.0 has.1)))
 
 pub returns-in-Lost-clause-turn : goal.returns-in-Lost-clause-turn
 returns-in-Lost-clause-turn g c =
@@ -74,50 +62,36 @@ pub returns-in-Lost-clause-leaves : goal.returns-in-Lost-clause-leaves
 returns-in-Lost-clause-leaves g c =
     λ log s rs r st trusts backs has e bodies.
     let m = c.args.self.now in
-    let fresh = c.args.bodies.now in
-    let went = c.checkpoint.ensures.any_moment trusts.disk (map spelled rs) has.0 (pair_same g.D.Disk log m.log r (map spelled rs) has.0 has.1) in
-    let of = subst (λ (a : Told). LeavesOnly g.D.Disk m.log.other (written a c.checkpoint.new.self) (LeavesAny m.log.log_bytes newest has.0 fresh)) c.in-Lost.is went in
-    let swaps = subst (λ (a : Told). Swaps a fresh m.log c.checkpoint.new.self) c.in-Lost.is (c.checkpoint.ensures.swaps (st.alive c.requires.up)) in
-    let leaves = subst (λ (b : List (List ℕ)). LeavesOnly g.D.Disk m.log.other (wrote Lost c.checkpoint.new.self) (LeavesAny m.log.log_bytes newest has.0 b)) bodies of in
-    subst (λ (o : Outcome). LeavesBy g.D.Disk log (trim_turn s) o c.checkpoint.new.self s) (sym (ap (λ (d : Done). d.outcome) c.trimmed-in-Lost.ensures))
-    (trim_leaves g.D.Disk log m.log c.checkpoint.new.self s rs Lost r (trim_recoverable g.D.Disk m s st c.requires.up) e backs has
-    c.checkpoint.ensures.settings (swap_leaves Lost fresh m.log c.checkpoint.new.self swaps) leaves)
+    trim_leaves g.D.Disk m log c.checkpoint.new.self s rs Lost _ st c.requires.up r e backs has (ap (λ (d : Done). d.outcome) c.trimmed-in-Lost.ensures)
+    (checkpointed g.D.Disk m.log c.checkpoint.new.self Lost c.checkpoint.result has.0 c.args.bodies.now _ c.in-Lost.is bodies c.checkpoint.ensures.settings (c.checkpoint.ensures.swaps (st.alive c.requires.up))
+    (c.checkpoint.ensures.any_moment trusts.disk (map spelled rs) has.0 (pair_same g.D.Disk log m.log r (map spelled rs) has.0 has.1)))
 
 pub returns-in-Lost-clause-called : goal.returns-in-Lost-clause-called
 returns-in-Lost-clause-called g c =
     λ log s rs r st trusts backs bodies.
     let m = c.args.self.now in
     let alive = st.alive c.requires.up in
-    let swaps = subst (λ (a : Told). Swaps a c.args.bodies.now m.log c.checkpoint.new.self) c.in-Lost.is (c.checkpoint.ensures.swaps alive) in
-    let cause = subst (λ (a : Told). HasCause a (g.D.Disk.failures m.log.other) (g.D.Disk.failures (written a c.checkpoint.new.self))) c.in-Lost.is (c.checkpoint.ensures.cause alive) in
-    subst (λ (o : Outcome). HasCalledToTrim g.D.Disk o log c.checkpoint.new.self) (sym (ap (λ (d : Done). d.outcome) c.trimmed-in-Lost.ensures))
-    (called_same g.D.Disk log m.log c.checkpoint.new.self Lost r (other_rises g.D.Disk.failures m.log c.checkpoint.new.self swaps.1 swaps.0 cause))
+    trim_called g.D.Disk log m.log c.checkpoint.new.self c.args.bodies.now c.checkpoint.result Lost _ c.in-Lost.is (ap (λ (d : Done). d.outcome) c.trimmed-in-Lost.ensures) r
+    (c.checkpoint.ensures.swaps alive) (c.checkpoint.ensures.cause alive)
 
 pub returns-in-Refused-clause-called : goal.returns-in-Refused-clause-called
 returns-in-Refused-clause-called g c =
     λ log s rs r st trusts backs bodies.
     let m = c.args.self.now in
     let alive = st.alive c.requires.up in
-    let size = ap (λ (b : List (List ℕ)). length (text newest b)) bodies ∙ text_size newest (snapshot (durable s) (s.logged_boot + 1)) in
-    let is = is_refused c.checkpoint.result c.in-Refused.is
-    (λ full. let short = (c.checkpoint.ensures.full alive).0 full in fits_always g.D.Disk m s st c.requires.up rs backs (omega (arith, short, size))) in
-    let swaps = subst (λ (a : Told). Swaps a c.args.bodies.now m.log c.checkpoint.new.self) is (c.checkpoint.ensures.swaps alive) in
-    let cause = subst (λ (a : Told). HasCause a (g.D.Disk.failures m.log.other) (g.D.Disk.failures (written a c.checkpoint.new.self))) is (c.checkpoint.ensures.cause alive) in
-    subst (λ (o : Outcome). HasCalledToTrim g.D.Disk o log c.checkpoint.new.self) (sym (ap (λ (d : Done). d.outcome) c.trimmed-in-Refused.ensures))
-    (called_same g.D.Disk log m.log c.checkpoint.new.self Refused r (other_rises g.D.Disk.failures m.log c.checkpoint.new.self swaps.1 swaps.0 cause))
+    let is = is_refused g.D.Disk m s st c.requires.up rs c.args.bodies.now c.checkpoint.result backs bodies (c.checkpoint.ensures.full (st.alive c.requires.up)).0 c.in-Refused.is in
+    trim_called g.D.Disk log m.log c.checkpoint.new.self c.args.bodies.now c.checkpoint.result Refused _ is (ap (λ (d : Done). d.outcome) c.trimmed-in-Refused.ensures) r
+    (c.checkpoint.ensures.swaps alive) (c.checkpoint.ensures.cause alive)
 
 pub returns-in-Refused-clause-turn : goal.returns-in-Refused-clause-turn
 returns-in-Refused-clause-turn g c =
     λ s rs st trusts backs has e number bodies.
     let m = c.args.self.now in
     let fresh = c.args.bodies.now in
-    let alive = st.alive c.requires.up in
-    let size = ap (λ (b : List (List ℕ)). length (text newest b)) bodies ∙ text_size newest (snapshot (durable s) (s.logged_boot + 1)) in
-    let is = is_refused c.checkpoint.result c.in-Refused.is
-    (λ full. let short = (c.checkpoint.ensures.full alive).0 full in fits_always g.D.Disk m s st c.requires.up rs backs (omega (arith, short, size))) in
+    let is = is_refused g.D.Disk m s st c.requires.up rs fresh c.checkpoint.result backs bodies (c.checkpoint.ensures.full (st.alive c.requires.up)).0 c.in-Refused.is in
     let went = c.checkpoint.ensures.answer trusts.disk (map spelled rs) has.0 has.1 in
     let kept = subst (λ (a : Told). Checkpoints g.D.Disk a (map spelled rs) has.0 fresh c.checkpoint.new.self) is went in
-    let swaps = subst (λ (a : Told). Swaps a fresh m.log c.checkpoint.new.self) is (c.checkpoint.ensures.swaps alive) in
+    let swaps = subst (λ (a : Told). Swaps a fresh m.log c.checkpoint.new.self) is (c.checkpoint.ensures.swaps (st.alive c.requires.up)) in
     let told = ap (λ (d : Done). taken (trim_turn s) d.outcome) c.trimmed-in-Refused.ensures in
     is_answer _ (trim_became s (s.logged_boot + 1) Refused) _ (told ∙ trim_taken s Refused e) (
       sym (ap (λ (d : Done). d.reply) c.trimmed-in-Refused.ensures ∙ c.detailed.ensures),
@@ -129,25 +103,15 @@ pub returns-in-Refused-clause-leaves : goal.returns-in-Refused-clause-leaves
 returns-in-Refused-clause-leaves g c =
     λ log s rs r st trusts backs has e bodies.
     let m = c.args.self.now in
-    let fresh = c.args.bodies.now in
-    let alive = st.alive c.requires.up in
-    let size = ap (λ (b : List (List ℕ)). length (text newest b)) bodies ∙ text_size newest (snapshot (durable s) (s.logged_boot + 1)) in
-    let is = is_refused c.checkpoint.result c.in-Refused.is
-    (λ full. let short = (c.checkpoint.ensures.full alive).0 full in fits_always g.D.Disk m s st c.requires.up rs backs (omega (arith, short, size))) in
-    let went = c.checkpoint.ensures.any_moment trusts.disk (map spelled rs) has.0 (pair_same g.D.Disk log m.log r (map spelled rs) has.0 has.1) in
-    let of = subst (λ (a : Told). LeavesOnly g.D.Disk m.log.other (written a c.checkpoint.new.self) (LeavesAny m.log.log_bytes newest has.0 fresh)) is went in
-    let swaps = subst (λ (a : Told). Swaps a fresh m.log c.checkpoint.new.self) is (c.checkpoint.ensures.swaps alive) in
-    let leaves = subst (λ (b : List (List ℕ)). LeavesOnly g.D.Disk m.log.other (wrote Refused c.checkpoint.new.self) (LeavesAny m.log.log_bytes newest has.0 b)) bodies of in
-    subst (λ (o : Outcome). LeavesBy g.D.Disk log (trim_turn s) o c.checkpoint.new.self s) (sym (ap (λ (d : Done). d.outcome) c.trimmed-in-Refused.ensures))
-    (trim_leaves g.D.Disk log m.log c.checkpoint.new.self s rs Refused r (trim_recoverable g.D.Disk m s st c.requires.up) e backs has
-    c.checkpoint.ensures.settings (swap_leaves Refused fresh m.log c.checkpoint.new.self swaps) leaves)
+    let is = is_refused g.D.Disk m s st c.requires.up rs c.args.bodies.now c.checkpoint.result backs bodies (c.checkpoint.ensures.full (st.alive c.requires.up)).0 c.in-Refused.is in
+    trim_leaves g.D.Disk m log c.checkpoint.new.self s rs Refused _ st c.requires.up r e backs has (ap (λ (d : Done). d.outcome) c.trimmed-in-Refused.ensures)
+    (checkpointed g.D.Disk m.log c.checkpoint.new.self Refused c.checkpoint.result has.0 c.args.bodies.now _ is bodies c.checkpoint.ensures.settings (c.checkpoint.ensures.swaps (st.alive c.requires.up))
+    (c.checkpoint.ensures.any_moment trusts.disk (map spelled rs) has.0 (pair_same g.D.Disk log m.log r (map spelled rs) has.0 has.1)))
 
 pub returns-in-Kept-clause-called : goal.returns-in-Kept-clause-called
 returns-in-Kept-clause-called g c =
     λ log s rs r st trusts backs bodies.
     let m = c.args.self.now in
     let alive = st.alive c.requires.up in
-    let swaps = subst (λ (a : Told). Swaps a c.args.bodies.now m.log c.checkpoint.new.self) c.in-Kept.is (c.checkpoint.ensures.swaps alive) in
-    let cause = subst (λ (a : Told). HasCause a (g.D.Disk.failures m.log.other) (g.D.Disk.failures (written a c.checkpoint.new.self))) c.in-Kept.is (c.checkpoint.ensures.cause alive) in
-    subst (λ (o : Outcome). HasCalledToTrim g.D.Disk o log c.checkpoint.new.self) (sym (ap (λ (d : Done). d.outcome) c.trimmed.ensures))
-    (called_same g.D.Disk log m.log c.checkpoint.new.self Kept r (none_rises_swapped g.D.Disk.failures m.log c.checkpoint.new.self swaps.1 swaps.0 cause))
+    trim_called g.D.Disk log m.log c.checkpoint.new.self c.args.bodies.now c.checkpoint.result Kept _ c.in-Kept.is (ap (λ (d : Done). d.outcome) c.trimmed.ensures) r
+    (c.checkpoint.ensures.swaps alive) (c.checkpoint.ensures.cause alive)

@@ -1,7 +1,6 @@
 use Rattle.std.proofs.Common.{◌≡◌, ◌∙◌, ℕ, List, Option, true, ap, sym, subst}
 use Rattle.xa_frame.specs.declared.request.Request.TheVariants.{Restart}
 use Rattle.xa_log.specs.Reading.{bodies_of}
-use Rattle.xa_model.specs.Durable.{durable}
 use Rattle.xa_manager.specs.Rereading.{Found, IsCounted, GoesOn, IsNext}
 use Rattle.xa_manager.specs.declared.doubt.Doubt.{Doubt}
 use Rattle.xa_manager.specs.LogStands.{Trusts}
@@ -10,7 +9,6 @@ use Rattle.xa_model.specs.State.{State}
 use Rattle.xa_manager.specs.Turns.{HasWanted}
 use Rattle.xa_manager.proofs.Begins.{next_newer, next_above}
 use Rattle.xa_manager.proofs.CrashBoots.{boot_by}
-use Rattle.xa_manager.proofs.Generations.{never_refused}
 use Rattle.xa_manager.proofs.Reserved.{look_same, many_same, none_rises, reserved_stands, state_same}
 use Rattle.xa_manager.proofs.Rereads.{failed_restarts, look_wanted, unread_ready}
 use Rattle.xa_manager.proofs.manager.Manager.restarted.Goals as goal
@@ -77,21 +75,15 @@ returns-else-self-clause-err g c =
 
 pub returns-in-Err-Malformed-clause-ok : goal.returns-in-Err-Malformed-clause-ok
 returns-in-Err-Malformed-clause-ok g c =
-    let rebuilt = c.in-Err-Malformed.ensures.plans in
-    unread_ready g.D.Disk c.args.self.now c.look.new.self c.make_ready.new.self c.unread-in-Err-Malformed.new.self c.unread-in-Err-Malformed.result.reply c.unread-in-Err-Malformed.result.outcome
+    unread_ready g.D.Disk c.args.self.now c.look.new.self c.make_ready.new.self c.unread-in-Err-Malformed.new.self _ _ (bodies_of c.in-Ok.bodies.items) c.in-Err-Malformed.field-0
     c.unread-in-Err-Malformed.ensures.told c.unread-in-Err-Malformed.ensures.reply c.unread-in-Err-Malformed.ensures.down c.in-Err-Malformed.ensures.err c.in-Ok.ensures.count
-    (λ s st trusts.
-    let f = c.in-Ok.ensures.found trusts s st in
-    cc (never_refused (bodies_of c.in-Ok.bodies.items) f.records (durable f.state) c.in-Err-Malformed.field-0 rebuilt f.spelled_as f.backs.records f.backs.lasts, c.in-Err-Malformed.field-0-is))
+    c.in-Ok.ensures.found c.in-Err-Malformed.ensures.plans (λ e. cc (e, c.in-Err-Malformed.field-0-is))
 
 pub returns-in-Err-Order-clause-ok : goal.returns-in-Err-Order-clause-ok
 returns-in-Err-Order-clause-ok g c =
-    let rebuilt = c.in-Err-Order.ensures.plans in
-    unread_ready g.D.Disk c.args.self.now c.look.new.self c.make_ready.new.self c.unread-in-Err-Order.new.self c.unread-in-Err-Order.result.reply c.unread-in-Err-Order.result.outcome
+    unread_ready g.D.Disk c.args.self.now c.look.new.self c.make_ready.new.self c.unread-in-Err-Order.new.self _ _ (bodies_of c.in-Ok.bodies.items) c.in-Err-Order.field-0
     c.unread-in-Err-Order.ensures.told c.unread-in-Err-Order.ensures.reply c.unread-in-Err-Order.ensures.down c.in-Err-Order.ensures.err c.in-Ok.ensures.count
-    (λ s st trusts.
-    let f = c.in-Ok.ensures.found trusts s st in
-    cc (never_refused (bodies_of c.in-Ok.bodies.items) f.records (durable f.state) c.in-Err-Order.field-0 rebuilt f.spelled_as f.backs.records f.backs.lasts, c.in-Err-Order.field-0-is))
+    c.in-Ok.ensures.found c.in-Err-Order.ensures.plans (λ e. cc (e, c.in-Err-Order.field-0-is))
 
 pub returns-in-Err-Memory-clause-err : goal.returns-in-Err-Memory-clause-err
 returns-in-Err-Memory-clause-err g c =

@@ -1,4 +1,4 @@
-use Rattle.std.proofs.Common.{refl, subst}
+use Rattle.std.proofs.Common.{subst}
 use Rattle.xa_limits.specs.declared.TheConstants.{MOST_VALUE}
 use Rattle.mv_chain.specs.declared.fate.Fate.{Fate}
 use Rattle.xa_manager.specs.View.{view_of}
@@ -8,8 +8,8 @@ use Rattle.xa_manager.proofs.tables.Tables.decide_branch.Goals as goal
 pub returns-clause-becomes : goal.returns-clause-becomes
 returns-clause-becomes c = λ s end st doubt recoverable.
     let t = c.timestamp-timestamp.result in
-    decided_stands (view_of c.args.self.now) (record (view_of c.args.self.now) { branches = c.decide.new.self; records = c.settle.new.self }) s c.args.xid.now c.args.direction end t st doubt
-    (c.timestamp-timestamp.ensures s st.branches) refl refl refl (c.decide.ensures.decided s st.recoverable.sound st.branches doubt)
+    decided_stands (view_of c.args.self.now) c.decide.new.self c.settle.new.self s c.args.xid.now c.args.direction end t st doubt
+    (c.timestamp-timestamp.ensures s st.branches) (c.decide.ensures.decided s st.recoverable.sound st.branches doubt)
     (subst (λ (fate : Fate). Settles t fate c.args.self.now.records c.settle.new.self) c.fate_of.ensures c.settle.ensures.stands) recoverable
 
 pub invariant_of-self : goal.invariant_of-self
