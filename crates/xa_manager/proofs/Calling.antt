@@ -206,65 +206,48 @@ module _ {D : Type 0} (disks : Ghosts D) where
   follows_done m m' n request handed o act reply event same other stops none h passes is log up doubt f =
       turn_done m m' n request handed o (λ s. Now (act s)) reply Quiet event same other stops none h passes is (takes_row disks m m' act reply Quiet refl log up doubt f)
 
-  -- a restart, of whichever state the manager stood for, up or down
-  restarted_done : (m m' : Manager D) (n : ℕ) (reply : Reply) (outcome : Outcome) → None ≡ early_refusal (context_at m.up (view m) n) Restart
-      → HasRestarted disks m reply outcome m' → HasDone disks m (Call n Restart) reply outcome m'
-  restarted_done m m' n reply outcome h x = record {
-    steps = λ s st premises.
-        let steps : step s (Asked (Call n Restart)) outcome ≡ taken (restart_turn s) outcome =
-        ap (λ (t : Turn). taken t outcome) (restart_alone s n ∙ (asked_by m.up (view m) s (respond s (Call n Restart)) st.tables ∙ passed_row m s n Restart h st)) in
-        subst (λ (o : Option Answer). IsSomeAnd o (λ a. (a.reply ≡ reply) × ManagerStandsFor disks m' a.after)) (sym steps)
-        (⊎_elim (λ trusts. x.turn s st trusts) (λ no. absurd (cc no)) premises);
-    called = λ s st premises. x.called;
-    crash = λ s st trusts.
-        let is : turn_of s (Asked (Call n Restart)) ≡ restart_turn s =
-        restart_alone s n ∙ (asked_by m.up (view m) s (respond s (Call n Restart)) st.tables ∙ passed_row m s n Restart h st) in
-        subst (λ (t : Turn). LeavesBy disks m.log t outcome m'.log s) (sym is) (x.leaves s st trusts);
-    served = x.served;
+  -- a request that begins a boot, by what its turn does of whichever state the manager stood for
+  boot_done : (m m' : Manager D) (n : ℕ) (request : Request) (reply : Reply) (outcome : Outcome) → asks_boot request ≡ true → ((s : State) → turn_of s (Asked (Call n request)) ≡ asked s.standing (respond s (Call n request)))
+      → None ≡ early_refusal (context_at m.up (view m) n) request
+      → ((s : State) → ManagerStandsFor disks m s → Trusts disks → AnswersAs disks (taken (row s n request) outcome) reply m')
+      → ((s : State) → ManagerStandsFor disks m s → Trusts disks → HasCalledFor disks (asks_trim request) outcome m.log m'.log)
+      → ((s : State) → ManagerStandsFor disks m s → Trusts disks → LeavesBy disks m.log (row s n request) outcome m'.log s)
+      → is_memory reply.detail ≡ false → HasDone disks m (Call n request) reply outcome m'
+  boot_done m m' n request reply outcome boots alone h answers called leaves served = record {
+    steps = λ s st premises. ⊎_elim (λ trusts. subst (λ (t : Turn). AnswersAs disks (taken t outcome) reply m') (sym (is s st)) (answers s st trusts)) (λ no. absurd (cc (boots, no))) premises;
+    called = λ s st premises. ⊎_elim (λ trusts. called s st trusts) (λ no. absurd (cc (boots, no))) premises;
+    crash = λ s st trusts. subst (λ (t : Turn). LeavesBy disks m.log t outcome m'.log s) (sym (is s st)) (leaves s st trusts);
+    served = served;
   }
+    where
+      is : (s : State) → ManagerStandsFor disks m s → turn_of s (Asked (Call n request)) ≡ row s n request
+      is s st = alone s ∙ (asked_by m.up (view m) s (respond s (Call n request)) st.tables ∙ passed_row m s n request h st)
 
-  restart_by : (m m' : Manager D) (n : ℕ) (r : Result Done AllocError) → None ≡ early_refusal (context_at m.up (view m) n) Restart
-      → IfOk r (λ d. HasRestarted disks m d.reply d.outcome m') → IfOk r (λ d. IsBare d.reply)
-      → IfOk r (λ d. HasDone disks m (Call n Restart) d.reply d.outcome m' × IsFresh d.reply)
-  restart_by m m' n (Ok d) h x bare = (restarted_done m m' n d.reply d.outcome h x, bare_fresh d.reply bare)
-  restart_by m m' n (Err e) h x bare = tt
+  both_ok : (r : Result Done AllocError) {P Q R : Done → Type 0} → ((d : Done) → P d → Q d → R d) → IfOk r P → IfOk r Q → IfOk r R
+  both_ok (Ok d) f p q = f d p q
+  both_ok (Err e) f p q = tt
 
+  -- a restart, of whichever state the manager stood for, up or down
   pub restart_done : (m m' : Manager D) (n : ℕ) (request : Request) (r : Result Done AllocError) → request ≡ Restart → None ≡ early_refusal (context_at m.up (view m) n) request
       → IfOk r (λ d. HasRestarted disks m d.reply d.outcome m') → IfOk r (λ d. IsBare d.reply)
       → IfOk r (λ d. HasDone disks m (Call n request) d.reply d.outcome m' × IsFresh d.reply)
-  restart_done m m' n request r same h x bare =
-      subst (λ (q : Request). IfOk r (λ d. HasDone disks m (Call n q) d.reply d.outcome m' × IsFresh d.reply)) (sym same)
-      (restart_by m m' n r (subst (λ (q : Request). None ≡ early_refusal (context_at m.up (view m) n) q) same h) x bare)
+  restart_done m m' n request r same h =
+      both_ok r (λ d x bare. (
+        subst (λ (q : Request). HasDone disks m (Call n q) d.reply d.outcome m') (sym same)
+            (boot_done m m' n Restart d.reply d.outcome refl (λ s. restart_alone s n) (subst (λ (q : Request). None ≡ early_refusal (context_at m.up (view m) n) q) same h) x.turn (λ s st trusts. x.called) x.leaves x.served),
+        bare_fresh d.reply bare,
+      ))
 
   -- a trim, of whichever state the manager stood for, which was up
-  trimmed_done : (m m' : Manager D) (n : ℕ) (reply : Reply) (outcome : Outcome) → None ≡ early_refusal (context_at m.up (view m) n) Trim
-      → HasTrimmed disks m reply outcome m' → HasDone disks m (Call n Trim) reply outcome m'
-  trimmed_done m m' n reply outcome h x = record {
-    steps = λ s st premises.
-        let steps : step s (Asked (Call n Trim)) outcome ≡ taken (trim_turn s) outcome =
-        ap (λ (t : Turn). taken t outcome) (trim_alone s n ∙ (asked_by m.up (view m) s (respond s (Call n Trim)) st.tables ∙ passed_row m s n Trim h st)) in
-        subst (λ (o : Option Answer). IsSomeAnd o (λ a. (a.reply ≡ reply) × ManagerStandsFor disks m' a.after)) (sym steps)
-        (⊎_elim (λ trusts. x.turn s st trusts) (λ no. absurd (cc no)) premises);
-    called = λ s st premises. ⊎_elim (λ trusts. x.called s st trusts) (λ no. absurd (cc no)) premises;
-    crash = λ s st trusts.
-        let is : turn_of s (Asked (Call n Trim)) ≡ trim_turn s =
-        trim_alone s n ∙ (asked_by m.up (view m) s (respond s (Call n Trim)) st.tables ∙ passed_row m s n Trim h st) in
-        subst (λ (t : Turn). LeavesBy disks m.log t outcome m'.log s) (sym is) (x.leaves s st trusts);
-    served = x.served;
-  }
-
-  trim_by : (m m' : Manager D) (n : ℕ) (r : Result Done AllocError) → None ≡ early_refusal (context_at m.up (view m) n) Trim
-      → IfOk r (λ d. HasTrimmed disks m d.reply d.outcome m') → IfOk r (λ d. IsFresh d.reply)
-      → IfOk r (λ d. HasDone disks m (Call n Trim) d.reply d.outcome m' × IsFresh d.reply)
-  trim_by m m' n (Ok d) h x fresh = (trimmed_done m m' n d.reply d.outcome h x, fresh)
-  trim_by m m' n (Err e) h x fresh = tt
-
   pub trim_done : (m m' : Manager D) (n : ℕ) (request : Request) (r : Result Done AllocError) → request ≡ Trim → None ≡ early_refusal (context_at m.up (view m) n) request
       → IfOk r (λ d. HasTrimmed disks m d.reply d.outcome m') → IfOk r (λ d. IsFresh d.reply)
       → IfOk r (λ d. HasDone disks m (Call n request) d.reply d.outcome m' × IsFresh d.reply)
-  trim_done m m' n request r same h x fresh =
-      subst (λ (q : Request). IfOk r (λ d. HasDone disks m (Call n q) d.reply d.outcome m' × IsFresh d.reply)) (sym same)
-      (trim_by m m' n r (subst (λ (q : Request). None ≡ early_refusal (context_at m.up (view m) n) q) same h) x fresh)
+  trim_done m m' n request r same h =
+      both_ok r (λ d x fresh. (
+        subst (λ (q : Request). HasDone disks m (Call n q) d.reply d.outcome m') (sym same)
+            (boot_done m m' n Trim d.reply d.outcome refl (λ s. trim_alone s n) (subst (λ (q : Request). None ≡ early_refusal (context_at m.up (view m) n) q) same h) x.turn x.called x.leaves x.served),
+        fresh,
+      ))
 
   -- the outcome is no part of what a manager stands for
   told : (m : Manager D) (o : Outcome) (s : State) → ManagerStandsFor disks m s → ManagerStandsFor disks (record m { outcome = o }) s

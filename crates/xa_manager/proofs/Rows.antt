@@ -1,8 +1,10 @@
 -- A row, by what it comes to.
 use Rattle.std.proofs.Common.{◌≡◌, ℤ, false, Option, Some, None, refl, ap, sym, ◌∙◌, subst}
 use Rattle.xa_frame.specs.declared.reply.Reply.{Reply}
-use Rattle.xa_model.specs.State.{State}
+use Rattle.xa_xid.specs.Triple.{Triple}
+use Rattle.xa_model.specs.State.{State, known_as}
 use Rattle.xa_model.specs.Answer.{Answer, plain, answer, unless, marked}
+use Rattle.xa_model.specs.Associations.{mark_in}
 use Rattle.xa_model.specs.Invariants.Loggable.{IsRecoverable}
 use Rattle.xa_assoc.specs.Refusals.{is_memory}
 use Rattle.xa_manager.specs.View.{View}
@@ -27,7 +29,15 @@ refused_is o s a reply e = ap (λ (x : Option Reply). unless x s a) e
 pub passed_is : (o : Option Reply) (s : State) (a : Answer) → o ≡ None → unless o s a ≡ a
 passed_is o s a e = ap (λ (x : Option Reply). unless x s a) e
 
--- a row of a branch, behind its refusals and its mark
+-- a row of a session's work for a branch, behind its refusals and the branch's mark, with what it leaves of a marked one
+pub record Work : Type 0 where
+  pub refusal : State → Option Reply
+  pub xid : Triple
+  pub left : State → State
+  pub go : State → Answer
+
+abbrev pub work_by : Work → State → Answer
+work_by w s = unless (w.refusal s) s (marked (mark_in (known_as s w.xid)) (w.left s) (w.go s))
 
 marked_is : (o : Option Reply) (mark : Option ℤ) (s left : State) (go : Answer) (code : ℤ) → o ≡ None → mark ≡ Some code → unless o s (marked mark left go) ≡ answer (plain code) left
 marked_is o mark s left go code e f = rw (e, f) refl
@@ -35,30 +45,27 @@ marked_is o mark s left go code e f = rw (e, f) refl
 goes_on_is : (o : Option Reply) (mark : Option ℤ) (s left : State) (go : Answer) → o ≡ None → mark ≡ None → unless o s (marked mark left go) ≡ go
 goes_on_is o mark s left go e f = rw (e, f) refl
 
-pub follows_refused : (m : View) (o : State → Option Reply) (go : State → Answer) (reply : Reply) → is_memory reply.detail ≡ false → ((s : State) → StandsFor m s → Some reply ≡ o s) → Follows m (λ s. unless (o s) s (go s)) reply m
-follows_refused m o go reply served h =
-    follows_by m m (λ s. unless (o s) s (go s)) reply served (λ s st. (answer reply s, refused_is (o s) s (go s) reply (sym (h s st)), refl, λ recoverable. st))
+pub follows_refused : (m : View) (w : Work) (reply : Reply) → is_memory reply.detail ≡ false → ((s : State) → StandsFor m s → Some reply ≡ w.refusal s) → Follows m (work_by w) reply m
+follows_refused m w reply served h =
+    follows_by m m (work_by w) reply served
+    (λ s st. (answer reply s, refused_is (w.refusal s) s (marked (mark_in (known_as s w.xid)) (w.left s) (w.go s)) reply (sym (h s st)), refl, λ recoverable. st))
 
-pub follows_passed : (m m' : View) (o : State → Option Reply) (go : State → Answer) (reply : Reply) → is_memory reply.detail ≡ false → ((s : State) → StandsFor m s → None ≡ o s)
-    → ((s : State) → StandsFor m s → o s ≡ None → ((go s).reply ≡ reply) × (IsRecoverable (go s).after → StandsFor m' (go s).after)) → Follows m (λ s. unless (o s) s (go s)) reply m'
-follows_passed m m' o go reply served free h =
-    follows_by m m' (λ s. unless (o s) s (go s)) reply served
-    (λ s st. let x = h s st (sym (free s st)) in (go s, passed_is (o s) s (go s) (sym (free s st)), x.0, x.1))
+-- once nothing refused it
+module _ (m m' : View) (w : Work) (o : Option Reply) (none : o ≡ None) (free : (s : State) → StandsFor m s → o ≡ w.refusal s) where
+  passes : (s : State) → StandsFor m s → w.refusal s ≡ None
+  passes s st = sym (free s st) ∙ none
 
-pub follows_marked : (m m' : View) (o : State → Option Reply) (mark : State → Option ℤ) (left : State → State) (go : State → Answer) (code : ℤ) → ((s : State) → StandsFor m s → None ≡ o s)
-    → ((s : State) → StandsFor m s → mark s ≡ Some code) → ((s : State) → StandsFor m s → o s ≡ None → IsRecoverable (left s) → StandsFor m' (left s))
-    → Follows m (λ s. unless (o s) s (marked (mark s) (left s) (go s))) (plain code) m'
-follows_marked m m' o mark left go code free is h =
-    follows_by m m' (λ s. unless (o s) s (marked (mark s) (left s) (go s))) (plain code) refl
-    (λ s st. (answer (plain code) (left s), marked_is (o s) (mark s) s (left s) (go s) code (sym (free s st)) (is s st), refl, h s st (sym (free s st))))
+  pub follows_marked : (code : ℤ) → ((s : State) → StandsFor m s → mark_in (known_as s w.xid) ≡ Some code)
+      → ((s : State) → StandsFor m s → w.refusal s ≡ None → IsRecoverable (w.left s) → StandsFor m' (w.left s)) → Follows m (work_by w) (plain code) m'
+  follows_marked code is h =
+      follows_by m m' (work_by w) (plain code) refl
+      (λ s st. (answer (plain code) (w.left s), marked_is (w.refusal s) (mark_in (known_as s w.xid)) s (w.left s) (w.go s) code (passes s st) (is s st), refl, h s st (passes s st)))
 
-pub follows_unmarked : (m m' : View) (o : State → Option Reply) (mark : State → Option ℤ) (left : State → State) (go : State → Answer) (reply : Reply) → is_memory reply.detail ≡ false
-    → ((s : State) → StandsFor m s → None ≡ o s) → ((s : State) → StandsFor m s → mark s ≡ None)
-    → ((s : State) → StandsFor m s → o s ≡ None → ((go s).reply ≡ reply) × (IsRecoverable (go s).after → StandsFor m' (go s).after))
-    → Follows m (λ s. unless (o s) s (marked (mark s) (left s) (go s))) reply m'
-follows_unmarked m m' o mark left go reply served free is h =
-    follows_by m m' (λ s. unless (o s) s (marked (mark s) (left s) (go s))) reply served
-    (λ s st. let x = h s st (sym (free s st)) in (go s, goes_on_is (o s) (mark s) s (left s) (go s) (sym (free s st)) (is s st), x.0, x.1))
+  pub follows_unmarked : (mark : Option ℤ) (reply : Reply) → mark ≡ None → is_memory reply.detail ≡ false → ((s : State) → StandsFor m s → mark_in (known_as s w.xid) ≡ mark)
+      → ((s : State) → StandsFor m s → w.refusal s ≡ None → ((w.go s).reply ≡ reply) × (IsRecoverable (w.go s).after → StandsFor m' (w.go s).after)) → Follows m (work_by w) reply m'
+  follows_unmarked mark reply unmarked served is h =
+      follows_by m m' (work_by w) reply served
+      (λ s st. let x = h s st (passes s st) in (w.go s, goes_on_is (w.refusal s) (mark_in (known_as s w.xid)) s (w.left s) (w.go s) (passes s st) (is s st ∙ unmarked), x.0, x.1))
 
 -- a second refusal behind those
 

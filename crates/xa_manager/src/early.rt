@@ -74,25 +74,7 @@ fn is_async(call: Call, flags: u32) -> bool
 fn passes_down(call: Call) -> bool
     ensures { result ≡ passes_down call }
 {
-    match call {
-        Call::Open | Call::Close | Call::Restart => true,
-        Call::Start
-        | Call::End
-        | Call::Prepare
-        | Call::Commit
-        | Call::Rollback
-        | Call::Recover
-        | Call::Forget
-        | Call::Get
-        | Call::Put
-        | Call::Delete
-        | Call::Decide
-        | Call::Doom
-        | Call::Timeout
-        | Call::Tick
-        | Call::Trim
-        | Call::Branches => false,
-    }
+    matches!(call, Call::Open | Call::Close | Call::Restart)
 }
 
 fn has_wrong_info(name: &Bytes, request: &Request) -> bool
