@@ -2,7 +2,7 @@ use Rattle.std.proofs.Common.{◌≡◌, ℕ, List, ap, sym, ◌∙◌, subst}
 use Rattle.std.specs.Prelude.{Vec, Err}
 use Rattle.std.specs.declared.alloc.Global.{Global}
 use Rattle.xa_log.specs.Reading.{bodies_of}
-use Rattle.xa_log.specs.TwoFiles.{second_of}
+use Rattle.xa_log.specs.TwoFiles.{first_of, second_of}
 use Rattle.xa_manager.specs.declared.fault.ManagerFault.TheVariants as fault
 use Rattle.xa_manager.specs.Opening.{IsFound}
 use Rattle.xa_manager.specs.Refused.{LeavesFinding}
@@ -10,6 +10,8 @@ use Rattle.xa_manager.proofs.CrashOpenings.{crash_opening}
 use Rattle.xa_manager.proofs.FoundLogs.{found_log}
 use Rattle.xa_manager.proofs.OpenedStates.{begun_on, begun_read, fresh_opened, reopens_opened}
 use Rattle.xa_manager.proofs.Refusing.{refused_by, begun_logs, refused_left}
+use Rattle.xa_manager.proofs.manager.Manager.open_returning.Given.{Over}
+use Rattle.xa_manager.proofs.manager.Manager.open_returning.Goals.{After-begin}
 use Rattle.xa_manager.proofs.manager.Manager.open_returning.Goals as goal
 
 pub begin-requires-clause-made : goal.begin-requires-clause-made
@@ -19,22 +21,32 @@ begin-requires-clause-made g c = λ new.
 pub begin-requires-clause-modern : goal.begin-requires-clause-modern
 begin-requires-clause-modern g c = λ new. c.on-log.ensures.format ∙ c.in-Ok.ensures.modern new
 
-pub returns-in-Ok-clause-begun : goal.returns-in-Ok-clause-begun
-returns-in-Ok-clause-begun g c =
-    let same : bodies_of c.on-log.result.1.items ≡ bodies_of c.in-Ok.opened.scan.bodies.items = ap (λ (v : Vec (Vec ℕ Global) Global). bodies_of v.items) c.on-log.ensures.bodies in
-    let found : g.D.Disk.honest → IsFound g.D.Disk c.in-Ok.is_new (bodies_of c.on-log.result.1.items) c.on-log.result.0 =
-    λ h.
+-- the log was made or read
+
+same_bodies : (g : Over) (c : After-begin g) → bodies_of c.on-log.result.1.items ≡ bodies_of c.in-Ok.opened.scan.bodies.items
+same_bodies g c = ap (λ (v : Vec (Vec ℕ Global) Global). bodies_of v.items) c.on-log.ensures.bodies
+
+found : (g : Over) (c : After-begin g) → g.D.Disk.honest → IsFound g.D.Disk c.in-Ok.is_new (bodies_of c.on-log.result.1.items) c.on-log.result.0
+found g c h =
     found_log g.D.Disk c.in-Ok.is_new (bodies_of c.on-log.result.1.items) c.on-log.result.0 c.find_log.new.second
     (c.on-log.ensures.log h (c.in-Ok.ensures.stands h))
     (λ new. (
-      ap (λ (v : Vec (Vec ℕ Global) Global). bodies_of v.items) c.on-log.ensures.bodies ∙ ap (λ (l : List (Vec ℕ Global)). bodies_of l) (c.in-Ok.ensures.made new).0,
+      same_bodies g c ∙ ap (λ (l : List (Vec ℕ Global)). bodies_of l) (c.in-Ok.ensures.made new).0,
       c.on-log.ensures.on_first ∙ (c.in-Ok.ensures.made new).1,
       c.in-Ok.ensures.made_beside h new,
     ))
-    c.on-log.ensures.disks.1 in
+    c.on-log.ensures.disks.1
+
+finding : (g : Over) (c : After-begin g) → g.D.Disk.honest → LeavesFinding g.D.Disk c.args.first (first_of c.on-log.result.0) c.args.second (second_of c.on-log.result.0)
+finding g c h =
+    subst (λ d. LeavesFinding g.D.Disk c.args.first d c.args.second (second_of c.on-log.result.0)) (sym c.on-log.ensures.disks.0)
+    (subst (λ d. LeavesFinding g.D.Disk c.args.first c.find_log.new.first c.args.second d) (sym c.on-log.ensures.disks.1) (c.in-Ok.ensures.leaves h))
+
+pub returns-in-Ok-clause-begun : goal.returns-in-Ok-clause-begun
+returns-in-Ok-clause-begun g c =
     begun_on g.D.Disk c.begin.result (g.D.Disk.seen c.args.first) (g.D.Disk.seen c.args.second) (bodies_of c.on-log.result.1.items) c.args.settings.name c.args.settings.log_bytes
-    (λ h. c.in-Ok.ensures.logged h ∙ sym same)
-    (c.begin.ensures.begun found (c.on-log.ensures.settings ∙ c.in-Ok.ensures.settings))
+    (λ h. c.in-Ok.ensures.logged h ∙ sym (same_bodies g c))
+    (c.begin.ensures.begun (found g c) (c.on-log.ensures.settings ∙ c.in-Ok.ensures.settings))
 
 pub returns-in-Ok-clause-fresh : goal.returns-in-Ok-clause-fresh
 returns-in-Ok-clause-fresh g c = λ trusts ea eb.
@@ -48,48 +60,19 @@ returns-in-Ok-clause-reopens g c = λ trusts s rec files.
 
 pub returns-in-Ok-clause-refused : goal.returns-in-Ok-clause-refused
 returns-in-Ok-clause-refused g c = λ h.
-    let same : bodies_of c.on-log.result.1.items ≡ bodies_of c.in-Ok.opened.scan.bodies.items = ap (λ (v : Vec (Vec ℕ Global) Global). bodies_of v.items) c.on-log.ensures.bodies in
     refused_by c.begin.result (bodies_of c.on-log.result.1.items) c.args.settings.name c.args.settings.log_bytes (g.D.Disk.seen c.args.first) (g.D.Disk.seen c.args.second)
-    c.begin.ensures.refused (c.in-Ok.ensures.whole h) (c.in-Ok.ensures.logged h ∙ sym same)
+    c.begin.ensures.refused (c.in-Ok.ensures.whole h) (c.in-Ok.ensures.logged h ∙ sym (same_bodies g c))
 
 pub returns-in-Ok-clause-logs : goal.returns-in-Ok-clause-logs
 returns-in-Ok-clause-logs g c =
-    let same : bodies_of c.on-log.result.1.items ≡ bodies_of c.in-Ok.opened.scan.bodies.items = ap (λ (v : Vec (Vec ℕ Global) Global). bodies_of v.items) c.on-log.ensures.bodies in
-    let found : g.D.Disk.honest → IsFound g.D.Disk c.in-Ok.is_new (bodies_of c.on-log.result.1.items) c.on-log.result.0 =
-    λ h.
-    found_log g.D.Disk c.in-Ok.is_new (bodies_of c.on-log.result.1.items) c.on-log.result.0 c.find_log.new.second
-    (c.on-log.ensures.log h (c.in-Ok.ensures.stands h))
-    (λ new. (
-      ap (λ (v : Vec (Vec ℕ Global) Global). bodies_of v.items) c.on-log.ensures.bodies ∙ ap (λ (l : List (Vec ℕ Global)). bodies_of l) (c.in-Ok.ensures.made new).0,
-      c.on-log.ensures.on_first ∙ (c.in-Ok.ensures.made new).1,
-      c.in-Ok.ensures.made_beside h new,
-    ))
-    c.on-log.ensures.disks.1 in
-    begun_logs g.D.Disk c.args.first c.args.second c.in-Ok.is_new (bodies_of c.on-log.result.1.items) c.args.settings.log_bytes c.on-log.result.0
-    (λ h.
-    subst (λ d. LeavesFinding g.D.Disk c.args.first d c.args.second (second_of c.on-log.result.0)) (sym c.on-log.ensures.disks.0)
-    (subst (λ d. LeavesFinding g.D.Disk c.args.first c.find_log.new.first c.args.second d) (sym c.on-log.ensures.disks.1) (c.in-Ok.ensures.leaves h)))
-    (λ h. c.in-Ok.ensures.logged h ∙ sym same) found (c.on-log.ensures.settings ∙ c.in-Ok.ensures.settings) c.in-Ok.ensures.made_of
+    begun_logs g.D.Disk c.args.first c.args.second c.in-Ok.is_new (bodies_of c.on-log.result.1.items) c.args.settings.log_bytes c.on-log.result.0 (finding g c)
+    (λ h. c.in-Ok.ensures.logged h ∙ sym (same_bodies g c)) (found g c) (c.on-log.ensures.settings ∙ c.in-Ok.ensures.settings) c.in-Ok.ensures.made_of
     c.begin.result c.begin.ensures.logs
 
 pub returns-in-Ok-clause-leaves : goal.returns-in-Ok-clause-leaves
 returns-in-Ok-clause-leaves g c =
-    let same : bodies_of c.on-log.result.1.items ≡ bodies_of c.in-Ok.opened.scan.bodies.items = ap (λ (v : Vec (Vec ℕ Global) Global). bodies_of v.items) c.on-log.ensures.bodies in
-    let found : g.D.Disk.honest → IsFound g.D.Disk c.in-Ok.is_new (bodies_of c.on-log.result.1.items) c.on-log.result.0 =
-    λ h.
-    found_log g.D.Disk c.in-Ok.is_new (bodies_of c.on-log.result.1.items) c.on-log.result.0 c.find_log.new.second
-    (c.on-log.ensures.log h (c.in-Ok.ensures.stands h))
-    (λ new. (
-      ap (λ (v : Vec (Vec ℕ Global) Global). bodies_of v.items) c.on-log.ensures.bodies ∙ ap (λ (l : List (Vec ℕ Global)). bodies_of l) (c.in-Ok.ensures.made new).0,
-      c.on-log.ensures.on_first ∙ (c.in-Ok.ensures.made new).1,
-      c.in-Ok.ensures.made_beside h new,
-    ))
-    c.on-log.ensures.disks.1 in
-    refused_left g.D.Disk c.args.first c.args.second c.in-Ok.is_new (bodies_of c.on-log.result.1.items) c.args.settings.log_bytes c.on-log.result.0
-    (λ h.
-    subst (λ d. LeavesFinding g.D.Disk c.args.first d c.args.second (second_of c.on-log.result.0)) (sym c.on-log.ensures.disks.0)
-    (subst (λ d. LeavesFinding g.D.Disk c.args.first c.find_log.new.first c.args.second d) (sym c.on-log.ensures.disks.1) (c.in-Ok.ensures.leaves h)))
-    (λ h. c.in-Ok.ensures.logged h ∙ sym same) found (c.on-log.ensures.settings ∙ c.in-Ok.ensures.settings) c.in-Ok.ensures.made_of
+    refused_left g.D.Disk c.args.first c.args.second c.in-Ok.is_new (bodies_of c.on-log.result.1.items) c.args.settings.log_bytes c.on-log.result.0 (finding g c)
+    (λ h. c.in-Ok.ensures.logged h ∙ sym (same_bodies g c)) (found g c) (c.on-log.ensures.settings ∙ c.in-Ok.ensures.settings) c.in-Ok.ensures.made_of
     c.begin.result c.begin.ensures.refused c.begin.ensures.leaves
 
 pub returns-in-Ok-clause-crash : goal.returns-in-Ok-clause-crash

@@ -9,13 +9,17 @@ use Rattle.xa_record.specs.Spelling.{spelled}
 use Rattle.xa_model.specs.Answer.{plain, detailed}
 use Rattle.xa_model.specs.Fold.{is_empty}
 use Rattle.xa_model.specs.Logging.{has_room, logs}
+use Rattle.xa_model.specs.State.{State}
 use Rattle.xa_manager.specs.Rows.{more_of, record_of, unwritten_code, written_left, written_record}
 use Rattle.xa_manager.specs.declared.row.Row.TheVariants.{Writes}
-use Rattle.xa_manager.specs.Managed.{view}
+use Rattle.xa_manager.specs.Managed.{view, ManagerStandsFor}
+use Rattle.xa_manager.specs.Stands.{StandsFor}
 use Rattle.xa_manager.proofs.Taking.{tables_up}
 use Rattle.xa_manager.proofs.OnePhase.{turn_empty, turn_full, turn_marked, turn_refused, worked_known, told_writes, no_writes, some_writes, has_written, of_row, unwritten, written, written_appends, WasTold, HasRecord}
 use Rattle.xa_manager.proofs.WritesWithin.{is_within}
 use Rattle.xa_manager.proofs.Plans.{is_record, plans_long, refused_at_once, settled_at_once, unwritten_kept, written_some}
+use Rattle.xa_manager.proofs.manager.Manager.plan_written.Given.{Over}
+use Rattle.xa_manager.proofs.manager.Manager.plan_written.Goals.{After-has_room}
 use Rattle.xa_manager.proofs.manager.Manager.plan_written.Goals as goal
 
 -- what the branch has written is within the limits of a record
@@ -47,33 +51,47 @@ returns-then-is_empty g c =
       may = known;
     }))
 
+-- ---- the record of what it has written
+
+told : (g : Over) (c : After-has_room g) → WasTold (view c.args.self.now) c.args.xid.now c.timestamp-timestamp.result c.in_ok-writes.writes.items
+told g c =
+    let free : c.unprepared_refusal.result ≡ None = search rules in
+    let unmarked : c.mark_of.result ≡ None = search rules in
+    let some : 1 ≤ length c.in_ok-writes.writes.items = grind (arith, nat_tests, c.is_empty.ensures, c.if-is_empty.false) in record {
+      name = c.requires.name;
+      some = some_writes c.in_ok-writes.writes.items some;
+      free = λ s st. sym free ∙ c.unprepared_refusal.ensures.value s st;
+      unmarked = λ s st. c.mark_of.ensures s st ∙ unmarked;
+      time = λ s st. c.timestamp-timestamp.ensures s st.branches;
+      writes = c.in_ok-writes.ensures.writes;
+    }
+
+spells : (g : Over) (c : After-has_room g) → c.in_ok-body.body.items ≡ spelled (written_record c.args.writing c.args.xid.now c.timestamp-timestamp.result c.in_ok-writes.writes.items)
+spells g c =
+    let w = c.args.writing in
+    let t = c.timestamp-timestamp.result in
+    c.in_ok-body.ensures ∙ ap spelled c.record-record.ensures ∙ ap (λ x. spelled (written_record w x t c.new.result)) c.copied.ensures ∙ ap (λ us. spelled (written_record w c.args.xid.now t us)) c.new.ensures
+
+long : (g : Over) (c : After-has_room g) → c.len.result ≡ length c.in_ok-body.body.items
+long g c = grind (arith, c.len.ensures, c.in_ok-body.body.ok.0)
+
+has : (g : Over) (c : After-has_room g) (s : State) → ManagerStandsFor g.D.Disk c.args.self.now s → c.args.self.now.up ≡ true → StandsFor (view c.args.self.now) s
+    → HasRecord s c.args.xid.now (record_of (Writes c.args.writing) c.args.xid.now s) (more_of c.args.writing) c.in_ok-body.body.items c.has_room.result
+has g c s whole is_up st =
+    has_written (view c.args.self.now) s c.args.writing c.args.xid.now c.timestamp-timestamp.result c.in_ok-writes.writes.items c.len.result c.in_ok-body.body.items c.has_room.result st (told g c) (spells g c) (long g c)
+    (λ short. rw (← c.more.ensures) (c.has_room.ensures.room s whole is_up short))
+
 pub returns-then-not-has_room : goal.returns-then-not-has_room
 returns-then-not-has_room g c =
     let m = c.args.self.now in
     let xid = c.args.xid.now in
     let w = c.args.writing in
-    let t = c.timestamp-timestamp.result in
-    let ws = c.in_ok-writes.writes.items in
-    let free : c.unprepared_refusal.result ≡ None = search rules in
-    let unmarked : c.mark_of.result ≡ None = search rules in
-    let some : 1 ≤ length ws = grind (arith, nat_tests, c.is_empty.ensures, c.if-is_empty.false) in
-    let told : WasTold (view m) xid t ws = record {
-      name = c.requires.name;
-      some = some_writes ws some;
-      free = λ s st. sym free ∙ c.unprepared_refusal.ensures.value s st;
-      unmarked = λ s st. c.mark_of.ensures s st ∙ unmarked;
-      time = λ s st. c.timestamp-timestamp.ensures s st.branches;
-      writes = c.in_ok-writes.ensures.writes;
-    } in
-    let spells : c.in_ok-body.body.items ≡ spelled (written_record w xid t ws) =
-    c.in_ok-body.ensures ∙ ap spelled c.record-record.ensures ∙ ap (λ x. spelled (written_record w x t c.new.result)) c.copied.ensures ∙ ap (λ us. spelled (written_record w xid t us)) c.new.ensures in
-    let long : c.len.result ≡ length c.in_ok-body.body.items = grind (arith, c.len.ensures, c.in_ok-body.body.ok.0) in
     let full : c.has_room.result ≡ false = search rules in
     rw c.detailed-reply.ensures (
     settled_at_once _ m (Writes w) xid (detailed XA_RBOTHER detail.LogFull) RolledBack refl (refl, refl)
     (λ s whole is_up st.
     let r = record_of (Writes w) xid s in
-    let h = has_written (view m) s w xid t ws c.len.result c.in_ok-body.body.items c.has_room.result st told spells long (λ short. rw (← c.more.ensures) (c.has_room.ensures.room s whole is_up short)) in
+    let h = has g (goal.at.returns-then-not-has_room g c).After-has_room s whole is_up st in
     record {
       turn_is = of_row w s xid _ (turn_full s xid (unwritten w s xid) (has_room s r (more_of w)) (logs s r XAER_RMERR (written_left w xid s)) h.free h.unmarked h.some (h.room_is ∙ full));
       may = worked_known s xid h.free;
@@ -84,30 +102,17 @@ returns g c =
     let m = c.args.self.now in
     let xid = c.args.xid.now in
     let w = c.args.writing in
-    let t = c.timestamp-timestamp.result in
-    let ws = c.in_ok-writes.writes.items in
-    let free : c.unprepared_refusal.result ≡ None = search rules in
-    let unmarked : c.mark_of.result ≡ None = search rules in
-    let some : 1 ≤ length ws = grind (arith, nat_tests, c.is_empty.ensures, c.if-is_empty.false) in
-    let told : WasTold (view m) xid t ws = record {
-      name = c.requires.name;
-      some = some_writes ws some;
-      free = λ s st. sym free ∙ c.unprepared_refusal.ensures.value s st;
-      unmarked = λ s st. c.mark_of.ensures s st ∙ unmarked;
-      time = λ s st. c.timestamp-timestamp.ensures s st.branches;
-      writes = c.in_ok-writes.ensures.writes;
-    } in
-    let spells : c.in_ok-body.body.items ≡ spelled (written_record w xid t ws) =
-    c.in_ok-body.ensures ∙ ap spelled c.record-record.ensures ∙ ap (λ x. spelled (written_record w x t c.new.result)) c.copied.ensures ∙ ap (λ us. spelled (written_record w xid t us)) c.new.ensures in
-    let long : c.len.result ≡ length c.in_ok-body.body.items = grind (arith, c.len.ensures, c.in_ok-body.body.ok.0) in
+    let x = (goal.at.returns g c).After-has_room in
+    let size = long g x in
     let fits : c.has_room.result ≡ true = search rules in
     plans_long _ m w xid c.long.result c.in_ok-body.body.items c.long.ensures.row c.long.ensures.xid c.long.ensures.body
-    (record { some = rw spells (written_some w xid t ws); small = rw (c.has_room.ensures.modern fits) (omega (arith, long, c.has_room.ensures.fits fits)) })
+    (record {
+      some = rw (spells g x) (written_some w xid c.timestamp-timestamp.result c.in_ok-writes.writes.items);
+      small = rw (c.has_room.ensures.modern fits) (omega (arith, size, c.has_room.ensures.fits fits));
+    })
     (λ s whole is_up.
-    let st = tables_up _ m s is_up whole in
-    let r = record_of (Writes w) xid s in
-    let h = has_written (view m) s w xid t ws c.len.result c.in_ok-body.body.items c.has_room.result st told spells long (λ short. rw (← c.more.ensures) (c.has_room.ensures.room s whole is_up short)) in
-    let there : HasRecord s xid r (more_of w) c.in_ok-body.body.items true =
+    let h = has g x s whole is_up (tables_up _ m s is_up whole) in
+    let there : HasRecord s xid (record_of (Writes w) xid s) (more_of w) c.in_ok-body.body.items true =
     record { free = h.free; unmarked = h.unmarked; some = h.some; body_is = h.body_is; room_is = h.room_is ∙ fits } in
     written_appends w s xid c.in_ok-body.body.items there)
 
