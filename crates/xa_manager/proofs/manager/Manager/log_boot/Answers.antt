@@ -1,7 +1,6 @@
 use Rattle.std.proofs.Common.{◌≡◌, ◌+◌, ℕ, List, map, Some, refl, ap, ◌∙◌, subst, ltb-true}
 use Rattle.xa_record.specs.Spelling.{spelled}
-use Rattle.xa_log.specs.TwoFiles.{Pair, MaySeal, Checkpoints, Swaps}
-use Rattle.xa_log.specs.declared.appending.Appended.{Appended}
+use Rattle.xa_log.specs.TwoFiles.{Pair, MaySeal}
 use Rattle.xa_model.specs.declared.outcome.Appending.TheVariants.{Kept, Refused, Lost}
 use Rattle.xa_model.specs.Durable.{durable}
 use Rattle.xa_model.specs.Fold.{snapshot}
@@ -20,9 +19,8 @@ pub returns-in-Kept-clause-turn : goal.returns-in-Kept-clause-turn
 returns-in-Kept-clause-turn g c =
     λ s t rs st trusts fate backs has alive less boot ready.
     let bodies : c.deref.result.now ≡ map spelled (snapshot (durable t) (t.logged_boot + 1)) = cc (ready.bodies, c.deref.ensures.value) in
-    let went = c.checkpoint.ensures.answer trusts.disk (map spelled rs) has.0 has.1 in
-    let kept = subst (λ (a : Appended). Checkpoints g.D.Disk a (map spelled rs) has.0 c.deref.result.now c.checkpoint.new.self) c.in-Kept.is went in
-    let swaps = subst (λ (a : Appended). Swaps a c.deref.result.now c.args.self.now.log c.checkpoint.new.self) c.in-Kept.is (c.checkpoint.ensures.swaps alive) in
+    let kept = rw c.in-Kept.is at (c.checkpoint.ensures.answer trusts.disk (map spelled rs) has.0 has.1) in
+    let swaps = rw c.in-Kept.is at (c.checkpoint.ensures.swaps alive) in
     let pair = subst (λ (b : List (List ℕ)). Pair g.D.Disk b (map spelled rs) c.checkpoint.new.self) bodies kept.0 in
     is_answer _ (boot_became t (t.logged_boot + 1) Kept) _ (ap (λ (o : Outcome). taken (restart_turn s) o) c.begun.ensures.told ∙ turn_opens c.args.survived s t Kept fate less) (
       cc,
@@ -34,8 +32,7 @@ pub returns-in-Refused-clause-turn : goal.returns-in-Refused-clause-turn
 returns-in-Refused-clause-turn g c =
     λ s t rs st trusts fate backs has alive less boot ready.
     let bodies : c.deref.result.now ≡ map spelled (snapshot (durable t) (t.logged_boot + 1)) = cc (ready.bodies, c.deref.ensures.value) in
-    let went = c.checkpoint.ensures.answer trusts.disk (map spelled rs) has.0 has.1 in
-    let kept = subst (λ (a : Appended). Checkpoints g.D.Disk a (map spelled rs) has.0 c.deref.result.now c.checkpoint.new.self) c.in-Refused.is went in
+    let kept = rw c.in-Refused.is at (c.checkpoint.ensures.answer trusts.disk (map spelled rs) has.0 has.1) in
     is_answer _ (boot_became t (t.logged_boot + 1) Refused) _ (ap (λ (o : Outcome). taken (restart_turn s) o) c.begun-in-Refused.ensures.told ∙ turn_opens c.args.survived s t Refused fate less)
     (cc, down_stands g.D.Disk c.args.self.now _ s t c.args.survived rs refl refl refl c.checkpoint.ensures.settings st fate backs (refused_pair g.D.Disk (map spelled rs) has.0 c.checkpoint.new.self kept))
 
@@ -43,8 +40,7 @@ pub returns-in-Lost-clause-turn : goal.returns-in-Lost-clause-turn
 returns-in-Lost-clause-turn g c =
     λ s t rs st trusts fate backs has alive less boot ready.
     let bodies : c.deref.result.now ≡ map spelled (snapshot (durable t) (t.logged_boot + 1)) = cc (ready.bodies, c.deref.ensures.value) in
-    let went = c.checkpoint.ensures.answer trusts.disk (map spelled rs) has.0 has.1 in
-    let kept = subst (λ (a : Appended). Checkpoints g.D.Disk a (map spelled rs) has.0 c.deref.result.now c.checkpoint.new.self) c.in-Lost.is went in
+    let kept = rw c.in-Lost.is at (c.checkpoint.ensures.answer trusts.disk (map spelled rs) has.0 has.1) in
     is_answer _ (boot_became t (t.logged_boot + 1) Lost) _ (ap (λ (o : Outcome). taken (restart_turn s) o) c.begun-in-Lost.ensures.told ∙ turn_opens c.args.survived s t Lost fate less) (
       cc,
       lost_stands g.D.Disk c.args.self.now _ s t c.args.survived rs refl refl (ap (λ (n : ℕ). Some (Boot n)) boot) c.checkpoint.ensures.settings st fate backs (ltb-true t.logged_boot MOST_BOOTS less)

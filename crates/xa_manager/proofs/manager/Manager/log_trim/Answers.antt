@@ -2,8 +2,7 @@ use Rattle.std.proofs.Common.{◌+◌, ℕ, List, map, refl, ap, sym, ◌∙◌,
 use Rattle.xa_frame.specs.Made.{carrying}
 use Rattle.xa_frame.specs.declared.body.Body.TheVariants.{Number}
 use Rattle.xa_record.specs.Spelling.{spelled}
-use Rattle.xa_log.specs.TwoFiles.{Pair, MaySeal, Checkpoints, Swaps}
-use Rattle.xa_log.specs.declared.appending.Appended.{Appended as Told}
+use Rattle.xa_log.specs.TwoFiles.{Pair, MaySeal}
 use Rattle.xa_model.specs.declared.outcome.Appending.TheVariants.{Kept, Refused, Lost}
 use Rattle.xa_model.specs.Durable.{durable}
 use Rattle.xa_model.specs.Fold.{snapshot}
@@ -22,10 +21,8 @@ pub returns-in-Kept-clause-turn : goal.returns-in-Kept-clause-turn
 returns-in-Kept-clause-turn g c =
     λ s rs st trusts backs has e number bodies.
     let m = c.args.self.now in
-    let fresh = c.args.bodies.now in
-    let went = c.checkpoint.ensures.answer trusts.disk (map spelled rs) has.0 has.1 in
-    let kept = subst (λ (a : Told). Checkpoints g.D.Disk a (map spelled rs) has.0 fresh c.checkpoint.new.self) c.in-Kept.is went in
-    let swaps = subst (λ (a : Told). Swaps a fresh m.log c.checkpoint.new.self) c.in-Kept.is (c.checkpoint.ensures.swaps (st.alive c.requires.up)) in
+    let kept = rw c.in-Kept.is at (c.checkpoint.ensures.answer trusts.disk (map spelled rs) has.0 has.1) in
+    let swaps = rw c.in-Kept.is at (c.checkpoint.ensures.swaps (st.alive c.requires.up)) in
     let pair = subst (λ (b : List (List ℕ)). Pair g.D.Disk b (map spelled rs) c.checkpoint.new.self) bodies kept.0 in
     let end = pair.current.end ∙ text_size _ (snapshot (durable s) (s.logged_boot + 1)) in
     let told = ap (λ (d : Done). taken (trim_turn s) d.outcome) c.trimmed.ensures in
@@ -48,9 +45,7 @@ pub returns-in-Lost-clause-turn : goal.returns-in-Lost-clause-turn
 returns-in-Lost-clause-turn g c =
     λ s rs st trusts backs has e number bodies.
     let m = c.args.self.now in
-    let fresh = c.args.bodies.now in
-    let went = c.checkpoint.ensures.answer trusts.disk (map spelled rs) has.0 has.1 in
-    let seal = subst (λ (a : Told). Checkpoints g.D.Disk a (map spelled rs) has.0 fresh c.checkpoint.new.self) c.in-Lost.is went in
+    let seal = rw c.in-Lost.is at (c.checkpoint.ensures.answer trusts.disk (map spelled rs) has.0 has.1) in
     let told = ap (λ (d : Done). taken (trim_turn s) d.outcome) c.trimmed-in-Lost.ensures in
     is_answer _ (trim_became s (s.logged_boot + 1) Lost) _ (told ∙ trim_taken s Lost e) (
       sym (ap (λ (d : Done). d.reply) c.trimmed-in-Lost.ensures ∙ c.detailed-in-Lost.ensures),
@@ -87,11 +82,9 @@ pub returns-in-Refused-clause-turn : goal.returns-in-Refused-clause-turn
 returns-in-Refused-clause-turn g c =
     λ s rs st trusts backs has e number bodies.
     let m = c.args.self.now in
-    let fresh = c.args.bodies.now in
-    let is = is_refused g.D.Disk m s st c.requires.up rs fresh c.checkpoint.result backs bodies (c.checkpoint.ensures.full (st.alive c.requires.up)).0 c.in-Refused.is in
-    let went = c.checkpoint.ensures.answer trusts.disk (map spelled rs) has.0 has.1 in
-    let kept = subst (λ (a : Told). Checkpoints g.D.Disk a (map spelled rs) has.0 fresh c.checkpoint.new.self) is went in
-    let swaps = subst (λ (a : Told). Swaps a fresh m.log c.checkpoint.new.self) is (c.checkpoint.ensures.swaps (st.alive c.requires.up)) in
+    let is = is_refused g.D.Disk m s st c.requires.up rs c.args.bodies.now c.checkpoint.result backs bodies (c.checkpoint.ensures.full (st.alive c.requires.up)).0 c.in-Refused.is in
+    let kept = rw is at (c.checkpoint.ensures.answer trusts.disk (map spelled rs) has.0 has.1) in
+    let swaps = rw is at (c.checkpoint.ensures.swaps (st.alive c.requires.up)) in
     let told = ap (λ (d : Done). taken (trim_turn s) d.outcome) c.trimmed-in-Refused.ensures in
     is_answer _ (trim_became s (s.logged_boot + 1) Refused) _ (told ∙ trim_taken s Refused e) (
       sym (ap (λ (d : Done). d.reply) c.trimmed-in-Refused.ensures ∙ c.detailed.ensures),
