@@ -173,12 +173,12 @@ module _ {D : Type 0} (disks : Ghosts D) where
         tables = λ r. subst (λ (b : Bool). TablesStandFor b (view m') (act s).after) (sym up) (x.1 r);
       }
 
-  pub both_done : (m m' : Manager D) (n : ℕ) (request : Request) (act : State → Answer) (reply : Reply) → IsAsked request → asks_boot request ≡ false
-      → None ≡ early_refusal (context_at m.up (view m) n) request → ((s : State) → row s n request ≡ Now (act s)) → m'.log ≡ m.log → m'.up ≡ m.up → m'.doubt ≡ m.doubt
+  pub both_done : (m m' : Manager D) (n : ℕ) (request handed : Request) (o : Option Reply) (act : State → Answer) (reply : Reply) → IsAsked request → request ≡ handed → asks_boot handed ≡ false
+      → o ≡ None → o ≡ early_refusal (context_at m.up (view m) n) request → ((s : State) → row s n handed ≡ Now (act s)) → m'.log ≡ m.log → m'.up ≡ m.up → m'.doubt ≡ m.doubt
       → Follows (view m) act reply (view m') → FollowsDown (view m) act reply (view m') → HasDone disks m (Call n request) reply Quiet m'
-  both_done m m' n request act reply event other h is log up doubt f d =
-      row_done m m' n request reply Quiet event other h f.served
-      (λ s st. subst (λ (t : Turn). Takes disks m t reply Quiet m') (sym (is s)) (takes_either m m' act reply Quiet refl log up doubt f d s st))
+  both_done m m' n request handed o act reply event same other none h is log up doubt f d =
+      row_done m m' n request reply Quiet event (ap asks_boot same ∙ other) (sym none ∙ h) f.served
+      (λ s st. subst (λ (t : Turn). Takes disks m t reply Quiet m') (sym (ap (row s n) same ∙ is s)) (takes_either m m' act reply Quiet refl log up doubt f d s st))
 
   -- the row of a request that a manager which is down refuses
   pub turn_done : (m m' : Manager D) (n : ℕ) (request handed : Request) (o : Option Reply) (turn : State → Turn) (reply : Reply) (outcome : Outcome) → IsAsked request → request ≡ handed
