@@ -68,9 +68,9 @@ told g c =
 
 spells : (g : Over) (c : After-has_room g) → c.in_ok-body.body.items ≡ spelled (written_record c.args.writing c.args.xid.now c.timestamp-timestamp.result c.in_ok-writes.writes.items)
 spells g c =
-    let w = c.args.writing in
-    let t = c.timestamp-timestamp.result in
-    c.in_ok-body.ensures ∙ ap spelled c.record-record.ensures ∙ ap (λ x. spelled (written_record w x t c.new.result)) c.copied.ensures ∙ ap (λ us. spelled (written_record w c.args.xid.now t us)) c.new.ensures
+    c.in_ok-body.ensures ∙ ap spelled c.record-record.ensures
+    ∙ ap (λ x. spelled (written_record c.args.writing x c.timestamp-timestamp.result c.new.result)) c.copied.ensures
+    ∙ ap (λ us. spelled (written_record c.args.writing c.args.xid.now c.timestamp-timestamp.result us)) c.new.ensures
 
 long : (g : Over) (c : After-has_room g) → c.len.result ≡ length c.in_ok-body.body.items
 long g c = grind (arith, c.len.ensures, c.in_ok-body.body.ok.0)
