@@ -1,14 +1,10 @@
 ghost use Rattle.std.specs.Prelude.{◌≡◌, ◌+◌, None, IfOk, OnOk, OnErr, IsSome};
 ghost use Rattle.xa_model.specs.State.{timestamp_of};
 ghost use Rattle.xa_model.specs.Associations.{begun, joined, resumed, not_resumed, suspended, not_suspended, ended, failed};
-ghost use Rattle.xa_model.specs.Phases.{rolled_back, committed};
-ghost use Rattle.xa_model.specs.Trimming.{trimmed};
-ghost use Rattle.xa_manager.specs.Drained.{GivesBack};
-ghost use Rattle.xa_assoc.specs.Seats.{opened_at};
-ghost use Rattle.xa_assoc.specs.Sessions.{begin_refusal_of};
+ghost use Rattle.xa_model.specs.{Phases.rolled_back, Phases.committed, Trimming.trimmed};
+ghost use Rattle.xa_manager.specs.{Drained.GivesBack, Changes.fate_of};
+ghost use Rattle.xa_assoc.specs.{Seats.opened_at, Sessions.begin_refusal_of, Company.company_of};
 ghost use Rattle.xa_branch.specs.Calls.{marked_with};
-ghost use Rattle.xa_manager.specs.Changes.{fate_of};
-ghost use Rattle.xa_assoc.specs.Company.{company_of};
 ghost use Rattle.xa_manager.specs.Tables.{TablesBecome, TablesMove, TablesSay, TablesStay, TablesStayDown};
 ghost use Rattle.xa_manager.specs.Acts.{BranchBecomes, Decides, Ends, Forgets, Resumes, Settles, Suspends, SuspendsAs};
 

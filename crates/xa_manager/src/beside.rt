@@ -2,9 +2,7 @@
 ghost use Rattle.std.specs.Prelude.{◌≡◌, IfErr, IfOk, true};
 ghost use Rattle.std.specs.List.{AllByRecursion};
 ghost use Rattle.xa_frame.specs.declared.request.Request.TheVariants as request;
-ghost use Rattle.xa_model.specs.Events.{IsAsked};
-ghost use Rattle.xa_model.specs.Laws.Together.{is_work};
-ghost use Rattle.xa_model.specs.declared.event.Event.{Event};
+ghost use Rattle.xa_model.specs.{Events.IsAsked, Laws.Together.is_work, declared.event.Event.Event};
 ghost use Rattle.xa_manager.specs.Connected.{connected_to};
 ghost use Rattle.xa_manager.specs.Pending.{IsGroupOf, WorksApartFrom, WorksBeside};
 ghost use Rattle.xa_manager.specs.Replies.{IsFresh};

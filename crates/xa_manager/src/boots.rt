@@ -3,10 +3,8 @@ ghost use Rattle.std.specs.List.{AllByRecursion};
 ghost use Rattle.mv_rules.specs.Within.{IsWithin, HasKeys};
 ghost use Rattle.xa_limits.specs.declared.TheConstants.{MOST_VALUE};
 ghost use Rattle.xa_record.specs.Limits.{IsRecord};
-ghost use Rattle.xa_model.specs.Durable.{IsDurable};
-ghost use Rattle.xa_model.specs.Fold.{snapshot};
-ghost use Rattle.xa_manager.specs.Drained.{GivesBack};
-ghost use Rattle.xa_manager.specs.Rereading.{IsReady, Plans};
+ghost use Rattle.xa_model.specs.{Durable.IsDurable, Fold.snapshot};
+ghost use Rattle.xa_manager.specs.{Drained.GivesBack, Rereading.IsReady, Rereading.Plans};
 
 use crate::rebuilding::{branches_of, records_of};
 use mv_rules::Records;

@@ -2,13 +2,9 @@ ghost use Rattle.std.specs.Prelude.{◌≡◌, IfOk, OnErr, IfSome, IsSome, None
 ghost use Rattle.xa_model.specs.declared.event.Event.{Event};
 ghost use Rattle.xa_model.specs.Early.{call_of, passes_down, has_wrong_count, has_wrong_moment, early_refusal};
 ghost use Rattle.xa_model.specs.Events.{IsAsked};
-ghost use Rattle.xa_assoc.specs.Refusals.{is_memory, IsBare};
-ghost use Rattle.xa_assoc.specs.Seats.{opened_at};
+ghost use Rattle.xa_assoc.specs.{Refusals.is_memory, Refusals.IsBare, Seats.opened_at};
 ghost use Rattle.xa_branch.specs.Branches.{moment_of};
-ghost use Rattle.xa_manager.specs.Turns.{HasDone, HasWanted};
-ghost use Rattle.xa_manager.specs.View.{context_at, view_of};
-ghost use Rattle.xa_manager.specs.Connected.{connected_to};
-ghost use Rattle.xa_manager.specs.Replies.{IsFresh};
+ghost use Rattle.xa_manager.specs.{Turns.HasDone, Turns.HasWanted, View.context_at, View.view_of, Connected.connected_to, Replies.IsFresh};
 
 use crate::done::Done;
 use crate::early::early_refusal;

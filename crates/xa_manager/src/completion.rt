@@ -1,10 +1,8 @@
 ghost use Rattle.std.specs.Prelude.{◌≡◌, IfOk};
 ghost use Rattle.xa_xid.specs.Triple.{IsWithinLimits};
 ghost use Rattle.xa_model.specs.Phases.{doom_by};
-ghost use Rattle.xa_manager.specs.Plans.{IsPlan};
-ghost use Rattle.xa_assoc.specs.Refusals.{IsBare};
-ghost use Rattle.xa_assoc.specs.Company.{company_of};
-ghost use Rattle.xa_manager.specs.Tables.{TablesFollow};
+ghost use Rattle.xa_manager.specs.{Plans.IsPlan, Tables.TablesFollow};
+ghost use Rattle.xa_assoc.specs.{Refusals.IsBare, Company.company_of};
 
 use crate::manager::Manager;
 use crate::plan::{Logging, Plan};

@@ -1,14 +1,10 @@
 ghost use Rattle.std.specs.Prelude.{◌≡◌, IfOk, OnErr};
 ghost use Rattle.xa_limits.specs.declared.TheConstants.{MOST_VALUE};
-ghost use Rattle.xa_model.specs.State.{own_branch};
-ghost use Rattle.xa_model.specs.Data.{get_by, put_by};
-ghost use Rattle.xa_manager.specs.Changes.{items_of};
-ghost use Rattle.xa_assoc.specs.Company.{company_of};
-ghost use Rattle.xa_assoc.specs.Refusals.{IsBare};
+ghost use Rattle.xa_model.specs.{State.own_branch, Data.get_by, Data.put_by};
+ghost use Rattle.xa_manager.specs.{Changes.items_of, Replies.IsFresh, Tables.TablesFollow, Tables.TablesStay};
+ghost use Rattle.xa_assoc.specs.{Company.company_of, Refusals.IsBare};
 ghost use Rattle.mv_chain.specs.Within.{IsShort};
 ghost use Rattle.mv_rules.specs.Within.{IsKey};
-ghost use Rattle.xa_manager.specs.Replies.{IsFresh};
-ghost use Rattle.xa_manager.specs.Tables.{TablesFollow, TablesStay};
 
 use crate::tables::Tables;
 use mv_rules::{Got, Put};

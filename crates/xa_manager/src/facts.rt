@@ -4,8 +4,7 @@ ghost use Rattle.xa_model.specs.State.{known_as, is_loose_with};
 ghost use Rattle.xa_model.specs.Associations.{is_unknown, is_lasting, is_taken, mark_in};
 ghost use Rattle.xa_assoc.specs.Sessions.{resume_refusal_of, leave_refusal_of};
 ghost use Rattle.xa_branch.specs.Kinds.{resumed_kind, ended_kind};
-ghost use Rattle.xa_manager.specs.View.{view_of, own_at};
-ghost use Rattle.xa_manager.specs.Tables.{TablesSay};
+ghost use Rattle.xa_manager.specs.{View.view_of, View.own_at, Tables.TablesSay};
 
 use crate::tables::Tables;
 use xa_branch::{Kind, Known, Working};

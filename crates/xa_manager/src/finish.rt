@@ -2,8 +2,7 @@
 ghost use Rattle.std.specs.Prelude.{◌≡◌, IfErr, IfOk, OnErr};
 ghost use Rattle.xa_log.specs.LogView.{LogView};
 ghost use Rattle.xa_model.specs.State.{State};
-ghost use Rattle.xa_manager.specs.Connected.{connected_to};
-ghost use Rattle.xa_manager.specs.Parts.{log_of, outcome_of};
+ghost use Rattle.xa_manager.specs.{Connected.connected_to, Parts.log_of, Parts.outcome_of};
 ghost use Rattle.xa_manager.specs.Pending.{IsPendingFrom, HasFinished, IsGroupOf, calls_of};
 ghost use Rattle.xa_manager.specs.Once.{AreOnce};
 

@@ -2,12 +2,9 @@ ghost use Rattle.std.specs.Prelude.{◌≡◌, ◌≤◌, ◌<◌, ◌+◌, List
 ghost use Rattle.std.specs.List.{AllByRecursion};
 ghost use Rattle.xa_log.specs.Buffer.{HoldsEach};
 ghost use Rattle.xa_log.specs.Chain.{IsBody, newest, text};
-ghost use Rattle.xa_log.specs.Pair.{generation};
+ghost use Rattle.xa_log.specs.{Pair.generation, Stands.EndsBehind};
 ghost use Rattle.xa_limits.specs.declared.TheConstants.{LENGTH_BYTES};
-ghost use Rattle.xa_log.specs.Stands.{EndsBehind};
-ghost use Rattle.xa_manager.specs.Opening.{HasBodies, IsFound};
-ghost use Rattle.xa_manager.specs.Refused.{LogsFirst};
-ghost use Rattle.xa_manager.specs.Reserving.{HasReserved};
+ghost use Rattle.xa_manager.specs.{Opening.HasBodies, Opening.IsFound, Refused.LogsFirst, Reserving.HasReserved};
 
 use std::alloc::AllocError;
 use xa_disk::Disk;

@@ -4,13 +4,8 @@ ghost use Rattle.std.specs.List.{AllByRecursion, list_all};
 ghost use Rattle.xa_limits.specs.declared.TheConstants.{MOST_BODY};
 ghost use Rattle.xa_xid.specs.Triple.{xid_eq};
 ghost use Rattle.xa_model.specs.Events.{IsAsked};
-ghost use Rattle.xa_manager.specs.Answered.{StaysFor};
-ghost use Rattle.xa_manager.specs.Connected.{connected_to};
-ghost use Rattle.xa_manager.specs.Plans.{bytes_of};
-ghost use Rattle.xa_log.specs.Buffer.{Holds};
-ghost use Rattle.xa_log.specs.Group.{as_one};
-ghost use Rattle.xa_log.specs.Reading.{bodies_of};
-ghost use Rattle.xa_manager.specs.Reserving.{HasReserved};
+ghost use Rattle.xa_manager.specs.{Answered.StaysFor, Connected.connected_to, Plans.bytes_of, Reserving.HasReserved};
+ghost use Rattle.xa_log.specs.{Buffer.Holds, Group.as_one, Reading.bodies_of};
 ghost use Rattle.xa_manager.specs.Together.{AppendsAlone, AreReady, asks_prepare, HasJoined, IsGroup, MayJoin};
 ghost use Rattle.xa_manager.specs.Together.{StandsLast};
 

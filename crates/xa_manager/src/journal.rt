@@ -2,13 +2,9 @@ ghost use Rattle.std.specs.Prelude.{◌≡◌, ◌≢◌, ◌≤◌, ◌+◌, le
 ghost use Rattle.xa_limits.specs.declared.TheConstants.{AROUND_BODY, MOST_BODY};
 ghost use Rattle.xa_log.specs.Buffer.{Holds};
 ghost use Rattle.std.specs.List.{AllByRecursion};
-ghost use Rattle.xa_log.specs.Chain.{IsBody, newest};
-ghost use Rattle.xa_log.specs.Group.{as_one, bodies_in};
-ghost use Rattle.xa_model.specs.State.{State};
-ghost use Rattle.xa_model.specs.Logging.{log_room, prepared_count};
-ghost use Rattle.xa_manager.specs.Managed.{ManagerStandsFor};
-ghost use Rattle.xa_log.specs.Written.{IsRange};
-ghost use Rattle.xa_manager.specs.Answered.{as_appended};
+ghost use Rattle.xa_log.specs.{Chain.IsBody, Chain.newest, Group.as_one, Group.bodies_in, Written.IsRange};
+ghost use Rattle.xa_model.specs.{State.State, Logging.log_room, Logging.prepared_count};
+ghost use Rattle.xa_manager.specs.{Managed.ManagerStandsFor, Answered.as_appended};
 ghost use Rattle.xa_manager.specs.Turns.{HasJournaled, HasSettled, doubt_after, up_after};
 
 use crate::doubt::Doubt;

@@ -1,8 +1,7 @@
 ghost use Rattle.std.specs.Prelude.{◌≡◌, ◌≤◌, IfOk, option_copied};
 ghost use Rattle.xa_limits.specs.declared.TheConstants.{MOST_XIDS};
 ghost use Rattle.xa_model.specs.KnownBranches.{branches_by};
-ghost use Rattle.xa_manager.specs.Replies.{IsFresh};
-ghost use Rattle.xa_manager.specs.Tables.{TablesFollow};
+ghost use Rattle.xa_manager.specs.{Replies.IsFresh, Tables.TablesFollow};
 
 use crate::tables::Tables;
 use std::alloc::AllocError;

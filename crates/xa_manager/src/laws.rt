@@ -1,7 +1,6 @@
 //! What can be said of a manager's two files, and of managers on disks in memory.
 ghost use Rattle.xa_manager.specs.CrashLaws.{ReadLeaves, ReadStands, CrashLeaves, FilesLast, FilesLastAsFated};
-ghost use Rattle.xa_manager.specs.LogStands.{Trusts};
-ghost use Rattle.xa_manager.specs.Pending.{PendingLeaves};
+ghost use Rattle.xa_manager.specs.{LogStands.Trusts, Pending.PendingLeaves};
 ghost use Rattle.xa_manager.specs.Promises.{ReachedPromises, OnePromises, BegunIsReached};
 
 use xa_disk::{Disk, MemDisk};

@@ -4,13 +4,10 @@ ghost use Rattle.std.specs.Prelude.{◌≡◌, ◌≤◌, length, IfOk, IsOk, On
 ghost use Rattle.xa_limits.specs.declared.TheConstants.{MOST_BODY, MOST_SMALL};
 ghost use Rattle.xa_xid.specs.Triple.{IsWithinLimits};
 ghost use Rattle.xa_assoc.specs.Refusals.{IsBare};
-ghost use Rattle.xa_log.specs.Buffer.{Holds};
-ghost use Rattle.xa_log.specs.Chain.{IsBody};
-ghost use Rattle.xa_manager.specs.Answered.{StaysFor};
-ghost use Rattle.xa_manager.specs.Connected.{connected_to};
+ghost use Rattle.xa_log.specs.{Buffer.Holds, Chain.IsBody};
+ghost use Rattle.xa_manager.specs.{Answered.StaysFor, Connected.connected_to};
 ghost use Rattle.xa_manager.specs.Plans.{bytes_of, CanLog, IsPlan, IsReady};
-ghost use Rattle.xa_manager.specs.Rows.{row_turn, takes_memory};
-ghost use Rattle.xa_manager.specs.Turns.{TakesTurn};
+ghost use Rattle.xa_manager.specs.{Rows.row_turn, Rows.takes_memory, Turns.TakesTurn};
 
 use crate::done::Done;
 use crate::manager::Manager;

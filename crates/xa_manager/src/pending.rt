@@ -1,13 +1,9 @@
 ghost use Rattle.std.specs.Prelude.{◌≡◌, IfErr, IfOk, OnErr, true};
 ghost use Rattle.std.specs.List.{AllByRecursion};
-ghost use Rattle.xa_model.specs.Events.{IsAsked};
-ghost use Rattle.xa_model.specs.State.{State};
-ghost use Rattle.xa_manager.specs.Answered.{StaysFor};
-ghost use Rattle.xa_manager.specs.Connected.{connected_to};
-ghost use Rattle.xa_manager.specs.Parts.{log_of, outcome_of};
+ghost use Rattle.xa_model.specs.{Events.IsAsked, State.State};
+ghost use Rattle.xa_manager.specs.{Answered.StaysFor, Connected.connected_to, Parts.log_of, Parts.outcome_of};
 ghost use Rattle.xa_manager.specs.Pending.{IsPending, IsGroupOf, WritesGroup, calls_of};
-ghost use Rattle.xa_manager.specs.Managed.{ManagerStandsFor};
-ghost use Rattle.xa_manager.specs.Reserving.{HasReserved};
+ghost use Rattle.xa_manager.specs.{Managed.ManagerStandsFor, Reserving.HasReserved};
 
 use crate::manager::Manager;
 use crate::together::{Asked, Together};

@@ -1,7 +1,6 @@
 //! What a row that logs comes to before its append.
 ghost use Rattle.std.specs.Prelude.{◌≡◌, length, IfOk};
-ghost use Rattle.xa_record.specs.Small.{IsSmall};
-ghost use Rattle.xa_record.specs.Spelling.{spelled};
+ghost use Rattle.xa_record.specs.{Small.IsSmall, Spelling.spelled};
 ghost use Rattle.xa_manager.specs.Plans.{bytes_of};
 
 use crate::row::{Row, Writing};

@@ -1,10 +1,8 @@
 ghost use Rattle.std.specs.Prelude.{◌≡◌, ◌≤◌, IfOk, OnErr, length, false};
 ghost use Rattle.xa_limits.specs.declared.TheConstants.{MOST_XIDS};
 ghost use Rattle.xa_model.specs.Recovering.{listing, recover_by};
-ghost use Rattle.xa_assoc.specs.Refusals.{is_memory};
-ghost use Rattle.xa_assoc.specs.Company.{company_of};
-ghost use Rattle.xa_manager.specs.Replies.{IsFresh};
-ghost use Rattle.xa_manager.specs.Tables.{TablesFollow, TablesStay};
+ghost use Rattle.xa_assoc.specs.{Refusals.is_memory, Company.company_of};
+ghost use Rattle.xa_manager.specs.{Replies.IsFresh, Tables.TablesFollow, Tables.TablesStay};
 
 use crate::tables::Tables;
 use std::alloc::AllocError;

@@ -1,7 +1,6 @@
 ghost use Rattle.std.specs.Prelude.{◌≡◌, IfSome, IfOk, false};
 ghost use Rattle.xa_record.specs.declared.record.Record.TheVariants as logged;
-ghost use Rattle.xa_model.specs.State.{known_as, loose_of};
-ghost use Rattle.xa_model.specs.Associations.{loose_refusal};
+ghost use Rattle.xa_model.specs.{State.known_as, State.loose_of, Associations.loose_refusal};
 ghost use Rattle.xa_model.specs.Phases.{unprepared_refusal, two_phase_refusal, rollback_refusal, doom_refusal, is_associated};
 ghost use Rattle.xa_model.specs.Completions.{decide_refusal, forget_refusal};
 ghost use Rattle.xa_assoc.specs.Refusals.{is_memory, IsBare};

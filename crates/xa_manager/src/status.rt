@@ -1,11 +1,9 @@
 ghost use Rattle.std.specs.Prelude.{◌≡◌, is_some};
 ghost use Rattle.mv_rules.specs.Records.{versions_in};
-ghost use Rattle.xa_model.specs.State.{State};
-ghost use Rattle.xa_model.specs.Step.{opened_of};
+ghost use Rattle.xa_model.specs.{State.State, Step.opened_of};
 ghost use Rattle.xa_manager.specs.Managed.{ManagerStandsFor};
 ghost use Rattle.xa_manager.specs.Status.{status_of, status_down, versions_of};
-ghost use Rattle.xa_manager.specs.Tables.{TablesSay};
-ghost use Rattle.xa_manager.specs.View.{view_of};
+ghost use Rattle.xa_manager.specs.{Tables.TablesSay, View.view_of};
 
 use crate::manager::Manager;
 use crate::tables::Tables;

@@ -1,11 +1,8 @@
 ghost use Rattle.std.specs.Prelude.{◌≡◌, false, nat_lt, IsSome};
 ghost use Rattle.xa_model.specs.TimeLimits.{timeout_by, tick_by};
-ghost use Rattle.xa_assoc.specs.Company.{company_of};
-ghost use Rattle.xa_assoc.specs.Seats.{opened_at};
+ghost use Rattle.xa_assoc.specs.{Company.company_of, Seats.opened_at, Refusals.IsBare};
 ghost use Rattle.xa_branch.specs.Branches.{moment_of};
-ghost use Rattle.xa_manager.specs.Replies.{IsFresh};
-ghost use Rattle.xa_assoc.specs.Refusals.{IsBare};
-ghost use Rattle.xa_manager.specs.Tables.{TablesFollow};
+ghost use Rattle.xa_manager.specs.{Replies.IsFresh, Tables.TablesFollow};
 
 use crate::tables::Tables;
 use xa_codes::XA_OK;

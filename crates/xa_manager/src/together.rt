@@ -2,18 +2,11 @@
 ghost use Rattle.std.specs.Prelude.{◌≡◌, ◌≢◌, ◌≤◌, length, map, List, [], true, IfOk, OnErr, OnOk, vec_capacity};
 ghost use Rattle.std.specs.List.{AllByRecursion};
 ghost use Rattle.xa_assoc.specs.Company.{company_of};
-ghost use Rattle.xa_log.specs.Buffer.{Holds};
-ghost use Rattle.xa_log.specs.Chain.{IsBody};
-ghost use Rattle.xa_log.specs.Group.{as_one};
-ghost use Rattle.xa_log.specs.Reading.{bodies_of};
+ghost use Rattle.xa_log.specs.{Buffer.Holds, Chain.IsBody, Group.as_one, Reading.bodies_of};
 ghost use Rattle.xa_model.specs.Events.{IsAsked};
-ghost use Rattle.xa_manager.specs.Acts.{GiveRoomsBack};
-ghost use Rattle.xa_manager.specs.Answered.{StaysFor};
-ghost use Rattle.xa_manager.specs.Connected.{connected_to};
+ghost use Rattle.xa_manager.specs.{Acts.GiveRoomsBack, Answered.StaysFor, Connected.connected_to};
 ghost use Rattle.xa_manager.specs.GroupAnswers.{AnswersTogether, TakeAnswers, TakesGroup, told};
-ghost use Rattle.xa_manager.specs.Once.{AreOnce};
-ghost use Rattle.xa_manager.specs.Parts.{log_of, outcome_of};
-ghost use Rattle.xa_manager.specs.Reserving.{HasReserved};
+ghost use Rattle.xa_manager.specs.{Once.AreOnce, Parts.log_of, Parts.outcome_of, Reserving.HasReserved};
 ghost use Rattle.xa_manager.specs.Together.{AreReady, IsGroup, members_of};
 
 use crate::done::Done;

@@ -1,10 +1,7 @@
 ghost use Rattle.std.specs.Prelude.{◌≡◌, IfOk, OnErr, IsSome};
 ghost use Rattle.xa_model.specs.Associations.{begin_by, join_by, resume_by, start_by, suspend_by, leave_by, end_by};
-ghost use Rattle.xa_assoc.specs.Seats.{opened_at};
-ghost use Rattle.xa_manager.specs.Replies.{IsFresh};
-ghost use Rattle.xa_assoc.specs.Refusals.{IsBare};
-ghost use Rattle.xa_assoc.specs.Company.{company_of};
-ghost use Rattle.xa_manager.specs.Tables.{TablesFollow, TablesStay};
+ghost use Rattle.xa_assoc.specs.{Seats.opened_at, Refusals.IsBare, Company.company_of};
+ghost use Rattle.xa_manager.specs.{Replies.IsFresh, Tables.TablesFollow, Tables.TablesStay};
 
 use crate::tables::Tables;
 use std::alloc::AllocError;

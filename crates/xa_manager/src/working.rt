@@ -1,13 +1,8 @@
 //! The calls of a session's work on its branch, which log nothing.
 ghost use Rattle.std.specs.Prelude.{◌≡◌, IfOk, IsOk, IsSome, OnErr, true, false};
-ghost use Rattle.xa_model.specs.Events.{IsAsked};
-ghost use Rattle.xa_model.specs.Laws.Together.{is_work};
-ghost use Rattle.xa_assoc.specs.Company.{company_of};
-ghost use Rattle.xa_assoc.specs.Seats.{opened_at};
-ghost use Rattle.xa_manager.specs.Answered.{may_want};
-ghost use Rattle.xa_manager.specs.Pending.{work_by};
-ghost use Rattle.xa_manager.specs.Replies.{IsFresh};
-ghost use Rattle.xa_manager.specs.Tables.{TablesFollow, TablesStay};
+ghost use Rattle.xa_model.specs.{Events.IsAsked, Laws.Together.is_work};
+ghost use Rattle.xa_assoc.specs.{Company.company_of, Seats.opened_at};
+ghost use Rattle.xa_manager.specs.{Answered.may_want, Pending.work_by, Replies.IsFresh, Tables.TablesFollow, Tables.TablesStay};
 
 use crate::tables::Tables;
 use std::alloc::AllocError;
