@@ -18,7 +18,7 @@ use Rattle.xa_connection.specs.declared.answering.Answering.TheVariants as answe
 use Rattle.xa_connection.specs.declared.connection.Connection.{Connection}
 use Rattle.xa_connection.specs.declared.connection.TheConstants.{MOST_INPUT}
 use Rattle.xa_connection.specs.Fronts.{BeginsTooLong}
-use Rattle.xa_connection.specs.Calls.{Feeds, Turns, room_in}
+use Rattle.xa_connection.specs.Calls.{AnswersFront, Feeds, Turns, room_in}
 use Rattle.xa_connection.specs.Carries.{Carries, CarriesLaw, Delivers, Sends}
 
 -- nothing is under way
@@ -139,6 +139,17 @@ none-answered contents replies fed sent c c' h same sends =
       bounded = omega (arith, h.bounded, ap (λ (bs : List ℕ). length bs) same);
     }))
 
+-- what was answered is one content, or a length that is too great, which is none
+front-answered : {D : Type 0} (called : D → Question → Reply → D → Type 0) (contents : List (List ℕ)) (replies : List Reply) (fed sent : List ℕ) (c c' : Connection) (d e : D) (reply : Reply) (end : Option Served)
+    → Carries contents replies fed sent c → AnswersFront called c d reply end c'.input e
+    → (end ≡ None → Sends c'.end (replies ++ reply ∷ []) c'.input sent c'.output)
+    → (BeginsTooLong c'.input → reply ≡ bad_frame → end ≡ Some TooLong → Sends c'.end replies c'.input sent c'.output)
+    → (asked : List (List ℕ)) × (answered : List Reply) × AnswersAll called d asked answered e × Carries (contents ++ asked) (replies ++ answered) fed sent c'
+front-answered called contents replies fed sent c c' d e reply end h (inl k) one none =
+    (k.0 ∷ [], reply ∷ [], (e, k.3, refl), frame-answered contents replies fed sent c c' k.0 reply h k.1 k.2 (one k.4))
+front-answered called contents replies fed sent c c' d e reply end h (inr k) one none =
+    ([], [], sym k.2, none-answered contents replies fed sent c c' h k.1 (none (subst BeginsTooLong (sym k.1) k.0) k.3 k.4))
+
 carries-answered : {D : Type 0} (called : D → Question → Reply → D → Type 0) (contents : List (List ℕ)) (replies : List Reply) (fed sent : List ℕ) (answering : Answering) (c c' : Connection) (d e : D)
     → Carries contents replies fed sent c → Turns called c d answering c' e
     → (asked : List (List ℕ)) × (answered : List Reply) × AnswersAll called d asked answered e × Carries (contents ++ asked) (replies ++ answered) fed sent c'
@@ -150,43 +161,14 @@ carries-answered called contents replies fed sent answering.Idle c c' d e h t = 
 )
 carries-answered called contents replies fed sent answering.Answered c c' d e h t =
     let told : sent ≡ frames_of replies = all-sent c.end replies c.input sent c.output t.0.0 t.0.1 h.sends in
-    elim t.2 [
-      | inl k ↦ (
-        k.0 ∷ [],
-        t.1 ∷ [],
-        (e, k.3, refl),
-        frame-answered contents replies fed sent c c' k.0 t.1 h k.1 k.2
-            (sends-by c'.end None (replies ++ t.1 ∷ []) c'.input sent c'.output (reply_frame t.1) k.4 t.3 (more-delivers replies t.1 sent told)),
-      )
-      | inr k ↦ (
-        [],
-        [],
-        sym k.2,
-        none-answered contents replies fed sent c c' h k.1
-            (sends-by c'.end (Some TooLong) replies c'.input sent c'.output (reply_frame bad_frame) k.4 (t.3 ∙ ap reply_frame k.3)
-            (subst BeginsTooLong (sym k.1) k.0, more-delivers replies bad_frame sent told)),
-      )
-    ]
+    front-answered called contents replies fed sent c c' d e t.1 c'.end h t.2
+    (λ goes. sends-by c'.end None (replies ++ t.1 ∷ []) c'.input sent c'.output (reply_frame t.1) goes t.3 (more-delivers replies t.1 sent told))
+    (λ b is shut. sends-by c'.end (Some TooLong) replies c'.input sent c'.output (reply_frame bad_frame) shut (t.3 ∙ ap reply_frame is) (b, more-delivers replies bad_frame sent told))
 carries-answered called contents replies fed sent answering.Memory c c' d e h t =
     let told : sent ≡ frames_of replies = all-sent c.end replies c.input sent c.output t.0.0 t.0.1 h.sends in
-    elim t.3 [
-      | inl k ↦ (
-        k.0 ∷ [],
-        t.1 ∷ [],
-        (e, k.3, refl),
-        frame-answered contents replies fed sent c c' k.0 t.1 h k.1 k.2
-            (sends-by c'.end (Some Memory) (replies ++ t.1 ∷ []) c'.input sent c'.output [] t.5 t.4 (replies, t.1, [], c'.input, refl, inl (refl, refl), told, refl)),
-      )
-      | inr k ↦
-          let b : BeginsTooLong c'.input = subst BeginsTooLong (sym k.1) k.0 in (
-            [],
-            [],
-            sym k.2,
-            none-answered contents replies fed sent c c' h k.1
-                (sends-by c'.end (Some Memory) replies c'.input sent c'.output [] t.5 t.4
-                (replies, t.1, b.0, b.1, b.3, inr (b.2, ap (λ (r : Reply). replies ++ r ∷ []) k.3), told, refl)),
-          )
-    ]
+    front-answered called contents replies fed sent c c' d e t.1 t.2 h t.3
+    (λ goes. sends-by c'.end (Some Memory) (replies ++ t.1 ∷ []) c'.input sent c'.output [] t.5 t.4 (replies, t.1, [], c'.input, refl, inl (refl, refl), told, refl))
+    (λ b is shut. sends-by c'.end (Some Memory) replies c'.input sent c'.output [] t.5 t.4 (replies, t.1, b.0, b.1, b.3, inr (b.2, ap (λ (r : Reply). replies ++ r ∷ []) is), told, refl))
 
 pub carries-law : {D : Type 0} (called : D → Question → Reply → D → Type 0) → CarriesLaw called
 carries-law called = record {

@@ -17,7 +17,7 @@ use Rattle.xa_connection.specs.declared.asked.Asked.TheVariants.{One, Refused}
 use Rattle.xa_connection.specs.declared.front.Front.{Front}
 use Rattle.xa_connection.specs.declared.front.Front.TheVariants as front
 use Rattle.xa_connection.specs.declared.front.Front.TheVariants.{Whole, Cut}
-use Rattle.xa_connection.specs.Calls.{Asks, Holds, IsPut, IsReady, IsRefused, Replies, Turns}
+use Rattle.xa_connection.specs.Calls.{AnswersFront, Asks, Holds, IsPut, IsReady, IsRefused, Replies, Turns}
 use Rattle.xa_connection.proofs.Fronts.{begins_short}
 
 -- it goes on
@@ -36,58 +36,42 @@ content-is count front input is =
     let same : 4 + count - 4 ≡ count = omega arith in
     ap (λ (n : ℕ). take n (drop 4 front)) same ∙ ap (λ (bs : List ℕ). take count (drop 4 bs)) is
 
+-- what is at the front was answered, and the reply was put
+turns-put : {D : Type 0} (called : D → Question → Reply → D → Type 0) (c x c' : Connection) (d e : D) (answering : Answering) (reply : Reply)
+    → IsReady c → AnswersFront called c d reply x.end x.input e → Holds x reply answering c' → Turns called c d answering c' e
+turns-put called c x c' d e Idle reply ready f h = absurd h
+turns-put called c x c' d e Answered reply ready f h =
+    (ready, reply, subst (λ (y : Connection). AnswersFront called c d reply y.end y.input e) (sym h) f, ap (λ (y : Connection). y.output) h)
+turns-put called c x c' d e Memory reply ready f h = (
+  ready,
+  reply,
+  x.end,
+  subst (λ (y : Connection). AnswersFront called c d reply x.end y.input e) (sym h) f,
+  ap (λ (y : Connection). y.output) h,
+  ap (λ (y : Connection). y.end) h,
+)
+
 -- a frame is at the front, whose content was answered
 pub turns-frame : {D : Type 0} (called : D → Question → Reply → D → Type 0) (c c' : Connection) (d e : D) (answering : Answering) (count : ℕ) (content rest : List ℕ) (reply : Reply)
     → IsReady c → BeginsWhole c.input count → content ≡ take count (drop 4 c.input) → Answers called d content reply e → rest ≡ drop (4 + count) c.input
     → Holds (record c { input = rest }) reply answering c' → Turns called c d answering c' e
-turns-frame called c c' d e Idle count content rest reply ready b is said behind h = absurd h
-turns-frame called c c' d e Answered count content rest reply ready b is said behind h =
-    let front : List ℕ = take count (drop 4 c.input) in (
-      ready,
-      reply,
-      inl (
-        front,
-        begins_short c.input count b,
-        b.parts ∙ ap (λ (bs : List ℕ). frame front ++ bs) (sym behind ∙ sym (ap (λ (x : Connection). x.input) h)),
-        subst (λ (bs : List ℕ). Answers called d bs reply e) is said,
-        ap (λ (x : Connection). x.end) h ∙ ready.0,
-      ),
-      ap (λ (x : Connection). x.output) h,
-    )
-turns-frame called c c' d e Memory count content rest reply ready b is said behind h =
-    let front : List ℕ = take count (drop 4 c.input) in (
-      ready,
-      reply,
-      None,
-      inl (
-        front,
-        begins_short c.input count b,
-        b.parts ∙ ap (λ (bs : List ℕ). frame front ++ bs) (sym behind ∙ sym (ap (λ (x : Connection). x.input) h)),
-        subst (λ (bs : List ℕ). Answers called d bs reply e) is said,
-        refl,
-      ),
-      ap (λ (x : Connection). x.output) h,
-      ap (λ (x : Connection). x.end) h,
-    )
+turns-frame called c c' d e answering count content rest reply ready b is said behind h =
+    let front : List ℕ = take count (drop 4 c.input) in
+    turns-put called c (record c { input = rest }) c' d e answering reply ready
+    (inl (
+      front,
+      begins_short c.input count b,
+      b.parts ∙ ap (λ (bs : List ℕ). frame front ++ bs) (sym behind),
+      subst (λ (bs : List ℕ). Answers called d bs reply e) is said,
+      ready.0,
+    ))
+    h
 
 -- a length that is too great is at the front
 pub turns-length : {D : Type 0} (called : D → Question → Reply → D → Type 0) (c c' : Connection) (d : D) (answering : Answering) (reply : Reply)
     → IsReady c → BeginsTooLong c.input → reply ≡ bad_frame → Holds (record c { end = Some served.TooLong }) reply answering c' → Turns called c d answering c' d
-turns-length called c c' d Idle reply ready b is h = absurd h
-turns-length called c c' d Answered reply ready b is h = (
-  ready,
-  reply,
-  inr (b, ap (λ (x : Connection). x.input) h, refl, is, ap (λ (x : Connection). x.end) h),
-  ap (λ (x : Connection). x.output) h,
-)
-turns-length called c c' d Memory reply ready b is h = (
-  ready,
-  reply,
-  Some served.TooLong,
-  inr (b, ap (λ (x : Connection). x.input) h, refl, is, refl),
-  ap (λ (x : Connection). x.output) h,
-  ap (λ (x : Connection). x.end) h,
-)
+turns-length called c c' d answering reply ready b is h =
+    turns-put called c (record c { end = Some served.TooLong }) c' d d answering reply ready (inr (b, refl, refl, is, refl)) h
 
 -- a content that reaches no door is answered so
 pub refused-answers : {D : Type 0} (called : D → Question → Reply → D → Type 0) (d : D) (content : List ℕ) (reply : Reply)
