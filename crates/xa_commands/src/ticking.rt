@@ -1,5 +1,4 @@
-ghost use Rattle.xa_commands.specs.Done.{HasTicked};
-ghost use Rattle.xa_commands.specs.declared.ticking.Watch.{Watch};
+ghost use Rattle.xa_commands.specs.{Done.HasTicked, declared.ticking.Watch.Watch};
 ghost use Rattle.xa_talk.specs.declared.dial.Connection.{Connection};
 
 use crate::server::{Reach, Server};

@@ -1,6 +1,5 @@
 ghost use Rattle.std.specs.Prelude.{◌≡◌, ◌↔◌, [], drop, IfOk, IfErr, OnErr, IsSome, IsTrue};
-ghost use Rattle.xa_frame.specs.Limits.{IsReply};
-ghost use Rattle.xa_frame.specs.Questions.{IsQuestion, SpellsQuestion};
+ghost use Rattle.xa_frame.specs.{Limits.IsReply, Questions.IsQuestion, Questions.SpellsQuestion};
 ghost use Rattle.xa_connection.specs.Calls.{Asks, Feeds, IsAsked, IsPut, IsRefused, Replies, Turns, new_connection, room_of};
 ghost use Rattle.xa_connection.specs.Fronts.{IsInsideFrame, IsShortFront};
 

@@ -1,6 +1,5 @@
 ghost use Rattle.std.specs.Prelude.{ℕ};
-ghost use Rattle.xa_connection.specs.Carries.{CarriesLaw};
-ghost use Rattle.xa_connection.specs.Talked.{TalkedLaw};
+ghost use Rattle.xa_connection.specs.{Carries.CarriesLaw, Talked.TalkedLaw};
 
 use xa_desk::Door;
 

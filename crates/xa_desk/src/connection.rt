@@ -3,9 +3,8 @@ ghost use Rattle.std.specs.Prelude.{◌≡◌, ◌<◌, ◌≤◌, ◌++◌, dro
 ghost use Rattle.std.specs.Io.KnownBytes.{Consumes};
 ghost use Rattle.xa_limits.specs.declared.TheConstants.{MOST_CONTENT};
 ghost use Rattle.xa_frame.specs.Limits.{IsReply};
-ghost use Rattle.xa_desk.specs.declared.connection.TheConstants.{MOST_FRAMES};
-ghost use Rattle.xa_desk.specs.Frames.{reply_frame, without_memory};
-ghost use Rattle.xa_desk.specs.Serving.{Answers, Talks};
+ghost use Rattle.xa_desk.specs.{declared.connection.TheConstants.MOST_FRAMES, Frames.reply_frame, Frames.without_memory, Serving.Answers};
+ghost use Rattle.xa_desk.specs.{Serving.Talks};
 ghost use Rattle.xa_desk.specs.Steps.{Fills, Lacks, ReadsLength, Sends, end_of};
 
 use crate::door::Door;

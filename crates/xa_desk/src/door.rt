@@ -3,10 +3,8 @@ use xa_frame::{Reply, Request, Status};
 /// What a connection's questions go to.
 pub trait Door {
     ghost use Rattle.std.specs.Prelude.{ℕ};
-    ghost use Rattle.xa_frame.specs.declared.question.Question.{Question};
-    ghost use Rattle.xa_frame.specs.declared.reply.Reply.{Reply};
-    ghost use Rattle.xa_frame.specs.Limits.{IsRequest, IsReply};
-    ghost use Rattle.xa_frame.specs.Made.{doing};
+    ghost use Rattle.xa_frame.specs.{declared.question.Question.Question, declared.reply.Reply.Reply, Limits.IsRequest, Limits.IsReply};
+    ghost use Rattle.xa_frame.specs.{Made.doing};
 
     /// A question of this session took it from one to the other, with this reply.
     ghost called: { ℕ → Self → Question → Reply → Self → Type 0 };

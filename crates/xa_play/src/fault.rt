@@ -1,3 +1,6 @@
+ghost use Rattle.std.specs.Prelude.{◌≡◌};
+ghost use Rattle.xa_play.specs.{declared.fault.PlayFault.TheVariants.Memory, Faults.fault_of};
+
 use std::alloc::AllocError;
 use thiserror::Error;
 use xa_manager::ManagerFault;
@@ -21,9 +24,6 @@ pub enum PlayFault {
 }
 
 impl From<AllocError> for PlayFault {
-    ghost use Rattle.std.specs.Prelude.{◌≡◌};
-    ghost use Rattle.xa_play.specs.declared.fault.PlayFault.TheVariants.{Memory};
-
     ghost from_gives = { λ _ fault. fault ≡ Memory };
 
     fn from(_: AllocError) -> PlayFault {
@@ -32,9 +32,6 @@ impl From<AllocError> for PlayFault {
 }
 
 impl From<ManagerFault> for PlayFault {
-    ghost use Rattle.std.specs.Prelude.{◌≡◌};
-    ghost use Rattle.xa_play.specs.Faults.{fault_of};
-
     ghost from_gives = { λ fault played. played ≡ fault_of fault };
 
     fn from(fault: ManagerFault) -> PlayFault {

@@ -1,6 +1,5 @@
 //! What can be said of every manager on disks in memory, and of every run of the sequential resource manager.
-ghost use Rattle.xa_play.specs.Disks.{FilesStand};
-ghost use Rattle.xa_play.specs.Runs.{RunsAreLawful};
+ghost use Rattle.xa_play.specs.{Disks.FilesStand, Runs.RunsAreLawful};
 
 use xa_disk::MemDisk;
 use xa_manager::{memory_is_trusted, read_stands};

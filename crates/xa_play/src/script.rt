@@ -1,7 +1,6 @@
 ghost use Rattle.std.specs.IoError.{error_kind};
 ghost use Rattle.std.specs.Prelude.{◌≡◌, ◌≢◌, ◌≤◌, ◌⊎◌, IfErr, IfOk, IfSome, IsErrOf, OnErr, OnOk, length};
-ghost use Rattle.xa_play.specs.Plays.{IsTooLong};
-ghost use Rattle.xa_play.specs.declared.script.TheConstants.{MOST_SCRIPT};
+ghost use Rattle.xa_play.specs.{Plays.IsTooLong, declared.script.TheConstants.MOST_SCRIPT};
 
 use crate::fault::PlayFault;
 use std::alloc::Global;

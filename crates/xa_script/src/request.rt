@@ -3,8 +3,7 @@ ghost use Rattle.std.specs.Prelude.{◌≡◌, ℕ, IfOk, IfSome, List, Option, 
 ghost use Rattle.xa_frame.specs.declared.request.Request.{Request};
 ghost use Rattle.xa_frame.specs.Limits.{IsKey, IsRequest, IsValue};
 ghost use Rattle.xa_xid.specs.Triple.{Triple};
-ghost use Rattle.xa_script.specs.Flags.{flags_of};
-ghost use Rattle.xa_script.specs.Numbers.{count_of, moment_of};
+ghost use Rattle.xa_script.specs.{Flags.flags_of, Numbers.count_of, Numbers.moment_of};
 ghost use Rattle.xa_script.specs.Parts.{alone, by_one, by_two, one_of, words_behind};
 ghost use Rattle.xa_script.specs.Requests.{ReadsTexts, branch_pair, branches_by, cursor_of, direction_of, is_graphic};
 ghost use Rattle.xa_script.specs.Requests.{is_name, key_of, open_by, request_of, value_of};

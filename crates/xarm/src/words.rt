@@ -1,14 +1,10 @@
 //! What the words of a command line ask for.
 ghost use Rattle.std.specs.Prelude.{◌≡◌, IfOk, IsSomeAnd, Some, codes, if◌then◌else◌, map, option_map, string_bytes};
-ghost use Rattle.clap.specs.Faults.{fault_of};
-ghost use Rattle.clap.specs.Kinds.{FailsBy};
-ghost use Rattle.clap.specs.Matches.{found_of};
-ghost use Rattle.clap.specs.Simple.{subcommand_of, subcommand_rows_of};
+ghost use Rattle.clap.specs.{Faults.fault_of, Kinds.FailsBy, Matches.found_of, Simple.subcommand_of, Simple.subcommand_rows_of};
 ghost use Rattle.clap.specs.Walk.{first_of, one_of, rows_of};
 ghost use Rattle.xarm.specs.Asks.{AsksBy, AsksOf, IsAtIn, IsCommand, IsReachIn, IsSet, most_16, most_64, number_in, text_in};
-ghost use Rattle.xarm.specs.Line.{xarm};
+ghost use Rattle.xarm.specs.{Line.xarm, declared.asked.Asked.TheVariants.Loop};
 ghost use Rattle.xa_script.specs.declared.style.Style.TheVariants.{Codes, Names};
-ghost use Rattle.xarm.specs.declared.asked.Asked.TheVariants.{Loop};
 
 use crate::asked::Asked;
 use crate::line::command_line;
