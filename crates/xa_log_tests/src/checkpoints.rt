@@ -305,14 +305,13 @@ fn stands_after_rescan(alloc: Global, pair: Pair, effect: Effect) -> Option<bool
     Some(right && keeps_all(&mut log, &MORE))
 }
 
+fn stands(alloc: Global, pair: Pair, effect: Effect) -> bool {
+    stands_after_crash(alloc, pair, effect) == Some(true)
+        && stands_after_rescan(alloc, pair, effect) == Some(true)
+}
+
 fn wrong_pair(alloc: Global, rows: &[Pair], effect: Effect) -> Option<usize> {
-    for (index, pair) in rows.iter().enumerate() {
-        let crash = stands_after_crash(alloc, *pair, effect);
-        if crash != Some(true) || stands_after_rescan(alloc, *pair, effect) != Some(true) {
-            return Some(index);
-        }
-    }
-    None
+    first_wrong(rows, |pair| stands(alloc, *pair, effect))
 }
 
 #[test]
@@ -347,27 +346,19 @@ fn are_appended(answer: Appended, bodies: &[Vec<u8>]) -> bool {
     }
 }
 
+// A crash, and a rescan, find the bodies that its answer says.
 fn is_appended(alloc: Global, k: u64, effect: Effect) -> Option<bool> {
     let (answer, log) = appended(alloc, k, effect)?;
     let (first, second) = crashed(log)?;
     let (log, bodies) = Log::open(alloc, first, second, LOG_BYTES).ok()?;
-    Some(are_appended(answer, &bodies) && !log.on_first())
-}
-
-fn is_appended_and_read(alloc: Global, k: u64, effect: Effect) -> Option<bool> {
+    let is_found = are_appended(answer, &bodies) && !log.on_first();
     let (answer, mut log) = appended(alloc, k, effect)?;
     let bodies = read_again(&mut log)?;
-    Some(are_appended(answer, &bodies) && !log.on_first())
+    Some(is_found && are_appended(answer, &bodies) && !log.on_first())
 }
 
 fn wrong_append(alloc: Global, effect: Effect) -> Option<u64> {
-    for k in 1..6u64 {
-        let crash = is_appended(alloc, k, effect);
-        if crash != Some(true) || is_appended_and_read(alloc, k, effect) != Some(true) {
-            return Some(k);
-        }
-    }
-    None
+    (1..6u64).find(|k| is_appended(alloc, *k, effect) != Some(true))
 }
 
 #[test]
@@ -394,12 +385,7 @@ fn is_opened_again(alloc: Global, k: u64, first_fails: bool) -> Option<bool> {
 }
 
 fn wrong_opening(alloc: Global, first_fails: bool) -> Option<u64> {
-    for k in 1..4u64 {
-        if is_opened_again(alloc, k, first_fails) != Some(true) {
-            return Some(k);
-        }
-    }
-    None
+    (1..4u64).find(|k| is_opened_again(alloc, *k, first_fails) != Some(true))
 }
 
 #[test]
