@@ -96,14 +96,6 @@ fn wrong_read(alloc: Global, talk: &Talk, fails: bool) -> Option<usize> {
     (0..=talk.input.len()).find(|n| !is_read(alloc, talk, *n, fails))
 }
 
-#[test]
-fn broken_readers(rt: HostRuntime) {
-    let talk = gets(rt.alloc(), 2).expect(&rt, "a talk");
-    assert!(rt; talk.input.len() == 2 * GET);
-    none_wrong(&rt, wrong_read(rt.alloc(), &talk, false));
-    none_wrong(&rt, wrong_read(rt.alloc(), &talk, true));
-}
-
 /// The writer takes so many bytes, and then nothing or fails.
 fn is_written(alloc: Global, talk: &Talk, n: usize, fails: bool) -> bool {
     let reader = Source {
@@ -125,9 +117,11 @@ fn wrong_write(alloc: Global, talk: &Talk, fails: bool) -> Option<usize> {
 }
 
 #[test]
-fn broken_writers(rt: HostRuntime) {
+fn broken_readers_and_writers(rt: HostRuntime) {
     let talk = gets(rt.alloc(), 2).expect(&rt, "a talk");
-    assert!(rt; talk.output.len() == 2 * NUMBERED);
+    assert!(rt; talk.input.len() == 2 * GET && talk.output.len() == 2 * NUMBERED);
+    none_wrong(&rt, wrong_read(rt.alloc(), &talk, false));
+    none_wrong(&rt, wrong_read(rt.alloc(), &talk, true));
     none_wrong(&rt, wrong_write(rt.alloc(), &talk, false));
     none_wrong(&rt, wrong_write(rt.alloc(), &talk, true));
 }
