@@ -205,106 +205,112 @@ impl<R: AllocGlobal> Visit<R> for Connection {
 }
 
 /// A first connection that breaks so ends so.
-fn is_right<R: AllocGlobal>(rt: &R, how: Break, wanted: Wanted) -> bool {
-    at_new_desk(rt, Connection { how, wanted }) == Some(true)
+fn is_right<R: AllocGlobal>(rt: &R, connection: Connection) -> bool {
+    at_new_desk(rt, connection) == Some(true)
+}
+
+/// The first of so many places at which a connection that breaks there doesn't end so.
+fn wrong_place<R: AllocGlobal, F: Fn(usize) -> Connection>(
+    rt: &R,
+    places: usize,
+    broken: F,
+) -> Option<usize>
+    requires { F.IsAlwaysCallable broken }
+{
+    (0..places).find(|n| !is_right(rt, broken(*n)))
 }
 
 /// The input is cut behind so many bytes.
-fn is_right_cut<R: AllocGlobal>(rt: &R, n: usize) -> bool {
+fn cut(n: usize) -> Connection {
     let end = if n % OPEN.len() == 0 {
         Served::Ended
     } else {
         Served::ReadFault
     };
     let answered = n / OPEN.len();
-    let how = Break { cut: n, ..WHOLE };
-    let wanted = Wanted {
-        end,
-        written: answered.saturating_mul(OPENED),
-        answered,
-        left: 0,
-    };
-    is_right(rt, how, wanted)
-}
-
-fn wrong_cut<R: AllocGlobal>(rt: &R) -> Option<usize> {
-    (0..=FRAMES * OPEN.len()).find(|n| !is_right_cut(rt, *n))
+    Connection {
+        how: Break { cut: n, ..WHOLE },
+        wanted: Wanted {
+            end,
+            written: answered.saturating_mul(OPENED),
+            answered,
+            left: 0,
+        },
+    }
 }
 
 #[test]
 fn inputs_that_are_cut(rt: HostRuntime) {
-    none_wrong(&rt, wrong_cut(&rt));
+    none_wrong(&rt, wrong_place(&rt, FRAMES * OPEN.len() + 1, |n| cut(n)));
 }
 
 /// A read fails once, in front of this byte or of the end.
-fn is_right_read<R: AllocGlobal>(rt: &R, n: usize) -> bool {
+fn unread(n: usize) -> Connection {
     let answered = n / OPEN.len();
-    let how = Break { read: n, ..WHOLE };
-    let wanted = Wanted {
-        end: Served::ReadFault,
-        written: answered.saturating_mul(OPENED),
-        answered,
-        left: (FRAMES * OPEN.len()).saturating_sub(n),
-    };
-    is_right(rt, how, wanted)
-}
-
-fn wrong_read<R: AllocGlobal>(rt: &R) -> Option<usize> {
-    (0..=FRAMES * OPEN.len()).find(|n| !is_right_read(rt, *n))
+    Connection {
+        how: Break { read: n, ..WHOLE },
+        wanted: Wanted {
+            end: Served::ReadFault,
+            written: answered.saturating_mul(OPENED),
+            answered,
+            left: (FRAMES * OPEN.len()).saturating_sub(n),
+        },
+    }
 }
 
 #[test]
 fn reads_that_fail_once(rt: HostRuntime) {
-    none_wrong(&rt, wrong_read(&rt));
+    none_wrong(
+        &rt,
+        wrong_place(&rt, FRAMES * OPEN.len() + 1, |n| unread(n)),
+    );
 }
 
 /// A write fails once, in front of this byte.
-fn is_right_write<R: AllocGlobal>(rt: &R, n: usize) -> bool {
+fn unwritten(n: usize) -> Connection {
     let answered = n / OPENED + 1;
-    let how = Break { write: n, ..WHOLE };
-    let wanted = Wanted {
-        end: Served::WriteFault,
-        written: n,
-        answered,
-        left: FRAMES.saturating_sub(answered) * OPEN.len(),
-    };
-    is_right(rt, how, wanted)
-}
-
-fn wrong_write<R: AllocGlobal>(rt: &R) -> Option<usize> {
-    (0..FRAMES * OPENED).find(|n| !is_right_write(rt, *n))
+    Connection {
+        how: Break { write: n, ..WHOLE },
+        wanted: Wanted {
+            end: Served::WriteFault,
+            written: n,
+            answered,
+            left: FRAMES.saturating_sub(answered) * OPEN.len(),
+        },
+    }
 }
 
 #[test]
 fn writes_that_fail_once(rt: HostRuntime) {
-    none_wrong(&rt, wrong_write(&rt));
+    none_wrong(&rt, wrong_place(&rt, FRAMES * OPENED, |n| unwritten(n)));
 }
 
 /// A connection may have so many frames.
-fn is_right_bound<R: AllocGlobal>(rt: &R, most: u32) -> bool {
+fn bounded(most: u32) -> Connection {
     let answered = FRAMES.min(most as usize);
     let end = if most as usize > FRAMES {
         Served::Ended
     } else {
         Served::ReadFault
     };
-    let how = Break { most, ..WHOLE };
-    let wanted = Wanted {
-        end,
-        written: answered.saturating_mul(OPENED),
-        answered,
-        left: (FRAMES - answered) * OPEN.len(),
-    };
-    is_right(rt, how, wanted)
+    Connection {
+        how: Break { most, ..WHOLE },
+        wanted: Wanted {
+            end,
+            written: answered.saturating_mul(OPENED),
+            answered,
+            left: (FRAMES - answered) * OPEN.len(),
+        },
+    }
 }
 
 /// Behind the last frame that it may have nothing is read, nor is it seen that the input ended.
 #[test]
 fn a_bound_of_frames(rt: HostRuntime) {
     assert!(rt;
-        is_right_bound(&rt, 0)
-            && is_right_bound(&rt, 2)
-            && is_right_bound(&rt, 3)
-            && is_right_bound(&rt, 4)
+        is_right(&rt, bounded(0))
+            && is_right(&rt, bounded(2))
+            && is_right(&rt, bounded(3))
+            && is_right(&rt, bounded(4))
     );
 }

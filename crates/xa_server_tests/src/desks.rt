@@ -113,13 +113,13 @@ pub fn found_by<M: Manages, S: Start, L: Ledger>(
     }
 }
 
-/// Whether an audit finds that one report tells of all that a room recorded, which is so many events.
-pub fn is_audited<M: Manages, S: Start, L: Ledger>(
+/// The receipts of a report, if an audit finds that it tells of all that a room recorded, which is so many events.
+pub fn audited<M: Manages, S: Start, L: Ledger>(
     alloc: Global,
     room: &Room<M, S>,
     report: Report<L>,
     events: u64,
-) -> bool {
+) -> Option<Vec<Receipt>> {
     let Report {
         share,
         receipts,
@@ -127,7 +127,12 @@ pub fn is_audited<M: Manages, S: Start, L: Ledger>(
     } = report;
     let shares = [share];
     let kept = (receipts.len() as u64).saturating_add(dropped);
-    found_by(alloc, room, &receipts, &shares).is_ok()
+    if found_by(alloc, room, &receipts, &shares).is_ok()
         && kept == events
         && room.entries().len() as u64 == events
+    {
+        Some(receipts)
+    } else {
+        None
+    }
 }

@@ -2,7 +2,8 @@
 //! audit finds, connections that break, and worked rows with each allocation refused.
 //!
 //! - `desks`: what these tests begin with, a desk of a new room; `clients`: frames, and who sends them
-//! - `rooms`: receipts, shares and audits; `crews`: callers at once; `meetings`: sessions at once, over connections
+//! - `rooms`: receipts, shares and audits; `crews`: callers at once; `meetings`: sessions at once, over connections;
+//!   `workers`: who answers those
 //! - `broken`: a connection that breaks; `broken_clients`: clients that break off
 //! - `sequencers`: what a sequencer numbers, for one thread and for two; `posted`: calls that two handles post;
 //!   `pending`: what is answered while a group is synced
@@ -46,3 +47,5 @@ mod sequencers;
 mod servers;
 #[cfg(test)]
 mod statuses;
+#[cfg(test)]
+mod workers;

@@ -1,6 +1,6 @@
 use crate::clients::{CALLS, are_answered, is_cut_off, listening, reach};
 use crate::desks::opened;
-use crate::servers::{EACH_CALL, Talked, is_as_played, script_of, talked};
+use crate::servers::{EACH_CALL, is_as_played, script_of, talked};
 use std::alloc::Global;
 use std::io::{Read, Write};
 use std::net::{Net, SocketAddr, TcpListener, TcpStream};
@@ -9,12 +9,12 @@ use std::sync::Wait;
 use std::thread::{Threads, join};
 use xa_reactor::{Listener, Settings};
 use xa_sequencer::GroupManager;
-use xa_server::{Looped, ServerFault, loop_manager};
+use xa_server::loop_manager;
 
 // Event loops: what connections are answered, wherever they are cut, and which of them are closed.
 
 // What is to be served: so many connections. One that stops inside a frame is closed a second later.
-pub fn settings_of(connections: u64) -> Settings {
+fn settings_of(connections: u64) -> Settings {
     Settings {
         connections,
         frame_seconds: 1,
@@ -26,7 +26,7 @@ pub fn settings_of(connections: u64) -> Settings {
 }
 
 // A listener for loops, and where it is reached.
-pub fn loop_listener<R: Net<Listener = TcpListener, Stream = TcpStream>>(
+fn loop_listener<R: Net<Listener = TcpListener, Stream = TcpStream>>(
     rt: &R,
 ) -> Option<(Listener, SocketAddr)> {
     let (listener, address) = listening(rt)?;
@@ -35,20 +35,11 @@ pub fn loop_listener<R: Net<Listener = TcpListener, Stream = TcpStream>>(
     Some((Listener::Tcp(listener), address))
 }
 
-// Whether loops that ended tell of so many events, and of a manager that is up.
-pub fn is_told(told: Looped, calls: u64) -> bool {
-    told.calls == calls && told.is_whole && !told.is_down
-}
-
-fn is_told_by(told: Result<Looped, ServerFault>, calls: u64) -> bool {
-    match told {
-        Ok(told) => is_told(told, calls),
-        Err(_) => false,
-    }
-}
-
-// A script over two loops, if they told of so many events.
-fn looped<
+/// What clients find of a manager that so many loops serve over so many connections, if they tell of so many events in
+/// the end, and of a manager that is up.
+pub fn looped<
+    T: Drop,
+    F: FnOnce(SocketAddr) -> T + Drop,
     R: AllocGlobal
         + Clock
         + Eprint
@@ -56,38 +47,28 @@ fn looped<
         + Threads
         + Wait
         + Sync,
->(rt: &R, script: &[u8], calls: u64) -> Talked {
-    let alloc = rt.alloc();
+>(rt: &R, loops: u64, connections: u64, calls: u64, clients: F) -> Option<T>
+    requires { F.IsAlwaysCallable clients }
+{
     let (listener, address) = loop_listener(rt)?;
-    let manager = opened(alloc)?;
-    let (told, talked) = join(
+    let manager = GroupManager::new(opened(rt.alloc())?);
+    let (told, found) = join(
         rt,
-        || loop_manager(rt, listener, GroupManager::new(manager), 2, settings_of(2)),
-        || talked(rt, alloc, address, script),
+        || loop_manager(rt, listener, manager, loops, settings_of(connections)),
+        || clients(address),
     );
-    if is_told_by(told, calls) {
-        talked
-    } else {
-        None
+    match told {
+        Ok(told) if told.calls == calls && told.is_whole && !told.is_down => Some(found),
+        _ => None,
     }
-}
-
-fn loops_answer<
-    R: AllocGlobal
-        + Clock
-        + Eprint
-        + Net<Listener = TcpListener, Stream = TcpStream>
-        + Threads
-        + Wait
-        + Sync,
->(rt: &R, lines: &[&str], script: &[u8]) -> bool {
-    is_as_played(rt.alloc(), lines, script, looped(rt, script, 55))
 }
 
 #[test]
 fn loops_answer_as_play(rt: HostRuntime) {
     let script = script_of(rt.alloc(), EACH_CALL).expect(&rt, "a script");
-    assert!(rt; loops_answer(&rt, EACH_CALL, script.as_slice()));
+    let clients = |address| talked(&rt, rt.alloc(), address, script.as_slice());
+    let talked = looped(&rt, 2, 2, 55, clients).expect(&rt, "loops that tell of 55 events");
+    assert!(rt; is_as_played(rt.alloc(), EACH_CALL, script.as_slice(), talked));
 }
 
 // One that sends byte by byte, and takes its replies so.
@@ -136,28 +117,9 @@ fn are_right<R: Net<Stream = TcpStream>>(
     Some(trickles(rt, alloc, address)? && is_hung_up(rt, alloc, address)?)
 }
 
-fn loops_serve_the_cut<
-    R: AllocGlobal
-        + Clock
-        + Eprint
-        + Net<Listener = TcpListener, Stream = TcpStream>
-        + Threads
-        + Wait
-        + Sync,
->(rt: &R) -> Option<bool> {
-    let alloc = rt.alloc();
-    let (listener, address) = loop_listener(rt)?;
-    let manager = opened(alloc)?;
-    let (told, are_right) = join(
-        rt,
-        || loop_manager(rt, listener, GroupManager::new(manager), 1, settings_of(18)),
-        || are_right(rt, alloc, address),
-    );
-    // three events of each of the first sixteen, four of the next, and two of the one that is hung up
-    Some(are_right == Some(true) && is_told_by(told, 54))
-}
-
 #[test]
 fn connections_that_are_cut(rt: HostRuntime) {
-    assert!(rt; loops_serve_the_cut(&rt) == Some(true));
+    let clients = |address| are_right(&rt, rt.alloc(), address);
+    // three events of each of the first sixteen, four of the next, and two of the one that is hung up
+    assert!(rt; looped(&rt, 1, 18, 54, clients) == Some(Some(true)));
 }

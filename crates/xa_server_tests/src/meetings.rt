@@ -1,26 +1,19 @@
 ghost use Rattle.std.specs.Prelude.{◌≡◌, true};
 ghost use Rattle.xa_frame.specs.Limits.{IsReply};
-ghost use Rattle.xa_model.specs.State.{State};
 
-use crate::clients::{self, CALLS, OPEN, client, listening};
-use crate::desks::{PARTS, desk_over, is_audited, opened};
+use crate::clients::{self, CALLS, OPEN, client};
+use crate::workers::worked;
 use std::alloc::Global;
-use std::marker::Brand;
-use std::net::{Net, TcpListener, TcpStream};
-use std::rt::Clock;
-use std::sync::Wait;
+use std::net::{Net, SocketAddr, TcpListener, TcpStream};
 use std::sync::atomic::{AtomicBool, Ordering};
-use std::sync::ledger::{Blank, Ledger};
 use std::thread;
 use std::thread::{Threads, join};
 use xa_codes::XA_OK;
-use xa_disk::MemDisk;
 use xa_frame::{Body, Reply, encode_reply};
 use xa_limits::MOST_VALUE;
-use xa_manager::Manager;
 use xa_model::Event;
-use xa_room::{Manages, Receipt, Room, Start};
-use xa_workers::{Gate, OpenGate, Report, WorkFault, run_workers};
+use xa_room::Receipt;
+use xa_workers::{Gate, OpenGate};
 
 /// How often a call that is kept back looks whether another came through.
 const MOST_LOOKS: u32 = 10_000_000;
@@ -138,103 +131,47 @@ fn two_sessions(alloc: Global) -> Option<(Vec<u8>, Vec<u8>)> {
     Some((one, session_of(alloc, 0xab)?))
 }
 
-// Whether the report is whole, tells of these sessions, and is all that the room recorded.
-fn are_told<M: Manages, S: Start, L: Ledger>(
+// Two clients at once.
+fn both<R: Net<Listener = TcpListener, Stream = TcpStream> + Threads + Sync>(
+    rt: &R,
     alloc: Global,
-    room: &Room<M, S>,
-    report: Report<L>,
-    came: Came,
-) -> bool {
-    let are_answered = are_answered(alloc, report.receipts.as_slice(), came);
-    let is_whole = report.dropped == 0;
-    is_audited(alloc, room, report, 16) && are_answered && is_whole
+    address: SocketAddr,
+    one: &[u8],
+    other: &[u8],
+) -> Came {
+    join(
+        rt,
+        || client(rt, alloc, address, one),
+        || client(rt, alloc, address, other),
+    )
 }
 
-// Two clients at once, each with a worker of its own.
-fn met<
-    M: Manages + Send + Drop,
-    S: Start + Send + Sync,
-    L: Ledger + Send + Sync,
-    R: Clock + Net<Listener = TcpListener, Stream = TcpStream> + Threads + Wait + Sync,
->(rt: &R, alloc: Global, manager: M, blank: Blank) -> Option<bool>
-    requires start { (s : State) → S.start s → M.stands manager s }
-    requires base { M.failures manager ≡ S.base }
-    requires name { blank.name ≡ L.name }
-    requires parts { (blank.parts ≡ L.parts) × (blank.parts ≡ 8) }
-{
-    let (one, other) = two_sessions(alloc)?;
-    let (listener, address) = listening(rt)?;
-    let (desk, share) = desk_over::<M, S, L>(alloc, manager, blank)?;
+// Each has a worker of its own.
+#[test]
+fn two_sessions_meet(rt: HostRuntime) {
+    let alloc = rt.alloc();
+    let (one, other) = two_sessions(alloc).expect(&rt, "what two sessions send");
     let gate = Meeting {
         is_through: AtomicBool::new(false),
         has_met: AtomicBool::new(false),
     };
-    let (report, came) = join(
-        rt,
-        || -> Result<Report<L>, WorkFault>
-            requires { share.parts ≡ 8 }
-        { run_workers(rt, alloc, &listener, &desk, &gate, share, 2, 2) },
-        || {
-            join(
-                rt,
-                || client(rt, alloc, address, one.as_slice()),
-                || client(rt, alloc, address, other.as_slice()),
-            )
-        },
-    );
-    let has_met = gate.has_met.load(Ordering::SeqCst);
-    let (room, _book) = desk.into_room();
-    match report {
-        Ok(report) => Some(are_told(alloc, &room, report, came) && has_met),
-        Err(_) => None,
-    }
-}
-
-#[test]
-fn two_sessions_meet(rt: HostRuntime) {
-    let manager = opened(rt.alloc()).expect(&rt, "a manager");
-    let found = met::<Manager<MemDisk>, Brand, Brand, HostRuntime>(
+    let clients = |address| both(&rt, alloc, address, one.as_slice(), other.as_slice());
+    let (receipts, came) = worked(&rt, alloc, &gate, (2, 2, 16), clients).expect(
         &rt,
-        rt.alloc(),
-        manager,
-        Blank::new(PARTS),
+        "workers that record 16 events",
     );
-    assert!(rt; found == Some(true));
+    assert!(rt; are_answered(alloc, receipts.as_slice(), came));
+    assert!(rt; gate.has_met.load(Ordering::SeqCst));
 }
 
 // A client that opens and starts a branch.
-fn answered<
-    M: Manages + Send + Drop,
-    S: Start + Send + Sync,
-    L: Ledger + Send + Sync,
-    R: Clock + Net<Listener = TcpListener, Stream = TcpStream> + Threads + Wait + Sync,
->(rt: &R, alloc: Global, manager: M, blank: Blank) -> Option<bool>
-    requires start { (s : State) → S.start s → M.stands manager s }
-    requires base { M.failures manager ≡ S.base }
-    requires name { blank.name ≡ L.name }
-    requires parts { (blank.parts ≡ L.parts) × (blank.parts ≡ 8) }
-{
-    let (listener, address) = listening(rt)?;
-    let (desk, share) = desk_over::<M, S, L>(alloc, manager, blank)?;
-    let (report, replies) = join(
-        rt,
-        || -> Result<Report<L>, WorkFault>
-            requires { share.parts ≡ 8 }
-        { run_workers(rt, alloc, &listener, &desk, &OpenGate, share, 1, 1) },
-        || client(rt, alloc, address, &CALLS),
-    );
-    let _report = report.ok()?;
-    Some(clients::are_answered(replies?.as_slice(), 2))
-}
-
 #[test]
 fn a_first_connection_is_answered(rt: HostRuntime) {
-    let manager = opened(rt.alloc()).expect(&rt, "a manager");
-    let found = answered::<Manager<MemDisk>, Brand, Brand, HostRuntime>(
+    let clients = |address| client(&rt, rt.alloc(), address, &CALLS);
+    let (_receipts, replies) = worked(&rt, rt.alloc(), &OpenGate, (1, 1, 4), clients).expect(
         &rt,
-        rt.alloc(),
-        manager,
-        Blank::new(PARTS),
+        "a worker that records 4 events",
     );
-    assert!(rt; found == Some(true));
+    let replies = replies.expect(&rt, "the replies");
+    assert!(rt; clients::are_answered(replies.as_slice(), 2));
 }

@@ -37,32 +37,30 @@ const WAITS: [&str; 3] = [
     "2 recover TMSTARTRSCAN|TMENDRSCAN 10",
 ];
 
-// Whether each line is answered by 0, with the number after the one before.
-fn calls<M: GroupCommits, S: Start>(
+// Whether a line is answered by 0, with the number after the one before; or, where it is to wait, is given back.
+fn is_told<M: GroupCommits, S: Start>(
     alloc: Global,
     sequencer: &mut Sequencer<M, S>,
-    lines: &[&str],
+    line: &str,
+    waits: bool,
 ) -> Option<bool> {
-    let mut are_right = true;
-    for line in lines {
-        let (session, request) = call_of(alloc, line)?;
-        let next = sequencer.count().checked_add(1)?;
-        let reply = sequencer.call(session, request).ok()?;
-        are_right &= reply.code == XA_OK && reply.place == next;
-    }
-    Some(are_right)
+    let (session, request) = call_of(alloc, line)?;
+    let next = sequencer.count().checked_add(1)?;
+    Some(match sequencer.call(session, request) {
+        Ok(reply) => !waits && reply.code == XA_OK && reply.place == next,
+        Err(_) => waits,
+    })
 }
 
-// Whether each line is given back.
-fn all_wait<M: GroupCommits, S: Start>(
+fn are_told<M: GroupCommits, S: Start>(
     alloc: Global,
     sequencer: &mut Sequencer<M, S>,
     lines: &[&str],
+    wait: bool,
 ) -> Option<bool> {
     let mut are_right = true;
     for line in lines {
-        let (session, request) = call_of(alloc, line)?;
-        are_right &= sequencer.call(session, request).is_err();
+        are_right &= is_told(alloc, sequencer, line, wait)?;
     }
     Some(are_right)
 }
@@ -110,12 +108,12 @@ fn works_meanwhile<M: GroupCommits + Drop, S: Start>(alloc: Global, manager: M) 
 {
     let mut sequencer: Sequencer<M, S> = Sequencer::new(manager);
     let are_connected = connects(&mut sequencer)? == 1 && connects(&mut sequencer)? == 2;
-    let is_ready = calls(alloc, &mut sequencer, &BEFORE)?;
+    let is_ready = are_told(alloc, &mut sequencer, &BEFORE, false)?;
     let begins = begins(alloc, &mut sequencer)?;
-    let works = calls(alloc, &mut sequencer, &WORK)?;
-    let wait = all_wait(alloc, &mut sequencer, &WAITS)?;
+    let works = are_told(alloc, &mut sequencer, &WORK, false)?;
+    let wait = are_told(alloc, &mut sequencer, &WAITS, true)?;
     let finishes = finishes(&mut sequencer, 11)?;
-    let goes_on = calls(alloc, &mut sequencer, &["2 prepare TMNOFLAGS 1:bb:"])?;
+    let goes_on = is_told(alloc, &mut sequencer, "2 prepare TMNOFLAGS 1:bb:", false)?;
     Some(are_connected && is_ready && begins && works && wait && finishes && goes_on)
 }
 

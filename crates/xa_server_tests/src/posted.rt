@@ -87,27 +87,21 @@ fn share<M: GroupCommits, S: Start, L: Ledger, R: Wait>(
     Some(is_over && earlier == 11 && later == 12)
 }
 
-// So is a call that is posted alone.
-fn is_alone<M: GroupCommits, S: Start, L: Ledger, R: Wait>(
+// So is a call that is posted alone, with this number; one that logs nothing is left to its handle.
+fn answers_alone<M: GroupCommits, S: Start, L: Ledger, R: Wait>(
     alloc: Global,
     handle: &mut Handle<'_, M, S, L, R>,
+    line: &str,
+    number: Option<u64>,
 ) -> Option<bool> {
-    posts(alloc, handle, 0, "1 commit TMNOFLAGS 1:aa:")?;
+    posts(alloc, handle, 0, line)?;
     let held = handle.hold();
     let mut held = handle.answer_posted(held);
-    let number = takes(alloc, handle, &mut held, 0, "1 commit TMNOFLAGS 1:aa:")?;
-    Some(number == 13 && handle.next_answer(&mut held).is_none())
-}
-
-// One that logs nothing is left to its handle.
-fn is_left<M: GroupCommits, S: Start, L: Ledger, R: Wait>(
-    alloc: Global,
-    handle: &mut Handle<'_, M, S, L, R>,
-) -> Option<bool> {
-    posts(alloc, handle, 0, "1 forget TMNOFLAGS 1:aa:")?;
-    let held = handle.hold();
-    let mut held = handle.answer_posted(held);
-    Some(handle.next_answer(&mut held).is_none())
+    let is_right = match number {
+        Some(number) => takes(alloc, handle, &mut held, 0, line)? == number,
+        None => true,
+    };
+    Some(is_right && handle.next_answer(&mut held).is_none())
 }
 
 fn answers<M: GroupCommits, S: Start, L: Ledger, R: Wait>(
@@ -137,8 +131,8 @@ fn answers<M: GroupCommits, S: Start, L: Ledger, R: Wait>(
         ],
     )?;
     let is_shared = share(alloc, first, second)?;
-    let is_alone = is_alone(alloc, first)?;
-    let is_left = is_left(alloc, first)?;
+    let is_alone = answers_alone(alloc, first, "1 commit TMNOFLAGS 1:aa:", Some(13))?;
+    let is_left = answers_alone(alloc, first, "1 forget TMNOFLAGS 1:aa:", None)?;
     Some(are_connected && is_ready && is_other_ready && is_shared && is_alone && is_left)
 }
 

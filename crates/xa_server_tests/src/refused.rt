@@ -1,6 +1,6 @@
 ghost use Rattle.xa_frame.specs.Limits.{IsRequest};
 
-use crate::desks::{Visit, at_new_desk, is_audited, opened_over};
+use crate::desks::{Visit, at_new_desk, audited, opened_over};
 use crate::refused_rows::{FAILING, NO_ROOM, ROOM, ROWS};
 use crate::rooms::Audited;
 use crate::rows::none_wrong;
@@ -268,7 +268,7 @@ impl<R: AllocGlobal + Clock + Wait> Visit<R> for Row {
         let end = behind(alloc, &mut post, self.play, &mut events);
         let report = post.into_report();
         let (room, _book) = desk.into_room();
-        let is_whole = is_audited(alloc, &room, report, events);
+        let is_whole = audited(alloc, &room, report, events).is_some();
         Some(if is_whole { end } else { Err(Halt::Wrong) })
     }
 }

@@ -15,7 +15,7 @@ use xa_manager::{Manager, Settings};
 use xa_play::play_run;
 use xa_rows::{LOG_BYTES, SESSIONS};
 use xa_script::{Style, first_part, reply_line};
-use xa_server::{Audited, ServerFault, audited_lines, serve_manager};
+use xa_server::{Audited, audited_lines, serve_manager};
 use xa_talk::{Connection, Dial, talk_run};
 
 /// Reads what a server sends, and keeps it.
@@ -204,28 +204,6 @@ fn are_replies(alloc: Global, lines: &[&str], printed: &[u8], came: &[u8]) -> Op
     Some(printed.is_empty() && came.is_empty())
 }
 
-// A server of two workers, and what a script prints of it.
-fn served<
-    R: AllocGlobal
-        + Clock
-        + Net<Listener = TcpListener, Stream = TcpStream>
-        + Threads
-        + Wait
-        + Sync,
->(
-    rt: &R,
-    manager: Manager<MemDisk>,
-    script: &[u8],
-) -> Option<(Result<Audited, ServerFault>, Talked)> {
-    let alloc = rt.alloc();
-    let (listener, address) = listening(rt)?;
-    Some(join(
-        rt,
-        || serve_manager(rt, &listener, manager, 2, 2),
-        || talked(rt, alloc, address, script),
-    ))
-}
-
 fn is_told(alloc: Global, told: Audited, text: &str) -> bool {
     match audited_lines(alloc, told) {
         Ok(lines) => lines.as_str() == text,
@@ -233,10 +211,29 @@ fn is_told(alloc: Global, told: Audited, text: &str) -> bool {
     }
 }
 
-fn is_told_by(alloc: Global, told: Result<Audited, ServerFault>, text: &str) -> bool {
-    match told {
-        Ok(told) => is_told(alloc, told, text),
-        Err(_) => false,
+/// What clients find of a manager that two workers serve over so many connections, if they tell this in the end.
+pub fn served<
+    T: Drop,
+    F: FnOnce(SocketAddr) -> T + Drop,
+    R: AllocGlobal
+        + Clock
+        + Net<Listener = TcpListener, Stream = TcpStream>
+        + Threads
+        + Wait
+        + Sync,
+>(rt: &R, manager: Manager<MemDisk>, connections: u64, lines: &str, clients: F) -> Option<T>
+    requires { F.IsAlwaysCallable clients }
+{
+    let (listener, address) = listening(rt)?;
+    let (told, found) = join(
+        rt,
+        || serve_manager(rt, &listener, manager, 2, connections),
+        || clients(address),
+    );
+    if is_told(rt.alloc(), told.ok()?, lines) {
+        Some(found)
+    } else {
+        None
     }
 }
 
@@ -264,24 +261,17 @@ pub fn is_as_played(alloc: Global, lines: &[&str], script: &[u8], talked: Talked
     }
 }
 
-fn answers_as_play<
-    R: AllocGlobal
-        + Clock
-        + Net<Listener = TcpListener, Stream = TcpStream>
-        + Threads
-        + Wait
-        + Sync,
->(rt: &R, lines: &[&str], script: &[u8]) -> Option<bool> {
-    let alloc = rt.alloc();
-    let (told, talked) = served(rt, opened(alloc)?, script)?;
-    let is_played = is_as_played(alloc, lines, script, talked);
-    Some(is_played && is_told_by(alloc, told, "calls 55\naudit ok\n"))
-}
-
 #[test]
 fn a_server_answers_as_play(rt: HostRuntime) {
-    let script = script_of(rt.alloc(), EACH_CALL).expect(&rt, "a script");
-    assert!(rt; answers_as_play(&rt, EACH_CALL, script.as_slice()) == Some(true));
+    let alloc = rt.alloc();
+    let script = script_of(alloc, EACH_CALL).expect(&rt, "a script");
+    let manager = opened(alloc).expect(&rt, "a manager");
+    let clients = |address| talked(&rt, alloc, address, script.as_slice());
+    let talked = served(&rt, manager, 2, "calls 55\naudit ok\n", clients).expect(
+        &rt,
+        "a server that tells of 55 calls",
+    );
+    assert!(rt; is_as_played(alloc, EACH_CALL, script.as_slice(), talked));
 }
 
 // Five connections at once, each with its requests sent.
@@ -330,29 +320,13 @@ fn crowd<R: Net<Stream = TcpStream>>(rt: &R, alloc: Global, address: SocketAddr)
     Some(are_sessions)
 }
 
-// Two workers, and five clients that are all connected before the first is read from.
-fn serves_a_crowd<
-    R: AllocGlobal
-        + Clock
-        + Net<Listener = TcpListener, Stream = TcpStream>
-        + Threads
-        + Wait
-        + Sync,
->(rt: &R) -> Option<bool> {
-    let alloc = rt.alloc();
-    let (listener, address) = listening(rt)?;
-    let manager = opened(alloc)?;
-    let (told, are_sessions) = join(
-        rt,
-        || serve_manager(rt, &listener, manager, 2, 5),
-        || crowd(rt, alloc, address),
-    );
-    Some(are_sessions == Some(true) && is_told_by(alloc, told, "calls 40\naudit ok\n"))
-}
-
+// Five clients that are all connected before the first is read from.
 #[test]
 fn more_clients_than_workers(rt: HostRuntime) {
-    assert!(rt; serves_a_crowd(&rt) == Some(true));
+    let manager = opened(rt.alloc()).expect(&rt, "a manager");
+    let clients = |address| crowd(&rt, rt.alloc(), address);
+    let are_sessions = served(&rt, manager, 5, "calls 40\naudit ok\n", clients);
+    assert!(rt; are_sessions == Some(Some(true)));
 }
 
 // A manager that has room for one session more.
@@ -389,27 +363,11 @@ fn last_ones<R: Net<Stream = TcpStream>>(
     Some(is_closed(alloc, &mut other) && is_open)
 }
 
-fn serves_the_last<
-    R: AllocGlobal
-        + Clock
-        + Net<Listener = TcpListener, Stream = TcpStream>
-        + Threads
-        + Wait
-        + Sync,
->(rt: &R) -> Option<bool> {
-    let alloc = rt.alloc();
-    let (listener, address) = listening(rt)?;
-    let manager = filled(alloc)?;
-    let (told, are_right) = join(
-        rt,
-        || serve_manager(rt, &listener, manager, 2, 2),
-        || last_ones(rt, alloc, address),
-    );
-    // a connect, an Open, the connect that finds no session, and a hang-up
-    Some(are_right == Some(true) && is_told_by(alloc, told, "calls 4\naudit ok\n"))
-}
-
 #[test]
 fn the_next_after_1_024_is_closed(rt: HostRuntime) {
-    assert!(rt; serves_the_last(&rt) == Some(true));
+    let manager = filled(rt.alloc()).expect(&rt, "a manager");
+    let clients = |address| last_ones(&rt, rt.alloc(), address);
+    // a connect, an Open, the connect that finds no session, and a hang-up
+    let are_right = served(&rt, manager, 2, "calls 4\naudit ok\n", clients);
+    assert!(rt; are_right == Some(Some(true)));
 }

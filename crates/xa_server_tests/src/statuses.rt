@@ -1,13 +1,6 @@
-use crate::clients::listening;
 use crate::desks::opened;
-use crate::looped::{is_told, loop_listener, settings_of};
-use crate::servers::{script_of, talked};
-use std::net::{Net, TcpListener, TcpStream};
-use std::rt::Clock;
-use std::sync::Wait;
-use std::thread::{Threads, join};
-use xa_sequencer::GroupManager;
-use xa_server::{loop_manager, serve_manager};
+use crate::looped::looped;
+use crate::servers::{Talked, script_of, served, talked};
 
 // How a server is doing, by loops and by workers.
 
@@ -45,54 +38,19 @@ fn begins_so(printed: &[u8]) -> bool {
     true
 }
 
-fn loops_tell<
-    R: AllocGlobal
-        + Clock
-        + Eprint
-        + Net<Listener = TcpListener, Stream = TcpStream>
-        + Threads
-        + Wait
-        + Sync,
->(rt: &R) -> Option<bool> {
-    let alloc = rt.alloc();
-    let script = script_of(alloc, &SCRIPT).ok()?;
-    let (listener, address) = loop_listener(rt)?;
-    let manager = opened(alloc)?;
-    let (told, talked) = join(
-        rt,
-        || loop_manager(rt, listener, GroupManager::new(manager), 2, settings_of(2)),
-        || talked(rt, alloc, address, script.as_slice()),
-    );
-    let (printed, _) = talked?;
-    Some(begins_so(&printed) && is_told(told.ok()?, 7))
-}
-
-fn workers_tell<
-    R: AllocGlobal
-        + Clock
-        + Net<Listener = TcpListener, Stream = TcpStream>
-        + Threads
-        + Wait
-        + Sync,
->(rt: &R) -> Option<bool> {
-    let alloc = rt.alloc();
-    let script = script_of(alloc, &SCRIPT).ok()?;
-    let (listener, address) = listening(rt)?;
-    let manager = opened(alloc)?;
-    let (told, talked) = join(
-        rt,
-        || serve_manager(rt, &listener, manager, 2, 2),
-        || talked(rt, alloc, address, script.as_slice()),
-    );
-    let (printed, _) = talked?;
-    let told = told.ok()?;
-    Some(begins_so(&printed) && told.calls == 7 && told.is_whole)
+fn are_told(talked: Option<Talked>) -> bool {
+    match talked {
+        Some(Some((printed, _))) => begins_so(&printed),
+        _ => false,
+    }
 }
 
 #[test]
 fn told(rt: HostRuntime) {
-    assert_eq!(rt;
-        (loops_tell(&rt), workers_tell(&rt)),
-        (Some(true), Some(true))
-    );
+    let script = script_of(rt.alloc(), &SCRIPT).expect(&rt, "a script");
+    let manager = opened(rt.alloc()).expect(&rt, "a manager");
+    let clients = |address| talked(&rt, rt.alloc(), address, script.as_slice());
+    let by_loops = looped(&rt, 2, 2, 7, clients);
+    let by_workers = served(&rt, manager, 2, "calls 7\naudit ok\n", clients);
+    assert!(rt; are_told(by_loops) && are_told(by_workers));
 }
