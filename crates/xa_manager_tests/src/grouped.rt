@@ -60,40 +60,21 @@ pub const PREPARED_BC: [Line; 2] = [
     ("1 prepare TMNOFLAGS 1:cc:", OK),
 ];
 
-pub const LIST_A: [Line; 1] = [(
-    "1 recover TMSTARTRSCAN|TMENDRSCAN 10",
-    "1 Nothing xids 1:aa:",
-)];
+const SCAN: &str = "1 recover TMSTARTRSCAN|TMENDRSCAN 10";
 
-pub const LIST_B: [Line; 1] = [(
-    "1 recover TMSTARTRSCAN|TMENDRSCAN 10",
-    "1 Nothing xids 1:bb:",
-)];
+pub const LIST_A: [Line; 1] = [(SCAN, "1 Nothing xids 1:aa:")];
 
-pub const LIST_C: [Line; 1] = [(
-    "1 recover TMSTARTRSCAN|TMENDRSCAN 10",
-    "1 Nothing xids 1:cc:",
-)];
+pub const LIST_B: [Line; 1] = [(SCAN, "1 Nothing xids 1:bb:")];
 
-pub const LIST_AB: [Line; 1] = [(
-    "1 recover TMSTARTRSCAN|TMENDRSCAN 10",
-    "2 Nothing xids 1:aa: 1:bb:",
-)];
+pub const LIST_C: [Line; 1] = [(SCAN, "1 Nothing xids 1:cc:")];
 
-pub const LIST_AC: [Line; 1] = [(
-    "1 recover TMSTARTRSCAN|TMENDRSCAN 10",
-    "2 Nothing xids 1:aa: 1:cc:",
-)];
+pub const LIST_AB: [Line; 1] = [(SCAN, "2 Nothing xids 1:aa: 1:bb:")];
 
-pub const LIST_BC: [Line; 1] = [(
-    "1 recover TMSTARTRSCAN|TMENDRSCAN 10",
-    "2 Nothing xids 1:bb: 1:cc:",
-)];
+pub const LIST_AC: [Line; 1] = [(SCAN, "2 Nothing xids 1:aa: 1:cc:")];
 
-pub const LIST_ABC: [Line; 1] = [(
-    "1 recover TMSTARTRSCAN|TMENDRSCAN 10",
-    "3 Nothing xids 1:aa: 1:bb: 1:cc:",
-)];
+pub const LIST_BC: [Line; 1] = [(SCAN, "2 Nothing xids 1:bb: 1:cc:")];
+
+pub const LIST_ABC: [Line; 1] = [(SCAN, "3 Nothing xids 1:aa: 1:bb: 1:cc:")];
 
 // A later branch reads the key: what one of the three wrote, or nothing; or that isn't decided yet.
 const BEGUN: [Line; 1] = [("1 start TMNOFLAGS 1:99:", NUMBER)];
@@ -248,30 +229,15 @@ const FOUR_PREPARED: [Line; 5] = [
     ("1 decide commit 1:ff:", OK),
 ];
 
-const LIST_CDEF: [Line; 1] = [(
-    "1 recover TMSTARTRSCAN|TMENDRSCAN 10",
-    "4 Nothing xids 1:cc: 1:dd: 1:ee: 1:ff:",
-)];
+const LIST_CDEF: [Line; 1] = [(SCAN, "4 Nothing xids 1:cc: 1:dd: 1:ee: 1:ff:")];
 
-const LIST_ACDEF: [Line; 1] = [(
-    "1 recover TMSTARTRSCAN|TMENDRSCAN 10",
-    "5 Nothing xids 1:aa: 1:cc: 1:dd: 1:ee: 1:ff:",
-)];
+const LIST_ACDEF: [Line; 1] = [(SCAN, "5 Nothing xids 1:aa: 1:cc: 1:dd: 1:ee: 1:ff:")];
 
-const LIST_ACDE: [Line; 1] = [(
-    "1 recover TMSTARTRSCAN|TMENDRSCAN 10",
-    "4 Nothing xids 1:aa: 1:cc: 1:dd: 1:ee:",
-)];
+const LIST_ACDE: [Line; 1] = [(SCAN, "4 Nothing xids 1:aa: 1:cc: 1:dd: 1:ee:")];
 
-const LIST_ADE: [Line; 1] = [(
-    "1 recover TMSTARTRSCAN|TMENDRSCAN 10",
-    "3 Nothing xids 1:aa: 1:dd: 1:ee:",
-)];
+const LIST_ADE: [Line; 1] = [(SCAN, "3 Nothing xids 1:aa: 1:dd: 1:ee:")];
 
-const LIST_AE: [Line; 1] = [(
-    "1 recover TMSTARTRSCAN|TMENDRSCAN 10",
-    "2 Nothing xids 1:aa: 1:ee:",
-)];
+const LIST_AE: [Line; 1] = [(SCAN, "2 Nothing xids 1:aa: 1:ee:")];
 
 const A_ABSENT: [Line; 1] = [("1 get aa", "0 Nothing absent")];
 

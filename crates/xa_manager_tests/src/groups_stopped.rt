@@ -23,47 +23,30 @@ fn is_down(alloc: Global, group: &Grouped, player: Player) -> Option<Player> {
 
 /// What is planned of device calls, what becomes of the records, what comes then, and whether all records are found, or
 /// none.
-type Stop = (Play, Appending, Play, bool);
+type Stop = (&'static [&'static str], Appending, Play, bool);
 
 // The first call writes all records, and the second one syncs them: there is no third. A repair writes zeros over them
 // and syncs these.
 const STOPS: [Stop; 10] = [
-    (&[&[("stop 1", "")]], Lost, CRASHED, false),
-    (&[&[("stop 1", "")]], Lost, CRASHED_WITH_ALL, false),
-    (&[&[("stop 2", "")]], Lost, CRASHED, false),
-    (&[&[("stop 2", "")]], Lost, CRASHED_WITH_ALL, true),
-    (&[&[("stop 3", "")]], Kept, CRASHED, true),
-    (&[&[("stop other 1", "")]], Kept, CRASHED, true),
-    (
-        &[&[("fail 1 lost", ""), ("fail 2 lost", "")]],
-        Lost,
-        RESTARTED,
-        false,
-    ),
-    (
-        &[&[("fail 1 kept", ""), ("fail 2 lost", "")]],
-        Lost,
-        RESTARTED,
-        true,
-    ),
-    (
-        &[&[("fail 2 lost", ""), ("fail 3 lost", "")]],
-        Lost,
-        RESTARTED,
-        true,
-    ),
-    (
-        &[&[("fail 2 lost", ""), ("fail 3 kept", "")]],
-        Lost,
-        RESTARTED,
-        false,
-    ),
+    (&["stop 1"], Lost, CRASHED, false),
+    (&["stop 1"], Lost, CRASHED_WITH_ALL, false),
+    (&["stop 2"], Lost, CRASHED, false),
+    (&["stop 2"], Lost, CRASHED_WITH_ALL, true),
+    (&["stop 3"], Kept, CRASHED, true),
+    (&["stop other 1"], Kept, CRASHED, true),
+    (&["fail 1 lost", "fail 2 lost"], Lost, RESTARTED, false),
+    (&["fail 1 kept", "fail 2 lost"], Lost, RESTARTED, true),
+    (&["fail 2 lost", "fail 3 lost"], Lost, RESTARTED, true),
+    (&["fail 2 lost", "fail 3 kept"], Lost, RESTARTED, false),
 ];
 
 fn stops(alloc: Global, group: &Grouped, stop: &Stop) -> Option<Player> {
-    let (plan, became, then, is_found) = *stop;
-    let player = group.begun(alloc)?.play(plan)?;
-    let mut player = group.ask(alloc, player, became)?;
+    let (plans, became, then, is_found) = *stop;
+    let mut player = group.begun(alloc)?;
+    for plan in plans {
+        player = player.line(plan, "")?;
+    }
+    player = group.ask(alloc, player, became)?;
     if became == Lost {
         player = is_down(alloc, group, player)?;
     }

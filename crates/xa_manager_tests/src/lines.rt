@@ -257,12 +257,7 @@ fn asked_lines(rt: HostRuntime) {
 }
 
 fn wrong_script(alloc: Global, scripts: &[&str], want: &str) -> Option<usize> {
-    for (index, script) in scripts.iter().enumerate() {
-        if !prints(alloc, script, want) {
-            return Some(index);
-        }
-    }
-    None
+    first_wrong(scripts, |script| prints(alloc, script, want))
 }
 
 #[test]

@@ -4,7 +4,7 @@ use crate::script::{NUMBER, Script, is_played};
 use std::alloc::{AllocError, Global};
 use xa_rows::{
     COMMITTED, KEY_BYTES, LISTED, LOG_BYTES, Line, NONE_LISTED, OK, P1, PREPARED, Play, REOPEN,
-    RESTART, VALUE_BYTES,
+    RESTART, VALUE_BYTES, first_wrong,
 };
 
 const BEGUN: [Line; 1] = [("1 start TMNOFLAGS 1:aa:bb", NUMBER)];
@@ -58,12 +58,10 @@ fn one_value(alloc: Global, count: u16) -> Result<Script, AllocError> {
 }
 
 fn wrong_value(alloc: Global, counts: &[u16]) -> Option<usize> {
-    for (index, count) in counts.iter().enumerate() {
-        if !is_played(alloc, LOG_BYTES, one_value(alloc, *count), "") {
-            return Some(index);
-        }
-    }
-    None
+    first_wrong(
+        counts,
+        |count| is_played(alloc, LOG_BYTES, one_value(alloc, *count), ""),
+    )
 }
 
 /// A value is read by its branch, and again once it is committed and the manager was opened anew.

@@ -1,17 +1,15 @@
-ghost use Rattle.std.specs.Prelude.{IfOk};
 ghost use Rattle.xa_frame.specs.Limits.{IsRequest};
 ghost use Rattle.xa_model.specs.Events.{AreEvents, IsAsked};
 
 use crate::rows::none_wrong;
-use std::alloc::{AllocError, Global};
-use xa_codes::{Bytes, Code, Detail, TMNOFLAGS, TMSUCCESS, XA_OK, XAER_PROTO};
+use std::alloc::Global;
+use xa_codes::{Bytes, Code, Detail, TMNOFLAGS, XA_OK, XAER_PROTO};
 use xa_disk::MemDisk;
-use xa_fields::Key;
 use xa_frame::{Body, Reply, Request, encode_request};
 use xa_manager::{Manager, Settings};
 use xa_model::Event;
 use xa_rows::LOG_BYTES;
-use xa_xid::Xid;
+use xa_script::{Line, read_line};
 
 // Each test passes whichever one allocation fails, since it asks again where memory was wanted, or where a disk in
 // memory found none and failed: `rt try --test --fail-alloc N` makes the N-th fail.
@@ -39,49 +37,6 @@ pub fn connected(manager: &mut Manager<MemDisk>) -> Option<u64> {
     }
 }
 
-// The calls of a session that reads back what it wrote.
-fn request(alloc: Global, first: &Xid, second: &Xid, index: usize) -> Result<Request, AllocError>
-    ensures { IfOk result IsRequest }
-{
-    Ok(match index {
-        0 => Request::Open {
-            flags: TMNOFLAGS,
-            info: Bytes::from_slice(alloc, b"xarm")?,
-        },
-        1 => Request::Start {
-            flags: TMNOFLAGS,
-            xid: first.copied(),
-        },
-        2 => Request::Put {
-            key: Key::new(b"k").ok_or(AllocError)?,
-            value: Bytes::from_slice(alloc, b"v")?,
-        },
-        3 => Request::End {
-            flags: TMSUCCESS,
-            xid: first.copied(),
-        },
-        4 => Request::Prepare {
-            flags: TMNOFLAGS,
-            xid: first.copied(),
-        },
-        5 => Request::Commit {
-            flags: TMNOFLAGS,
-            xid: first.copied(),
-        },
-        6 => Request::Start {
-            flags: TMNOFLAGS,
-            xid: second.copied(),
-        },
-        7 => Request::Branches {
-            count: 2,
-            after: None,
-        },
-        _ => Request::Get {
-            key: Key::new(b"k").ok_or(AllocError)?,
-        },
-    })
-}
-
 /// What a request of a session is answered. That its numbers are within their types' limits is known once it is
 /// encoded.
 pub fn answer(
@@ -98,28 +53,18 @@ pub fn answer(
     }
 }
 
-// Nothing is said of what the manager is then: only its answer is compared.
-fn called(
-    manager: &mut Manager<MemDisk>,
-    alloc: Global,
-    first: &Xid,
-    second: &Xid,
-    index: usize,
-) -> Option<Reply> {
-    let request = request(alloc, first, second, index).ok()?;
-    answer(manager, alloc, 1, request)
+/// What the call of a line is answered. Nothing is said of what the manager is then: only its answer is compared.
+pub fn called(manager: &mut Manager<MemDisk>, alloc: Global, line: &str) -> Option<Reply> {
+    match read_line(alloc, line.as_bytes()).ok()? {
+        Line::Call(session, request) => answer(manager, alloc, session, request),
+        _ => None,
+    }
 }
 
-fn asked(
-    manager: &mut Manager<MemDisk>,
-    alloc: Global,
-    first: &Xid,
-    second: &Xid,
-    index: usize,
-) -> Option<Reply> {
-    match called(manager, alloc, first, second, index) {
+fn asked(manager: &mut Manager<MemDisk>, alloc: Global, line: &str) -> Option<Reply> {
+    match called(manager, alloc, line) {
         Some(reply) if reply.detail == Detail::Nothing => Some(reply),
-        _ => called(manager, alloc, first, second, index),
+        _ => called(manager, alloc, line),
     }
 }
 
@@ -140,23 +85,30 @@ fn is_reply(reply: Option<Reply>, body: u64) -> bool {
     }
 }
 
+// The calls of a session that reads back what it wrote, each with what it is answered.
+const READ_BACK: [(&str, u64); 9] = [
+    ("1 open TMNOFLAGS xarm", 0),
+    ("1 start TMNOFLAGS 1:aa:bb", 4294967297),
+    ("1 put 6b 76", 0),
+    ("1 end TMSUCCESS 1:aa:bb", 0),
+    ("1 prepare TMNOFLAGS 1:aa:bb", 0),
+    ("1 commit TMNOFLAGS 1:aa:bb", 0),
+    ("1 start TMNOFLAGS 1:ab:", 4294967298),
+    ("1 branches 2", 1),
+    ("1 get 6b", 0x76),
+];
+
 fn wrong_reply(
     manager: &mut Manager<MemDisk>,
     alloc: Global,
-    first: &Xid,
-    second: &Xid,
-    bodies: &[u64],
+    rows: &[(&str, u64)],
 ) -> Option<usize> {
-    for (index, body) in bodies.iter().enumerate() {
-        if !is_reply(asked(manager, alloc, first, second, index), *body) {
+    for (index, (line, body)) in rows.iter().enumerate() {
+        if !is_reply(asked(manager, alloc, line), *body) {
             return Some(index);
         }
     }
     None
-}
-
-fn xid(gtrid: &[u8], bqual: &[u8]) -> Option<Xid> {
-    Xid::new(1, gtrid, bqual).ok()
 }
 
 fn session(alloc: Global) -> Option<Manager<MemDisk>> {
@@ -170,14 +122,8 @@ fn session(alloc: Global) -> Option<Manager<MemDisk>> {
 
 #[test]
 fn a_write_is_read_back(rt: HostRuntime) {
-    let first = xid(&[0xaa], &[0xbb]).expect(&rt, "an XID");
-    let second = xid(&[0xab], &[]).expect(&rt, "an XID");
     let mut manager = session(rt.alloc()).expect(&rt, "session 1");
-    let bodies = [0, 4294967297, 0, 0, 0, 0, 4294967298, 1, 0x76];
-    none_wrong(
-        &rt,
-        wrong_reply(&mut manager, rt.alloc(), &first, &second, &bodies),
-    );
+    none_wrong(&rt, wrong_reply(&mut manager, rt.alloc(), &READ_BACK));
 }
 
 fn driven(manager: &mut Manager<MemDisk>, alloc: Global) -> Option<Vec<Reply>> {

@@ -12,9 +12,8 @@ use xa_frame::{Body, Reply, Request};
 use xa_manager::Manager;
 
 // Scripts of four sessions that read and write three keys in each other's way, with restarts in between, and in some of
-// them a trim behind each call. What was
-// committed is executed again, branch by branch and by timestamp, on a map of std: each get is to find what it was
-// answered.
+// them a trim behind each call. What was committed is executed again, branch by branch and by timestamp, on a map of
+// std: each get is to find what it was answered.
 
 const SCRIPTS: u64 = 100;
 
@@ -319,35 +318,29 @@ fn is_right(alloc: Global, script: u64, trims: bool, counts: &mut Counts) -> boo
     }
 }
 
-fn first_wrong(alloc: Global, scripts: u64, trims: bool, counts: &mut Counts) -> Option<u64> {
+/// The first script that is no one copy; or else how many there were, if they hadn't enough of all.
+fn wrong_script(alloc: Global, scripts: u64, trims: bool) -> Option<usize> {
+    let mut counts = NONE;
     for script in 0..scripts {
-        if !is_right(alloc, script, trims, counts) {
-            return Some(script);
+        if !is_right(alloc, script, trims, &mut counts) {
+            return Some(script as usize);
         }
     }
-    None
+    if counts.are_many(scripts) {
+        None
+    } else {
+        Some(scripts as usize)
+    }
 }
 
 #[test]
 fn one_copy(rt: HostRuntime) {
-    let mut counts = NONE;
-    assert_eq!(rt;
-        first_wrong(rt.alloc(), SCRIPTS, false, &mut counts),
-        None,
-        "the first script that is none"
-    );
-    assert!(rt; counts.are_many(SCRIPTS));
+    none_wrong(&rt, wrong_script(rt.alloc(), SCRIPTS, false));
 }
 
 #[test]
 fn one_copy_between_trims(rt: HostRuntime) {
-    let mut counts = NONE;
-    assert_eq!(rt;
-        first_wrong(rt.alloc(), TRIMMED_SCRIPTS, true, &mut counts),
-        None,
-        "the first script that is none"
-    );
-    assert!(rt; counts.are_many(TRIMMED_SCRIPTS));
+    none_wrong(&rt, wrong_script(rt.alloc(), TRIMMED_SCRIPTS, true));
 }
 
 #[test]

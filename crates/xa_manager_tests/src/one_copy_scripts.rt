@@ -90,35 +90,28 @@ impl Chance {
 }
 
 fn work(percent: u64, key: u8, value: u64) -> Act {
-    if percent < 42 {
-        Act::Get(key)
-    } else if percent < 72 {
-        Act::Put(key, value)
-    } else if percent < 80 {
-        Act::Delete(key)
-    } else {
-        Act::End
+    match percent {
+        0..=41 => Act::Get(key),
+        42..=71 => Act::Put(key, value),
+        72..=79 => Act::Delete(key),
+        _ => Act::End,
     }
 }
 
 fn finish(percent: u64) -> Act {
-    if percent < 50 {
-        Act::CommitAtOnce
-    } else if percent < 90 {
-        Act::Prepare
-    } else {
-        Act::Rollback
+    match percent {
+        0..=49 => Act::CommitAtOnce,
+        50..=89 => Act::Prepare,
+        _ => Act::Rollback,
     }
 }
 
 /// A restart now and then finds a branch in doubt.
 fn complete(percent: u64) -> Act {
-    if percent < 75 {
-        Act::Commit
-    } else if percent < 85 {
-        Act::Rollback
-    } else {
-        Act::Restart
+    match percent {
+        0..=74 => Act::Commit,
+        75..=84 => Act::Rollback,
+        _ => Act::Restart,
     }
 }
 

@@ -195,30 +195,24 @@ fn zeros_played(
     Some((outcome, output.len()))
 }
 
-fn is_unplayed(alloc: Global, left: usize, error: Option<ErrorKind>, fault: PlayFault) -> bool {
-    zeros_played(alloc, left, error) == Some((Err(fault), 0))
+/// How many zeros come, with the error behind them, and how their play ends. Nothing is written.
+const UNPLAYED: [(usize, Option<ErrorKind>, PlayFault); 4] = [
+    (16_777_217, None, PlayFault::TooLong),
+    (usize::MAX, None, PlayFault::TooLong),
+    (1_000, Some(ErrorKind::BrokenPipe), PlayFault::Read),
+    (1_000, Some(ErrorKind::OutOfMemory), PlayFault::Memory),
+];
+
+fn wrong_unplayed(alloc: Global, rows: &[(usize, Option<ErrorKind>, PlayFault)]) -> Option<usize> {
+    first_wrong(
+        rows,
+        |(left, error, fault)| zeros_played(alloc, *left, *error) == Some((Err(*fault), 0)),
+    )
 }
 
 #[test]
 fn scripts_that_are_not_played(rt: HostRuntime) {
-    assert!(rt; is_unplayed(rt.alloc(), 16_777_217, None, PlayFault::TooLong));
-    assert!(rt; is_unplayed(rt.alloc(), usize::MAX, None, PlayFault::TooLong));
-    assert!(rt;
-        is_unplayed(
-            rt.alloc(),
-            1_000,
-            Some(ErrorKind::BrokenPipe),
-            PlayFault::Read
-        )
-    );
-    assert!(rt;
-        is_unplayed(
-            rt.alloc(),
-            1_000,
-            Some(ErrorKind::OutOfMemory),
-            PlayFault::Memory
-        )
-    );
+    none_wrong(&rt, wrong_unplayed(rt.alloc(), &UNPLAYED));
 }
 
 /// Settings out of their limits are found before the reader fails.

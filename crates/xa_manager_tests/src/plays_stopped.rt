@@ -20,64 +20,90 @@ const GONE: Play = &[&P1, &NONE_LISTED, &ABSENT_IN_SECOND];
 
 const COMPLETED: Play = &[&P1, &LISTED, &HEURISTIC, &FORGOTTEN, &READ_IN_SECOND];
 
+/// What was played before a call that logs, and the call; crashes that leave all bytes of its record but the last, and
+/// all of them; and what is found without the record, and with it.
+type Logging = (Play, &'static str, [&'static str; 2], Play, Play);
+
+// The record of a branch that is prepared, or committed in one phase, has 61 bytes; of one that is completed or decided,
+// 46; and of a forgotten one, 45.
+const LOGGING: [Logging; 6] = [
+    (
+        AT_WORK,
+        "1 prepare TMNOFLAGS 1:aa:bb",
+        ["crash 60", "crash 61"],
+        GONE,
+        IN_SECOND,
+    ),
+    (
+        AT_WORK,
+        "1 commit TMONEPHASE 1:aa:bb",
+        ["crash 60", "crash 61"],
+        GONE,
+        DONE,
+    ),
+    (
+        VOTED,
+        "1 commit TMNOFLAGS 1:aa:bb",
+        ["crash 45", "crash 46"],
+        IN_SECOND,
+        DONE,
+    ),
+    (
+        VOTED,
+        "1 rollback TMNOFLAGS 1:aa:bb",
+        ["crash 45", "crash 46"],
+        IN_SECOND,
+        GONE,
+    ),
+    (
+        VOTED,
+        "1 decide commit 1:aa:bb",
+        ["crash 45", "crash 46"],
+        IN_SECOND,
+        COMPLETED,
+    ),
+    (
+        BY_OPERATOR,
+        "1 forget TMNOFLAGS 1:aa:bb",
+        ["crash 44", "crash 45"],
+        COMPLETED,
+        DONE,
+    ),
+];
+
+const BY_OPERATOR: Play = &[&P1, &WRITTEN, &PREPARED, &DECIDED];
+
 // The first call writes the record, and the second one syncs it. Where the write has its effect, a crash may leave any
-// front of the record; a prepared one has 61 bytes, and so has one that is committed in one phase.
-const PREPARE: &[Stop] = &[
-    ("stop 1", LOST, "crash", GONE),
-    ("stop 1", LOST, "crash 16777216", GONE),
-    ("stop 2", LOST, "crash", GONE),
-    ("stop 2", LOST, "crash other 16777216", GONE),
-    ("stop 2", LOST, "crash 60", GONE),
-    ("stop 2", LOST, "crash 61", IN_SECOND),
-    ("stop 3", OK, "crash", IN_SECOND),
-    ("stop other 1", OK, "crash 0", IN_SECOND),
-];
+// front of the record.
+fn is_logged(alloc: Global, row: &Logging) -> bool {
+    let (before, line, [short, whole], without, with) = *row;
+    let stops = [
+        ("stop 1", LOST, "crash", without),
+        ("stop 1", LOST, "crash 16777216", without),
+        ("stop 2", LOST, "crash", without),
+        ("stop 2", LOST, "crash other 16777216", without),
+        ("stop 2", LOST, short, without),
+        ("stop 2", LOST, whole, with),
+        ("stop 3", OK, "crash", with),
+        ("stop other 1", OK, "crash", with),
+        ("stop other 1", OK, "crash 0", with),
+    ];
+    wrong_stop(alloc, before, line, &stops) == None
+}
 
-const COMMIT_AT_ONCE: &[Stop] = &[
-    ("stop 1", LOST, "crash", GONE),
-    ("stop 2", LOST, "crash", GONE),
-    ("stop 2", LOST, "crash 60", GONE),
-    ("stop 2", LOST, "crash 61", DONE),
-    ("stop 3", OK, "crash", DONE),
-    ("stop other 1", OK, "crash", DONE),
-];
+fn wrong_logging(alloc: Global, rows: &[Logging]) -> Option<usize> {
+    for (index, row) in rows.iter().enumerate() {
+        if !is_logged(alloc, row) {
+            return Some(index);
+        }
+    }
+    None
+}
 
-// The record of a completion or a decision has 46 bytes, and that of a forgotten one 45.
-const COMMIT: &[Stop] = &[
-    ("stop 1", LOST, "crash", IN_SECOND),
-    ("stop 2", LOST, "crash", IN_SECOND),
-    ("stop 2", LOST, "crash 45", IN_SECOND),
-    ("stop 2", LOST, "crash 46", DONE),
-    ("stop 3", OK, "crash", DONE),
-    ("stop other 1", OK, "crash", DONE),
-];
-
-const ROLLBACK: &[Stop] = &[
-    ("stop 1", LOST, "crash", IN_SECOND),
-    ("stop 2", LOST, "crash", IN_SECOND),
-    ("stop 2", LOST, "crash 45", IN_SECOND),
-    ("stop 2", LOST, "crash 46", GONE),
-    ("stop 3", OK, "crash", GONE),
-    ("stop other 1", OK, "crash", GONE),
-];
-
-const DECIDE: &[Stop] = &[
-    ("stop 1", LOST, "crash", IN_SECOND),
-    ("stop 2", LOST, "crash", IN_SECOND),
-    ("stop 2", LOST, "crash 45", IN_SECOND),
-    ("stop 2", LOST, "crash 46", COMPLETED),
-    ("stop 3", OK, "crash", COMPLETED),
-    ("stop other 1", OK, "crash", COMPLETED),
-];
-
-const FORGET: &[Stop] = &[
-    ("stop 1", LOST, "crash", COMPLETED),
-    ("stop 2", LOST, "crash", COMPLETED),
-    ("stop 2", LOST, "crash 44", COMPLETED),
-    ("stop 2", LOST, "crash 45", DONE),
-    ("stop 3", OK, "crash", DONE),
-    ("stop other 1", OK, "crash", DONE),
-];
+#[test]
+fn calls_that_log_and_stop(rt: HostRuntime) {
+    none_wrong(&rt, wrong_logging(rt.alloc(), &LOGGING));
+}
 
 // A restart syncs, measures and reads the current file. The other one, which is empty, is synced and measured, and then
 // the new log is written to it: its front with a length 0 and a sync, two records and a sync, the first length, which has
@@ -118,107 +144,44 @@ const SECOND_RESTART: &[Stop] = &[
     ("stop other 11", OK, "crash", IN_FOURTH),
 ];
 
-/// What was played before a call, and the call.
-pub type Call = (Play, &'static str);
-
-fn is_stopped(alloc: Global, call: &Call, row: &Stop) -> Result<bool, AllocError> {
-    let (before, line) = *call;
+fn is_stopped(alloc: Global, before: Play, line: &str, row: &Stop) -> Result<bool, AllocError> {
     let (stop, reply, crash, found) = *row;
     let lines = [(stop, ""), (line, reply), (crash, OK)];
     plays_parts(alloc, before, &lines, found, "")
 }
 
-pub fn wrong_stop(alloc: Global, call: &Call, rows: &[Stop]) -> Option<usize> {
+fn wrong_stop(alloc: Global, before: Play, line: &str, rows: &[Stop]) -> Option<usize> {
     for (index, row) in rows.iter().enumerate() {
-        if is_stopped(alloc, call, row) != Ok(true) {
+        if is_stopped(alloc, before, line, row) != Ok(true) {
             return Some(index);
         }
     }
     None
 }
 
-const BY_OPERATOR: Play = &[&P1, &WRITTEN, &PREPARED, &DECIDED];
+/// What was played before a call, the call, and where it stops.
+pub type Stopped = (Play, &'static str, &'static [Stop]);
+
+/// The index of the first call that isn't stopped so.
+pub fn wrong_stopped(alloc: Global, rows: &[Stopped]) -> Option<usize> {
+    for (index, (before, line, stops)) in rows.iter().enumerate() {
+        if wrong_stop(alloc, before, line, stops).is_some() {
+            return Some(index);
+        }
+    }
+    None
+}
 
 const RESTARTED: Play = &[&P1, &WRITTEN, &PREPARED, &RESTART];
 
-#[test]
-fn prepares_that_stop(rt: HostRuntime) {
-    none_wrong(
-        &rt,
-        wrong_stop(
-            rt.alloc(),
-            &(AT_WORK, "1 prepare TMNOFLAGS 1:aa:bb"),
-            PREPARE,
-        ),
-    );
-}
+const RESTARTS: [Stopped; 2] = [
+    (VOTED, "1 restart", FIRST_RESTART),
+    (RESTARTED, "1 restart", SECOND_RESTART),
+];
 
 #[test]
-fn commits_at_once_that_stop(rt: HostRuntime) {
-    none_wrong(
-        &rt,
-        wrong_stop(
-            rt.alloc(),
-            &(AT_WORK, "1 commit TMONEPHASE 1:aa:bb"),
-            COMMIT_AT_ONCE,
-        ),
-    );
-}
-
-#[test]
-fn commits_that_stop(rt: HostRuntime) {
-    none_wrong(
-        &rt,
-        wrong_stop(rt.alloc(), &(VOTED, "1 commit TMNOFLAGS 1:aa:bb"), COMMIT),
-    );
-}
-
-#[test]
-fn rollbacks_that_stop(rt: HostRuntime) {
-    none_wrong(
-        &rt,
-        wrong_stop(
-            rt.alloc(),
-            &(VOTED, "1 rollback TMNOFLAGS 1:aa:bb"),
-            ROLLBACK,
-        ),
-    );
-}
-
-#[test]
-fn decisions_that_stop(rt: HostRuntime) {
-    none_wrong(
-        &rt,
-        wrong_stop(rt.alloc(), &(VOTED, "1 decide commit 1:aa:bb"), DECIDE),
-    );
-}
-
-#[test]
-fn forgets_that_stop(rt: HostRuntime) {
-    none_wrong(
-        &rt,
-        wrong_stop(
-            rt.alloc(),
-            &(BY_OPERATOR, "1 forget TMNOFLAGS 1:aa:bb"),
-            FORGET,
-        ),
-    );
-}
-
-#[test]
-fn first_restarts_that_stop(rt: HostRuntime) {
-    none_wrong(
-        &rt,
-        wrong_stop(rt.alloc(), &(VOTED, "1 restart"), FIRST_RESTART),
-    );
-}
-
-#[test]
-fn later_restarts_that_stop(rt: HostRuntime) {
-    none_wrong(
-        &rt,
-        wrong_stop(rt.alloc(), &(RESTARTED, "1 restart"), SECOND_RESTART),
-    );
+fn restarts_that_stop(rt: HostRuntime) {
+    none_wrong(&rt, wrong_stopped(rt.alloc(), &RESTARTS));
 }
 
 /// What was played before an opening; what is planned of one of its calls, before its number and behind it; how many

@@ -1,6 +1,6 @@
 //! Trims that stop, or of which device calls fail, at each of their calls and in either file, and what an opening finds
 //! behind a crash.
-use crate::plays_stopped::{LOST, Stop, wrong_stop};
+use crate::plays_stopped::{LOST, Stop, Stopped, wrong_stopped};
 use crate::rows::none_wrong;
 use crate::scripted::wrong_after;
 use xa_rows::{
@@ -51,17 +51,14 @@ const SECOND_TRIM: &[Stop] = &[
     ("stop other 8", KEPT, "crash", IN_FOURTH),
 ];
 
-#[test]
-fn first_trims_that_stop(rt: HostRuntime) {
-    none_wrong(&rt, wrong_stop(rt.alloc(), &(VOTED, "1 trim"), FIRST_TRIM));
-}
+const TRIMS: [Stopped; 2] = [
+    (VOTED, "1 trim", FIRST_TRIM),
+    (VOTED_AND_TRIMMED, "1 trim", SECOND_TRIM),
+];
 
 #[test]
-fn later_trims_that_stop(rt: HostRuntime) {
-    none_wrong(
-        &rt,
-        wrong_stop(rt.alloc(), &(VOTED_AND_TRIMMED, "1 trim"), SECOND_TRIM),
-    );
+fn trims_that_stop(rt: HostRuntime) {
+    none_wrong(&rt, wrong_stopped(rt.alloc(), &TRIMS));
 }
 
 // One that is refused changes nothing, whatever of it stands in the other file: the next one takes the same boot.

@@ -1,18 +1,14 @@
-use crate::managers::{answer, connected, manager};
+use crate::managers::{called, connected, manager};
 use std::alloc::Global;
 use xa_codes::XA_OK;
 use xa_disk::MemDisk;
 use xa_manager::Manager;
-use xa_script::{Line, read_line};
 
 // How many versions a manager keeps. Each test passes whichever one allocation fails, since it tries once more.
 
 // Whether the call of a line is answered with XA_OK.
 fn is_done(manager: &mut Manager<MemDisk>, alloc: Global, line: &str) -> bool {
-    let Ok(Line::Call(session, request)) = read_line(alloc, line.as_bytes()) else {
-        return false;
-    };
-    match answer(manager, alloc, session, request) {
+    match called(manager, alloc, line) {
         Some(reply) => reply.code == XA_OK,
         None => false,
     }
@@ -64,14 +60,6 @@ fn reads(manager: &mut Manager<MemDisk>, alloc: Global, from: u32, to: u32) -> b
     true
 }
 
-fn has(manager: &Manager<MemDisk>, versions: u64) -> bool {
-    manager.versions() == versions
-}
-
-fn restarts(manager: &mut Manager<MemDisk>) -> bool {
-    manager.restart().code == XA_OK
-}
-
 // A manager with two sessions that have opened it.
 fn two_sessions(alloc: Global) -> Option<Manager<MemDisk>> {
     let mut manager = manager(alloc)?;
@@ -84,102 +72,121 @@ fn two_sessions(alloc: Global) -> Option<Manager<MemDisk>> {
     }
 }
 
-// The branch of the second session.
-const START: &str = "2 start TMNOFLAGS 2:6f:";
+/// What is done, or how many versions there are then.
+#[derive(Clone, Copy)]
+enum Step {
+    Asks(&'static str),
+    /// By branches of the first session with numbers from one to below another.
+    Writes(u32, u32),
+    Reads(u32, u32),
+    Restarts,
+    Has(u64),
+}
 
-const END: &str = "2 end TMSUCCESS 2:6f:";
+fn is_right(manager: &mut Manager<MemDisk>, alloc: Global, step: Step) -> bool {
+    match step {
+        Step::Asks(line) => is_done(manager, alloc, line),
+        Step::Writes(from, to) => writes(manager, alloc, from, to),
+        Step::Reads(from, to) => reads(manager, alloc, from, to),
+        Step::Restarts => manager.restart().code == XA_OK,
+        Step::Has(versions) => manager.versions() == versions,
+    }
+}
 
-const ROLLBACK: &str = "2 rollback TMNOFLAGS 2:6f:";
-
-fn keeps_the_last(alloc: Global) -> bool {
+fn are_right(alloc: Global, steps: &[Step]) -> bool {
     let Some(mut manager) = two_sessions(alloc) else {
         return false;
     };
-    writes(&mut manager, alloc, 0, 300) && has(&manager, 1)
+    for step in steps {
+        if !is_right(&mut manager, alloc, *step) {
+            return false;
+        }
+    }
+    true
 }
+
+fn keeps(alloc: Global, steps: &[Step]) -> bool {
+    are_right(alloc, steps) || are_right(alloc, steps)
+}
+
+const OF_ONE_KEY: [Step; 2] = [Step::Writes(0, 300), Step::Has(1)];
 
 #[test]
 fn of_300_writes_of_a_key_one_version_is_kept(rt: HostRuntime) {
-    assert!(rt; keeps_the_last(rt.alloc()) || keeps_the_last(rt.alloc()));
+    assert!(rt; keeps(rt.alloc(), &OF_ONE_KEY));
 }
 
-// The second session's branch can read what it could read when it began.
-fn keeps_what_is_read(alloc: Global) -> bool {
-    let Some(mut manager) = two_sessions(alloc) else {
-        return false;
-    };
-    writes(&mut manager, alloc, 0, 1)
-        && is_done(&mut manager, alloc, START)
-        && writes(&mut manager, alloc, 1, 6)
-        && has(&manager, 6)
-        && is_done(&mut manager, alloc, END)
-        && has(&manager, 6)
-        && is_done(&mut manager, alloc, ROLLBACK)
-        && has(&manager, 1)
-}
+// The branch of the second session.
+const START: Step = Step::Asks("2 start TMNOFLAGS 2:6f:");
+
+const END: Step = Step::Asks("2 end TMSUCCESS 2:6f:");
+
+const ROLLBACK: Step = Step::Asks("2 rollback TMNOFLAGS 2:6f:");
+
+// It can read what it could read when it began.
+const BELOW_A_BRANCH: [Step; 8] = [
+    Step::Writes(0, 1),
+    START,
+    Step::Writes(1, 6),
+    Step::Has(6),
+    END,
+    Step::Has(6),
+    ROLLBACK,
+    Step::Has(1),
+];
 
 #[test]
 fn an_old_branch_keeps_versions(rt: HostRuntime) {
-    assert!(rt; keeps_what_is_read(rt.alloc()) || keeps_what_is_read(rt.alloc()));
+    assert!(rt; keeps(rt.alloc(), &BELOW_A_BRANCH));
 }
 
-fn keeps_the_last_over_a_restart(alloc: Global) -> bool {
-    let Some(mut manager) = two_sessions(alloc) else {
-        return false;
-    };
-    writes(&mut manager, alloc, 0, 3)
-        && restarts(&mut manager)
-        && has(&manager, 1)
-        && writes(&mut manager, alloc, 3, 6)
-        && has(&manager, 1)
-}
+const OVER_A_RESTART: [Step; 5] = [
+    Step::Writes(0, 3),
+    Step::Restarts,
+    Step::Has(1),
+    Step::Writes(3, 6),
+    Step::Has(1),
+];
 
 #[test]
 fn after_a_restart_one_version_is_kept(rt: HostRuntime) {
-    assert!(rt;
-        keeps_the_last_over_a_restart(rt.alloc()) || keeps_the_last_over_a_restart(rt.alloc())
-    );
+    assert!(rt; keeps(rt.alloc(), &OVER_A_RESTART));
 }
 
 // While the second session's branch is open, a write of its own would be late where a later branch has read.
-fn forgets_what_was_read(alloc: Global) -> bool {
-    let Some(mut manager) = two_sessions(alloc) else {
-        return false;
-    };
-    reads(&mut manager, alloc, 0, 100)
-        && has(&manager, 0)
-        && is_done(&mut manager, alloc, START)
-        && reads(&mut manager, alloc, 100, 200)
-        && has(&manager, 100)
-        && is_done(&mut manager, alloc, END)
-        && is_done(&mut manager, alloc, ROLLBACK)
-        && has(&manager, 0)
-}
+const OF_READS: [Step; 8] = [
+    Step::Reads(0, 100),
+    Step::Has(0),
+    START,
+    Step::Reads(100, 200),
+    Step::Has(100),
+    END,
+    ROLLBACK,
+    Step::Has(0),
+];
 
 #[test]
 fn keys_that_were_only_read_are_forgotten(rt: HostRuntime) {
-    assert!(rt; forgets_what_was_read(rt.alloc()) || forgets_what_was_read(rt.alloc()));
+    assert!(rt; keeps(rt.alloc(), &OF_READS));
 }
 
 // It writes another key, and is prepared.
-const IN_DOUBT: [&str; 4] = [START, "2 put 70 76", END, "2 prepare TMNOFLAGS 2:6f:"];
-
-fn keeps_while_in_doubt(alloc: Global) -> bool {
-    let Some(mut manager) = two_sessions(alloc) else {
-        return false;
-    };
-    writes(&mut manager, alloc, 0, 1)
-        && are_done(&mut manager, alloc, &IN_DOUBT)
-        && has(&manager, 3)
-        && restarts(&mut manager)
-        && has(&manager, 3)
-        && writes(&mut manager, alloc, 1, 6)
-        && has(&manager, 8)
-        && is_done(&mut manager, alloc, "2 commit TMNOFLAGS 2:6f:")
-        && has(&manager, 2)
-}
+const IN_DOUBT: [Step; 12] = [
+    Step::Writes(0, 1),
+    START,
+    Step::Asks("2 put 70 76"),
+    END,
+    Step::Asks("2 prepare TMNOFLAGS 2:6f:"),
+    Step::Has(3),
+    Step::Restarts,
+    Step::Has(3),
+    Step::Writes(1, 6),
+    Step::Has(8),
+    Step::Asks("2 commit TMNOFLAGS 2:6f:"),
+    Step::Has(2),
+];
 
 #[test]
 fn a_branch_in_doubt_keeps_versions_over_a_restart(rt: HostRuntime) {
-    assert!(rt; keeps_while_in_doubt(rt.alloc()) || keeps_while_in_doubt(rt.alloc()));
+    assert!(rt; keeps(rt.alloc(), &IN_DOUBT));
 }
