@@ -1,7 +1,6 @@
 ghost use Rattle.std.specs.Prelude.{◌≡◌, true};
 ghost use Rattle.std.specs.List.{AllByRecursion};
-ghost use Rattle.xa_log.specs.Chain.{IsBody};
-ghost use Rattle.xa_log.specs.Reading.{bodies_of};
+ghost use Rattle.xa_log.specs.{Chain.IsBody, Reading.bodies_of};
 
 use crate::log_pairs::{DECIDED, OPENED, PREPARED, are, copies, log_of};
 use crate::rows::none_wrong;
