@@ -12,40 +12,6 @@
 //! - `rows`: `none_wrong`
 #![tactic(auto)]
 
-#[cfg(test)]
-mod checkpoint_files;
-#[cfg(test)]
-mod checkpoints;
-#[cfg(test)]
-mod current_files;
-#[cfg(test)]
-mod disks;
-#[cfg(test)]
-mod folders;
-#[cfg(test)]
-mod groups;
-#[cfg(test)]
-mod log_files;
-#[cfg(test)]
-mod log_images;
-#[cfg(test)]
-mod log_lines;
 mod log_pairs;
 #[cfg(test)]
-mod logs;
-#[cfg(test)]
-mod long_bodies;
-#[cfg(test)]
-mod made_ready;
-#[cfg(test)]
-mod old_files;
-#[cfg(test)]
-mod old_formats;
-#[cfg(test)]
-mod recoveries;
-#[cfg(test)]
-mod rows;
-#[cfg(test)]
-mod stale_tails;
-#[cfg(test)]
-mod trims;
+mod tests;

@@ -18,56 +18,6 @@
 //! - `rows`: `none_wrong`
 #![tactic(auto)]
 
-#[cfg(test)]
-mod calls;
-#[cfg(test)]
-mod device_calls;
-#[cfg(test)]
-mod examples;
-#[cfg(test)]
-mod faults;
-#[cfg(test)]
-mod group_play;
-#[cfg(test)]
-mod grouped;
-#[cfg(test)]
-mod groups;
-#[cfg(test)]
-mod groups_stopped;
-#[cfg(test)]
-mod lines;
-#[cfg(test)]
-mod long_values;
-#[cfg(test)]
-mod managers;
-#[cfg(test)]
-mod one_copy;
-#[cfg(test)]
-mod one_copy_branches;
 mod one_copy_scripts;
 #[cfg(test)]
-mod plays;
-#[cfg(test)]
-mod plays_calls;
-#[cfg(test)]
-mod plays_failing;
-#[cfg(test)]
-mod plays_known;
-#[cfg(test)]
-mod plays_limits;
-#[cfg(test)]
-mod plays_recovered;
-#[cfg(test)]
-mod plays_stopped;
-#[cfg(test)]
-mod plays_trimmed;
-#[cfg(test)]
-mod rows;
-#[cfg(test)]
-mod script;
-#[cfg(test)]
-mod scripted;
-#[cfg(test)]
-mod trims_stopped;
-#[cfg(test)]
-mod versions_kept;
+mod tests;

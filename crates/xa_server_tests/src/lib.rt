@@ -14,38 +14,6 @@
 //! - `rows`: `none_wrong`
 #![tactic(auto)]
 
-#[cfg(test)]
-mod broken;
-#[cfg(test)]
-mod broken_clients;
-#[cfg(test)]
-mod clients;
-#[cfg(test)]
-mod crews;
 mod desks;
 #[cfg(test)]
-mod looped;
-#[cfg(test)]
-mod meetings;
-#[cfg(test)]
-mod pending;
-#[cfg(test)]
-mod posted;
-#[cfg(test)]
-mod refused;
-#[cfg(test)]
-mod refused_limits;
-#[cfg(test)]
-mod refused_rows;
-#[cfg(test)]
-mod rooms;
-#[cfg(test)]
-mod rows;
-#[cfg(test)]
-mod sequencers;
-#[cfg(test)]
-mod servers;
-#[cfg(test)]
-mod statuses;
-#[cfg(test)]
-mod workers;
+mod tests;

@@ -15,50 +15,6 @@
 //! - `rows`: `none_wrong`
 #![tactic(auto)]
 
-#[cfg(test)]
-mod chains;
-#[cfg(test)]
-mod codes;
-#[cfg(test)]
-mod committed;
-#[cfg(test)]
-mod connections;
-#[cfg(test)]
-mod cuts;
 mod doors;
 #[cfg(test)]
-mod frame_changes;
-#[cfg(test)]
-mod frame_limits;
-#[cfg(test)]
-mod frames;
-#[cfg(test)]
-mod heuristics;
-#[cfg(test)]
-mod known_branches;
-#[cfg(test)]
-mod record_limits;
-#[cfg(test)]
-mod records;
-#[cfg(test)]
-mod refused_frames;
-#[cfg(test)]
-mod rows;
-#[cfg(test)]
-mod scans;
-#[cfg(test)]
-mod sessions;
-#[cfg(test)]
-mod statuses;
-#[cfg(test)]
-mod tables;
-#[cfg(test)]
-mod talks;
-#[cfg(test)]
-mod ticks;
-#[cfg(test)]
-mod time_limits;
-#[cfg(test)]
-mod versions;
-#[cfg(test)]
-mod xids;
+mod tests;
