@@ -6,7 +6,18 @@ use xa_rows::first_wrong;
 
 pub type Content = (&'static [u8], &'static [u8], &'static [u8]);
 
-/// A call with flags and 1:aa:bb, where it is cut and changed.
+// Calls with flags and 1:aa:bb.
+const END: &[u8] = &[1, 4, 4, 0, 0, 0, 0, 0, 0, 1, 1, 1, 0xaa, 0xbb];
+
+const PREPARE: &[u8] = &[1, 5, 0, 0, 0, 0, 0, 0, 0, 1, 1, 1, 0xaa, 0xbb];
+
+const COMMIT: &[u8] = &[1, 6, 0, 0, 0, 0, 0, 0, 0, 1, 1, 1, 0xaa, 0xbb];
+
+const ROLLBACK: &[u8] = &[1, 7, 0, 0, 0, 0, 0, 0, 0, 1, 1, 1, 0xaa, 0xbb];
+
+const FORGET: &[u8] = &[1, 9, 0, 0, 0, 0, 0, 0, 0, 1, 1, 1, 0xaa, 0xbb];
+
+/// Such a call, where it is cut and changed.
 const CUT_CALL: &[u8] = b"SSSSSSFFFFFFFFk";
 
 const CHANGED_CALL: &[u8] = b"vokkkkkkkkgqkk";
@@ -17,36 +28,16 @@ pub const CONTENTS: [Content; 20] = [
     (&[1, 1, 0, 0, 0, 0, 1, 0x78], b"SSSSSSSSk", b"vokkkkik"),
     (&[1, 2, 0, 0, 0, 0], b"SSSSSSk", b"vokkkk"),
     (&START, CUT_CALL, CHANGED_CALL),
-    (
-        &[1, 4, 4, 0, 0, 0, 0, 0, 0, 1, 1, 1, 0xaa, 0xbb],
-        CUT_CALL,
-        CHANGED_CALL,
-    ),
-    (
-        &[1, 5, 0, 0, 0, 0, 0, 0, 0, 1, 1, 1, 0xaa, 0xbb],
-        CUT_CALL,
-        CHANGED_CALL,
-    ),
-    (
-        &[1, 6, 0, 0, 0, 0, 0, 0, 0, 1, 1, 1, 0xaa, 0xbb],
-        CUT_CALL,
-        CHANGED_CALL,
-    ),
-    (
-        &[1, 7, 0, 0, 0, 0, 0, 0, 0, 1, 1, 1, 0xaa, 0xbb],
-        CUT_CALL,
-        CHANGED_CALL,
-    ),
+    (END, CUT_CALL, CHANGED_CALL),
+    (PREPARE, CUT_CALL, CHANGED_CALL),
+    (COMMIT, CUT_CALL, CHANGED_CALL),
+    (ROLLBACK, CUT_CALL, CHANGED_CALL),
     (
         &[1, 8, 0, 0, 0, 0, 0, 0, 0, 1],
         b"SSSSSSSSSSk",
         b"vokkkkkkkk",
     ),
-    (
-        &[1, 9, 0, 0, 0, 0, 0, 0, 0, 1, 1, 1, 0xaa, 0xbb],
-        CUT_CALL,
-        CHANGED_CALL,
-    ),
+    (FORGET, CUT_CALL, CHANGED_CALL),
     (&[1, 10, 1, 0x6b], b"SSSSk", b"voyk"),
     (&[1, 11, 1, 0x6b, 0, 1, 0x76], b"SSSSSSSk", b"voykhik"),
     (&[1, 12, 1, 0x6b], b"SSSSk", b"voyk"),
