@@ -51,10 +51,16 @@ pub fn looped<
     requires { F.IsAlwaysCallable clients }
 {
     let (listener, address) = loop_listener(rt)?;
-    let manager = GroupManager::new(opened(rt.alloc())?);
+    let manager = opened(rt.alloc())?;
     let (told, found) = join(
         rt,
-        || loop_manager(rt, listener, manager, loops, settings_of(connections)),
+        || loop_manager(
+            rt,
+            listener,
+            GroupManager::new(manager),
+            loops,
+            settings_of(connections),
+        ),
         || clients(address),
     );
     match told {
