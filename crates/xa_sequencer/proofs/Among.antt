@@ -29,7 +29,7 @@ pub each_of_group : {M : Type 0} (m : Ghosts M) (start : State → Type 0) (base
 each_of_group m start base old new calls replies history did at told is =
     let found = one_of (IsToldOf calls) replies at told is (all_found m start base old new calls replies did) in
     record {
-      among = λ least lt. record {
+      among = record {
         old = old;
         new = new;
         history = history;
@@ -40,7 +40,6 @@ each_of_group m start base old new calls replies history did at told is =
         call = told.0;
         told = is;
         asked = refl;
-        behind = lt;
       };
       found = found.found;
       limits = found.limits;
@@ -48,11 +47,11 @@ each_of_group m start base old new calls replies history did at told is =
 
 -- each reply to a group is such an answer
 pub all_answers : {M : Type 0} (m : Ghosts M) (start : State → Type 0) (base : ℕ × ℕ) (old new : Numbered M) (calls : List Asked) (replies : List (ℕ × Reply))
-    → HasHistory m start base old → CalledTogether m start base old calls replies new → AllByRecursion (IsAnswerTo m start base calls new.count) replies
+    → HasHistory m start base old → CalledTogether m start base old calls replies new → AllByRecursion (IsAnswerTo m start base calls) replies
 all_answers m start base old new calls replies history did =
     each replies (λ at told is. each_of_group m start base old new calls replies history did at told is)
   where
-    each : (rs : List (ℕ × Reply)) → ((at : ℕ) (told : ℕ × Reply) → slice_get rs at ≡ Some told → IsAnswerTo m start base calls new.count told)
-        → AllByRecursion (IsAnswerTo m start base calls new.count) rs
+    each : (rs : List (ℕ × Reply)) → ((at : ℕ) (told : ℕ × Reply) → slice_get rs at ≡ Some told → IsAnswerTo m start base calls told)
+        → AllByRecursion (IsAnswerTo m start base calls) rs
     each [] is = tt
     each (r ∷ rs) is = (is 0 r refl, each rs (λ at. is (suc at)))

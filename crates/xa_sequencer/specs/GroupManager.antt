@@ -1,5 +1,5 @@
 -- A manager that may have a group pending: what it is as a manager.
-use Rattle.std.specs.Prelude.{ℕ, ◌≡◌, ◌-◌, ◌==◌, if◌then◌else◌, Bool, List, Option, None, Some, Result, Ok, Err}
+use Rattle.std.specs.Prelude.{ℕ, ◌≡◌, ◌-◌, ◌==◌, if◌then◌else◌, List, Option, None, Some, Result, Ok, Err}
 use Rattle.xa_disk.specs.Counts.{top}
 use Rattle.xa_disk.specs.declared.disk.Disk as disk
 use Rattle.xa_disk.specs.declared.disk.DiskFault.{DiskFault}

@@ -1,5 +1,5 @@
 -- What calls that threads post are answered by whichever of them has the lock.
-use Rattle.std.specs.Prelude.{ℕ, ◌≡◌, ◌<◌, false, List, Some, slice_get}
+use Rattle.std.specs.Prelude.{ℕ, ◌≡◌, false, List, Some, slice_get}
 use Rattle.xa_assoc.specs.Refusals.{is_memory}
 use Rattle.xa_frame.specs.Limits.{IsReply}
 use Rattle.xa_frame.specs.declared.reply.Reply.{Reply}
@@ -12,25 +12,23 @@ use Rattle.xa_sequencer.specs.Shared.{DidAmong}
 use Rattle.xa_sequencer.specs.Stands.{HasHistory, Numbered}
 use Rattle.xa_sequencer.specs.Together.{CalledTogether}
 
--- what a contract sees of an answered call: whose it was, and how many events had been numbered after its group
+-- what a contract sees of an answered call: whose it was, and what it was answered
 pub record Answer : Type 0 where
   pub session : ℕ
   pub request : Request
   pub reply : Reply
-  pub count : ℕ
 
--- A sequencer that stood for a history answered this call with this reply, as one of a group, and had numbered so many
--- events after it.
+-- A sequencer that stood for a history answered this call with this reply, as one of a group.
 pub record WasAnswered {M : Type 0} (m : Ghosts M) (start : State → Type 0) (base : ℕ × ℕ) (session : ℕ)
-    (request : Request) (reply : Reply) (count : ℕ) : Type 0 where
-  pub among : (least : ℕ) → least < count → DidAmong m start base least session request reply
+    (request : Request) (reply : Reply) : Type 0 where
+  pub among : DidAmong m start base session request reply
   pub found : is_memory reply.detail ≡ false
   pub limits : IsReply reply
 
 -- so was the call of a reply to a group
-abbrev pub IsAnswerTo : {M : Type 0} → Ghosts M → (State → Type 0) → ℕ × ℕ → List Asked → ℕ → ℕ × Reply → Type 0
-IsAnswerTo m start base calls count told =
-    WasAnswered m start base (asked_at calls told.0).session (asked_at calls told.0).request told.1 count
+abbrev pub IsAnswerTo : {M : Type 0} → Ghosts M → (State → Type 0) → ℕ × ℕ → List Asked → ℕ × Reply → Type 0
+IsAnswerTo m start base calls told =
+    WasAnswered m start base (asked_at calls told.0).session (asked_at calls told.0).request told.1
 
 -- ---- law
 
@@ -39,4 +37,4 @@ abbrev pub EachOfGroup : {M : Type 0} → Ghosts M → (State → Type 0) → �
 EachOfGroup {M} m start base =
     (old new : Numbered M) (calls : List Asked) (replies : List (ℕ × Reply)) → HasHistory m start base old
     → CalledTogether m start base old calls replies new
-    → (at : ℕ) (told : ℕ × Reply) → slice_get replies at ≡ Some told → IsAnswerTo m start base calls new.count told
+    → (at : ℕ) (told : ℕ × Reply) → slice_get replies at ≡ Some told → IsAnswerTo m start base calls told

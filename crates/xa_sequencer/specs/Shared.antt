@@ -1,5 +1,5 @@
 -- What a call says of a sequencer that many threads share.
-use Rattle.std.specs.Prelude.{ℕ, ◌≡◌, ◌⊎◌, ◌+◌, ◌≤◌, ◌<◌, Bool, not, List, MatchBool, Result, Some, slice_get}
+use Rattle.std.specs.Prelude.{ℕ, ◌≡◌, ◌⊎◌, ◌+◌, ◌≤◌, Bool, not, List, MatchBool, Result, Some, slice_get}
 use Rattle.xa_assoc.specs.Refusals.{is_memory}
 use Rattle.xa_assoc.specs.declared.fault.ConnectFault.{ConnectFault}
 use Rattle.xa_frame.specs.Made.{doing}
@@ -40,8 +40,8 @@ ConnectedBy m start base old result new =
     × Takes (is_memory (connect_reply result).detail) old new
 
 -- There is a sequencer that stood for a history, and that next answered calls together, of which this one had this
--- reply. Behind them its history has more than so many entries.
-pub record DidAmong {M : Type 0} (m : Ghosts M) (start : State → Type 0) (base : ℕ × ℕ) (least session : ℕ)
+-- reply.
+pub record DidAmong {M : Type 0} (m : Ghosts M) (start : State → Type 0) (base : ℕ × ℕ) (session : ℕ)
     (request : Request) (reply : Reply) : Type 0 where
   pub old : Numbered M
   pub new : Numbered M
@@ -53,14 +53,13 @@ pub record DidAmong {M : Type 0} (m : Ghosts M) (start : State → Type 0) (base
   pub call : ℕ
   pub told : slice_get replies at ≡ Some (call, reply)
   pub asked : asked_at calls call ≡ record { session = session; request = request }
-  pub behind : least < new.count
 
 -- a call, by a share: it was asked by itself, or was one of a group
 abbrev pub CalledBy : {M : Type 0} → Ghosts M → (State → Type 0) → ℕ × ℕ → ℕ → ℕ × ℕ → Request → Reply → ℕ × ℕ
     → Type 0
 CalledBy m start base session old request reply new =
     (Did m start base old.1 (λ a b. Called m start base session a request reply b)
-    ⊎ DidAmong m start base old.1 session request reply)
+    ⊎ DidAmong m start base session request reply)
     × Takes (is_memory reply.detail) old new
 
 -- There is a sequencer that stood for a history, and it is told of its manager and its count.

@@ -13,7 +13,6 @@ pub struct Answered<M: GroupCommits, S: Start> {
     session: u64,
     request: Request,
     reply: Reply,
-    count: u64,
     of: PhantomData<(M, S)>,
 }
 
@@ -22,29 +21,21 @@ impl<M: GroupCommits, S: Start> Model for Answered<M, S> {
 
     ghost Value = { Answer };
 
-    ghost view = { λ a. record { session = a.session; request = a.request; reply = a.reply; count = a.count } };
+    ghost view = { λ a. record { session = a.session; request = a.request; reply = a.reply } };
 
-    ghost invariant = { λ a. WasAnswered M.manages S.start S.base a.session a.request a.reply a.count };
+    ghost invariant = { λ a. WasAnswered M.manages S.start S.base a.session a.request a.reply };
 }
 
 impl<M: GroupCommits, S: Start> Answered<M, S> {
-    /// The call of a session at some place among those that its thread asks. After its group so many events had been
-    /// numbered.
-    pub(crate) fn new(
-        place: usize,
-        session: u64,
-        request: Request,
-        reply: Reply,
-        count: u64,
-    ) -> Answered<M, S>
-        requires { WasAnswered M.manages S.start S.base session request reply count }
+    /// The call of a session at some place among those that its thread asks.
+    pub(crate) fn new(place: usize, session: u64, request: Request, reply: Reply) -> Answered<M, S>
+        requires { WasAnswered M.manages S.start S.base session request reply }
     {
         Answered {
             place,
             session,
             request,
             reply,
-            count,
             of: PhantomData,
         }
     }
@@ -61,11 +52,11 @@ impl<M: GroupCommits, S: Start> Answered<M, S> {
         self.session == session && is_same(&self.request, request)
     }
 
-    pub(crate) fn count(&self) -> u64
-        ensures is { result ≡ self.now.count }
-        ensures was { WasAnswered M.manages S.start S.base self.now.session self.now.request self.now.reply self.now.count }
+    /// The call was answered so. It does nothing.
+    pub(crate) fn was_given(&self)
+        ensures { WasAnswered M.manages S.start S.base self.now.session self.now.request self.now.reply }
     {
-        self.count
+        let _place = self.place;
     }
 
     pub fn reply(&self) -> &Reply

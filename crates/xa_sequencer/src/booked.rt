@@ -199,7 +199,7 @@ impl<M: GroupCommits, S: Start, L: Ledger> Booked<M, S, L> {
         let (replies, calls) = sequencer.finish_group(answer)?;
         *owed += replies.len() as u64;
         mail.give_back(calls);
-        trays.put_all(mail, replies, sequencer.count());
+        trays.put_all(mail, replies);
         mail.clear();
         Ok(())
     }

@@ -1,5 +1,4 @@
-ghost use Rattle.std.specs.Prelude.{◌≡◌, ◌+◌, ◌<◌, is_none, IfErr, IfOk, MatchBool};
-ghost use Rattle.xa_sequencer.specs.Stands.{most_numbers};
+ghost use Rattle.std.specs.Prelude.{◌≡◌, ◌<◌, is_none, IfErr, IfOk, MatchBool};
 
 use crate::answered::Answered;
 use crate::group_commits::GroupCommits;
@@ -13,8 +12,7 @@ use std::sync::ledger::{Ledger, Share};
 use xa_assoc::ConnectFault;
 use xa_desk::Door;
 use xa_frame::{Reply, Request, Status};
-use xa_manager::connect_reply;
-use xa_room::{Start, is_memory, take};
+use xa_room::{Start, take};
 
 /// A thread's handle of a sequencer that it shares with others: a door, with a share that counts what is asked at it.
 #[derive(Drop)]
@@ -22,11 +20,8 @@ pub struct Handle<'a, M: GroupCommits, S: Start, L: Ledger, R> {
     rt: &'a R,
     sequencer: &'a SharedSequencer<M, S, L>,
     pub share: Share<L>,
-    /// The share's amount, unless that is too great.
-    counted: u64,
     tray: usize,
     pub ghost some: { 0 < share.parts },
-    pub ghost counts: { counted < most_numbers → counted ≡ share.amount },
 }
 
 impl<'a, M: GroupCommits, S: Start, L: Ledger, R: Wait> Handle<'a, M, S, L, R> {
@@ -53,7 +48,6 @@ impl<'a, M: GroupCommits, S: Start, L: Ledger, R: Wait> Handle<'a, M, S, L, R> {
             rt,
             sequencer,
             share,
-            counted: 0,
             tray,
         })
     }
@@ -63,12 +57,9 @@ impl<'a, M: GroupCommits, S: Start, L: Ledger, R: Wait> Handle<'a, M, S, L, R> {
         ensures { ConnectedBy M.manages S.start S.base (self.old.share.parts, self.old.share.amount) result
             (self.new.share.parts, self.new.share.amount) }
     {
-        let session = self
-            .sequencer
+        self.sequencer
             .take_settled(self.rt)
-            .connect(&mut self.share);
-        self.counted = after(self.counted, !is_memory(&connect_reply(session)));
-        session
+            .connect(&mut self.share)
     }
 
     /// Takes the lock for several calls, with nothing of other threads in between. Whoever else asks waits until it is
@@ -95,9 +86,7 @@ impl<'a, M: GroupCommits, S: Start, L: Ledger, R: Wait> Handle<'a, M, S, L, R> {
         ensures back { IfErr result (λ given. (given ≡ request) × (self.new.share.parts ≡ self.old.share.parts)
             × (self.new.share.amount ≡ self.old.share.amount)) }
     {
-        let reply = held.booked.call(&mut self.share, session, request)?;
-        self.counted = after(self.counted, !is_memory(&reply));
-        Ok(reply)
+        held.booked.call(&mut self.share, session, request)
     }
 
     /// Posts a copy of a call: whichever thread has the lock may answer it, as one of a group that shares an append, until
@@ -140,22 +129,16 @@ impl<'a, M: GroupCommits, S: Start, L: Ledger, R: Wait> Handle<'a, M, S, L, R> {
         held.booked.next_answer(self.tray)
     }
 
-    /// Counts an answer to a posted call in this handle's share, unless it tells of a time before the share's: then
-    /// nothing changes.
+    /// Counts an answer to a posted call in this handle's share. Each answer was owed to a share when it was given; were
+    /// none owed any more, nothing would change.
     pub fn count_answer(&mut self, held: &mut Held<'_, M, S, L>, answered: &Answered<M, S>) -> bool
         ensures { MatchBool result
             (CalledBy M.manages S.start S.base answered.now.session (self.old.share.parts, self.old.share.amount)
             answered.now.request answered.now.reply (self.new.share.parts, self.new.share.amount))
             ((self.new.share.parts ≡ self.old.share.parts) × (self.new.share.amount ≡ self.old.share.amount)) }
     {
-        if answered.count() <= self.counted {
-            return false;
-        }
-        if !held.booked.count(&mut self.share) {
-            return false;
-        }
-        self.counted = after(self.counted, true);
-        true
+        answered.was_given();
+        held.booked.count(&mut self.share)
     }
 
     /// Whether another thread waits to hold the lock.
@@ -198,7 +181,6 @@ impl<'a, M: GroupCommits, S: Start, L: Ledger, R: Wait> Handle<'a, M, S, L, R> {
             rt: _,
             sequencer: _,
             share,
-            counted: _,
             tray: _,
         } = self;
         share
@@ -241,7 +223,6 @@ impl<M: GroupCommits, S: Start, L: Ledger, R: Wait> Door for Handle<'_, M, S, L,
         else {
             unreachable!()
         };
-        self.counted = after(self.counted, !is_memory(&reply));
         reply
     }
 
@@ -250,22 +231,10 @@ impl<M: GroupCommits, S: Start, L: Ledger, R: Wait> Door for Handle<'_, M, S, L,
     }
 
     fn hangup(&mut self, session: u64) {
-        let was_connected = self
+        let _was_connected = self
             .sequencer
             .take_settled(self.rt)
             .hangup(&mut self.share, session);
-        self.counted = after(self.counted, was_connected);
-    }
-}
-
-// How many are counted after an event, which is an entry or none.
-fn after(counted: u64, is_entry: bool) -> u64
-    ensures { result < most_numbers → MatchBool is_entry (result ≡ counted + 1) (result ≡ counted) }
-{
-    if is_entry {
-        counted.saturating_add(1)
-    } else {
-        counted
     }
 }
 

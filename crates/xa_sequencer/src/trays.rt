@@ -39,18 +39,18 @@ impl<M: GroupCommits, S: Start> Trays<M, S> {
         true
     }
 
-    /// Puts the replies of a group into their senders' trays, where there is room, after which so many events are numbered.
-    pub(crate) fn put_all(&mut self, mail: &Mail, replies: Vec<(usize, Reply)>, count: u64)
-        requires { AllByRecursion (IsAnswerTo M.manages S.start S.base mail.now count) replies.items }
+    /// Puts the replies of a group into their senders' trays, where there is room.
+    pub(crate) fn put_all(&mut self, mail: &Mail, replies: Vec<(usize, Reply)>)
+        requires { AllByRecursion (IsAnswerTo M.manages S.start S.base mail.now) replies.items }
     {
         for told in replies {
-            self.put(mail, told, count);
+            self.put(mail, told);
         }
     }
 
     // The reply of a call, by its place in the mail.
-    fn put(&mut self, mail: &Mail, told: (usize, Reply), count: u64)
-        requires { IsAnswerTo M.manages S.start S.base mail.now count told }
+    fn put(&mut self, mail: &Mail, told: (usize, Reply))
+        requires { IsAnswerTo M.manages S.start S.base mail.now told }
     {
         let (at, reply) = told;
         let Some(Sender { tray, place }) = mail.sender(at) else {
@@ -62,7 +62,7 @@ impl<M: GroupCommits, S: Start> Trays<M, S> {
         }
         if let Ok(request) = calls[at].request.copied(mail.alloc()) {
             let session = calls[at].session;
-            self.put_into(tray, Answered::new(place, session, request, reply, count));
+            self.put_into(tray, Answered::new(place, session, request, reply));
         }
     }
 

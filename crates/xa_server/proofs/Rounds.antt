@@ -3,7 +3,7 @@ use Rattle.std.proofs.Common.{◌≡◌, ◌≢◌, ◌∙◌, ℕ, ◌<◌, zer
 use Rattle.std.specs.Prelude.{All, IfSome, IsSomeAnd}
 use Rattle.std.proofs.lemmas.List.{set-get_or}
 use Rattle.std.proofs.lemmas.List.Elements.{All-head, All-same, All-weaker}
-use Rattle.xa_frame.specs.Limits.{IsRequest}
+use Rattle.xa_frame.specs.Limits.{IsReply, IsRequest}
 use Rattle.xa_frame.specs.declared.question.Question.{Question}
 use Rattle.xa_frame.specs.declared.question.Question.TheVariants.{Call}
 use Rattle.xa_frame.specs.declared.reply.Reply.{Reply}
@@ -41,6 +41,24 @@ module _ {D : Type 0} (called : ℕ → D → Question → Reply → D → Type 
 
   pub tells_twice : (a b c : List Ask) (d e f : D) → TellsSome called d a b e → TellsSome called e b c f → TellsSome called d a c f
   tells_twice a b c d e f h k = (k.0 ++ h.0, each_twice a b c d e f h.0 k.0 h.1 k.1)
+
+  -- the answer is to the ask's own call
+  pub tells_answer : (ask new : Ask) (d e : D) (session : ℕ) (request posted : Request) (reply : Reply) → new.key ≡ ask.key → new.session ≡ ask.session
+      → new.connection ≡ ask.connection → new.front ≡ ask.front → ask.request ≡ Some request → new.request ≡ None → (ask.session ≡ session) × (request ≡ posted)
+      → new.reply ≡ reply → called session d (Call posted) reply e → IsReply reply → TellsAtMost called d ask new e
+  tells_answer ask new d e session request posted reply key same connection front asked gone (own, is) replied told limits = inr (record {
+    key = key;
+    session = same;
+    connection = connection;
+    front = front;
+    request = request;
+    asked = asked;
+    gone = gone;
+    told =
+        subst (λ (n : ℕ). called n d (Call request) new.reply e) (sym own)
+        (subst (λ (q : Request). called session d (Call q) new.reply e) (sym is) (subst (λ (r : Reply). called session d (Call posted) r e) (sym replied) told));
+    limits = subst (λ (r : Reply). IsReply r) (sym replied) limits;
+  })
 
   -- one more was answered, if any
   pub tells_more : (asks told : List Ask) (d e f : D) (i : ℕ) (none new : Ask) → TellsSome called d asks told e → i < length told

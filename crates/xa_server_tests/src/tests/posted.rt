@@ -71,7 +71,20 @@ fn takes<M: GroupCommits, S: Start, L: Ledger, R: Wait>(
     }
 }
 
-// Two prepares that two handles post are answered together, by the one that has the lock.
+// What the first handle asks between the group's answer and the moment when it takes its own.
+const MEANWHILE: [&str; 8] = [
+    "1 start TMNOFLAGS 1:ac:",
+    "1 put 70 01",
+    "1 get 70",
+    "1 put 71 02",
+    "1 get 71",
+    "1 delete 70",
+    "1 end TMSUCCESS 1:ac:",
+    "1 rollback TMNOFLAGS 1:ac:",
+];
+
+// Two prepares that two handles post are answered together, by the one that has the lock. The first handle takes its answer
+// when it has counted more of its own than there were in all behind the group.
 fn share<M: GroupCommits, S: Start, L: Ledger, R: Wait>(
     alloc: Global,
     first: &mut Handle<'_, M, S, L, R>,
@@ -80,11 +93,13 @@ fn share<M: GroupCommits, S: Start, L: Ledger, R: Wait>(
     posts(alloc, first, 3, "1 prepare TMNOFLAGS 1:aa:")?;
     posts(alloc, second, 5, "2 prepare TMNOFLAGS 1:bb:")?;
     let held = second.hold();
-    let mut held = second.answer_posted(held);
+    drop(second.answer_posted(held));
+    let goes_on = calls(alloc, first, &MEANWHILE)?;
+    let mut held = second.hold();
     let later = takes(alloc, second, &mut held, 5, "2 prepare TMNOFLAGS 1:bb:")?;
     let earlier = takes(alloc, first, &mut held, 3, "1 prepare TMNOFLAGS 1:aa:")?;
     let is_over = first.next_answer(&mut held).is_none() && second.next_answer(&mut held).is_none();
-    Some(is_over && earlier == 11 && later == 12)
+    Some(goes_on && is_over && earlier == 11 && later == 12)
 }
 
 // So is a call that is posted alone, with this number; one that logs nothing is left to its handle.
@@ -131,7 +146,7 @@ fn answers<M: GroupCommits, S: Start, L: Ledger, R: Wait>(
         ],
     )?;
     let is_shared = share(alloc, first, second)?;
-    let is_alone = answers_alone(alloc, first, "1 commit TMNOFLAGS 1:aa:", Some(13))?;
+    let is_alone = answers_alone(alloc, first, "1 commit TMNOFLAGS 1:aa:", Some(21))?;
     let is_left = answers_alone(alloc, first, "1 forget TMNOFLAGS 1:aa:", None)?;
     Some(are_connected && is_ready && is_other_ready && is_shared && is_alone && is_left)
 }
@@ -157,7 +172,7 @@ fn shares_both<M: GroupCommits + Drop, S: Start, L: Ledger, R: Wait>(
     let _first = first.into_share();
     let _second = second.into_share();
     let (sequencer, _book, owed) = shared.into_sequencer();
-    Some(are_right? && owed == 0 && sequencer.count() == 13)
+    Some(are_right? && owed == 0 && sequencer.count() == 21)
 }
 
 #[test]

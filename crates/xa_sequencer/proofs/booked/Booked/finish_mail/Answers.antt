@@ -1,4 +1,4 @@
-use Rattle.std.proofs.Common.{ℕ, List, subst, sym}
+use Rattle.std.proofs.Common.{List, subst, sym}
 use Rattle.std.specs.List.{AllByRecursion}
 use Rattle.xa_manager.specs.declared.together.Asked.{Asked}
 use Rattle.xa_sequencer.specs.Posted.{IsAnswerTo}
@@ -11,5 +11,4 @@ put_all-requires g c =
     let items = c.in_ok-replies.replies.items in
     let calls = c.in_ok-replies.calls.items in
     let answers = all_answers m g.S.Start.start g.S.Start.base c.self.inside.sequencer c.finish_group.new.self calls items c.promises.ensures.history c.in_ok-replies.ensures.ok in
-    subst (λ (n : ℕ). AllByRecursion (IsAnswerTo m g.S.Start.start g.S.Start.base c.give_back.new.self n) items) (sym c.count.ensures)
-    (subst (λ (l : List Asked). AllByRecursion (IsAnswerTo m g.S.Start.start g.S.Start.base l c.finish_group.new.self.count) items) (sym c.give_back.ensures) answers)
+    subst (λ (l : List Asked). AllByRecursion (IsAnswerTo m g.S.Start.start g.S.Start.base l) items) (sym c.give_back.ensures) answers

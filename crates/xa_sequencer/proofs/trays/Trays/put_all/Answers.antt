@@ -6,10 +6,10 @@ use Rattle.xa_sequencer.proofs.trays.Trays.put_all.Goals as goal
 
 pub put-requires : goal.put-requires
 put-requires g c =
-    (subst (λ (rs : List (ℕ × Reply)). AllByRecursion (IsAnswerTo g.M.GroupCommits.manages g.S.Start.start g.S.Start.base c.args.mail.now c.args.count) rs)
+    (subst (λ (rs : List (ℕ × Reply)). AllByRecursion (IsAnswerTo g.M.GroupCommits.manages g.S.Start.start g.S.Start.base c.args.mail.now) rs)
     c.in-Some.ensures.steps.0 c.loop-told.invariant).0
 
 pub loop-told-preserved : goal.loop-told-preserved
 loop-told-preserved g c =
-    (subst (λ (rs : List (ℕ × Reply)). AllByRecursion (IsAnswerTo g.M.GroupCommits.manages g.S.Start.start g.S.Start.base c.args.mail.now c.args.count) rs)
+    (subst (λ (rs : List (ℕ × Reply)). AllByRecursion (IsAnswerTo g.M.GroupCommits.manages g.S.Start.start g.S.Start.base c.args.mail.now) rs)
     c.in-Some.ensures.steps.0 c.loop-told.invariant).1

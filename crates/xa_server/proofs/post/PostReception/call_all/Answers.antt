@@ -1,7 +1,6 @@
-use Rattle.std.proofs.Common.{◌≡◌, ◌≢◌, ◌∙◌, ℕ, List, [], length, refl, sym, ap, arith}
+use Rattle.std.proofs.Common.{◌≡◌, ◌≢◌, ◌∙◌, ℕ, List, [], length, refl, sym, ap}
 use Rattle.std.specs.Prelude.{◌==◌}
 use Rattle.xa_reactor.specs.declared.ask.Ask.{Ask}
-use Rattle.xa_sequencer.specs.Stands.{most_numbers}
 use Rattle.xa_server.specs.Loops.{Called, Held}
 use Rattle.xa_server.proofs.Rounds.{have_requests, left_within, lifted, tells_twice}
 use Rattle.xa_server.proofs.post.PostReception.call_all.Goals as goal
@@ -25,8 +24,6 @@ returns g c =
     (λ (s : Held). record x {
       handle = record x.handle {
         share = record x.handle.share { amount = s.1 };
-        counted = most_numbers;
-        counts = λ lt. absurd (omega (arith, lt));
       };
     })
     (λ s same. ap (λ (n : ℕ). (n, s.1)) (sym same)) called (λ session d q reply e same did. did.1.0 ∙ same)
