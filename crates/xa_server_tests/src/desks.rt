@@ -22,16 +22,13 @@ const NAME: &[u8] = b"xarm";
 /// The parts of a desk's ledger.
 pub const PARTS: u64 = 8;
 
-/// A manager on two empty disks, with a log of so many bytes. None where memory was wanted.
-pub fn opened_over(alloc: Global, log_bytes: u64) -> Option<Manager<MemDisk>> {
-    let name = Bytes::from_slice(alloc, NAME).ok()?;
-    let settings = Settings { name, log_bytes };
-    Manager::open(alloc, MemDisk::new(alloc), MemDisk::new(alloc), settings).ok()
-}
-
-/// The same, with the longest log.
+/// A manager on two empty disks, with the longest log. None where memory was wanted.
 pub fn opened(alloc: Global) -> Option<Manager<MemDisk>> {
-    opened_over(alloc, LOG_BYTES)
+    let settings = Settings {
+        name: Bytes::from_slice(alloc, NAME).ok()?,
+        log_bytes: LOG_BYTES,
+    };
+    Manager::open(alloc, MemDisk::new(alloc), MemDisk::new(alloc), settings).ok()
 }
 
 /// The Open that a manager answers by 0.

@@ -1,5 +1,5 @@
 //! Tests of what no clause says, of rooms, desks, sequencers, workers and servers: what many sessions are answered, what an
-//! audit finds, connections that break, and worked rows with each allocation refused.
+//! audit finds, connections that break, and worked rows at a desk with each allocation refused.
 //!
 //! - `desks`: what these tests begin with, a desk of a new room; `clients`: frames, and who sends them
 //! - `rooms`: receipts, shares and audits; `crews`: callers at once; `meetings`: sessions at once, over connections;
@@ -9,8 +9,8 @@
 //!   `pending`: what is answered while a group is synced
 //! - `servers`: a manager behind a port answers as a play; `looped`: the same by event loops, with connections that are cut;
 //!   `statuses`: how both are doing
-//! - `refused`: worked rows, with the lines in `refused_rows`, and audits; `refused_limits`: limits; all whichever one
-//!   allocation is refused
+//! - `refused`: worked rows at a desk, with the lines in `refused_rows`, and audits; `refused_limits`: limits; all
+//!   whichever one allocation is refused
 //! - `rows`: `none_wrong`
 #![tactic(auto)]
 

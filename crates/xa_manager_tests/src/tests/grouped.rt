@@ -2,7 +2,7 @@
 use crate::tests::group_play::{NUMBER, Player, Told};
 use std::alloc::Global;
 use xa_model::Appending::{self, Kept, Lost, Refused};
-use xa_rows::{CRASH, LOG_BYTES, Line, NONE_LISTED, OK, P1, Play};
+use xa_rows::{LOG_BYTES, Line, NONE_LISTED, OK, P1, Play};
 
 /// Calls that form a group.
 pub struct Grouped {
@@ -28,7 +28,7 @@ const RETRY: &str = "4 Device";
 const LOST: &str = "-7 Device";
 
 /// A crash, and a session that opens the manager behind it.
-pub const CRASHED: Play = &[&CRASH, &P1];
+pub const CRASHED: Play = &[&[("crash", OK)], &P1];
 
 /// Three sessions.
 pub const P3: [Line; 6] = [

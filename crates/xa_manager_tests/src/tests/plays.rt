@@ -5,7 +5,7 @@ use xa_codes::Bytes;
 use xa_log::OpenFault;
 use xa_manager::{ManagerFault, Settings};
 use xa_play::{PlayFault, play_run};
-use xa_rows::{INFO_BYTES, LEAST_LOG_BYTES, LOG_BYTES, WRITES, first_wrong};
+use xa_rows::{INFO_BYTES, LEAST_LOG_BYTES, LOG_BYTES, first_wrong};
 
 fn settings(alloc: Global, log_bytes: u64) -> Result<Settings, AllocError> {
     Ok(Settings {
@@ -24,141 +24,11 @@ fn played<R: Read + Drop, W: Write>(
     play_run(alloc, reader, writer, settings)
 }
 
-/// How the play of a script under the name `xarm` ends, with what it prints.
-fn printed(
-    alloc: Global,
-    log_bytes: u64,
-    script: &str,
-) -> Option<(Result<(), PlayFault>, Vec<u8>)> {
-    let mut output: Vec<u8> = Vec::new(alloc);
-    let mut reader = script.as_bytes();
-    let settings = settings(alloc, log_bytes).ok()?;
-    let outcome = played(alloc, &mut reader, &mut output, settings);
-    Some((outcome, output))
-}
-
 fn reads_as(alloc: Global, fault: PlayFault, text: &str) -> bool {
     match format!(in alloc; "xarm: {fault}") {
         Ok(line) => line.as_str() == text,
         Err(_) => false,
     }
-}
-
-/// Of a play to its end there is no text.
-fn is_end(alloc: Global, outcome: Result<(), PlayFault>, text: &str) -> bool {
-    match outcome {
-        Ok(()) => text.is_empty(),
-        Err(fault) => reads_as(alloc, fault, text),
-    }
-}
-
-/// Whether a script prints that, of a log of so many bytes, and its play ends with this text, or without one.
-pub fn ends_as(alloc: Global, log_bytes: u64, script: &str, want: &str, text: &str) -> bool {
-    match printed(alloc, log_bytes, script) {
-        Some((outcome, output)) => {
-            output.as_slice() == want.as_bytes() && is_end(alloc, outcome, text)
-        }
-        None => false,
-    }
-}
-
-/// Whether a script is played to its end, and prints that.
-pub fn prints(alloc: Global, script: &str, want: &str) -> bool {
-    ends_as(alloc, LOG_BYTES, script, want, "")
-}
-
-const OPENED: &str = "0 Nothing number 1\n0 Nothing\n";
-
-/// What is played once session 1 is open, and its replies.
-const WORKED: [(&str, &str); 5] = [
-    // A write read back.
-    (
-        "1 start TMNOFLAGS 1:aa:bb\n1 put 6b 76\n1 end TMSUCCESS 1:aa:bb\n1 commit TMONEPHASE 1:aa:bb\n\
-         1 start TMNOFLAGS 1:ab:\n1 get 6b",
-        "0 Nothing number 4294967297\n0 Nothing\n0 Nothing\n0 Nothing\n\
-         0 Nothing number 4294967298\n0 Nothing value 76\n",
-    ),
-    // Another branch's write is not read before it commits.
-    (
-        "1 start TMNOFLAGS 1:aa:\n1 put 6b 76\n1 end TMSUCCESS 1:aa:\n1 start TMNOFLAGS 1:bb:\n1 get 6b\n\
-         1 end TMSUCCESS 1:bb:\n1 commit TMONEPHASE 1:aa:\n1 start TMNOFLAGS 1:cc:\n1 get 6b",
-        "0 Nothing number 4294967297\n0 Nothing\n0 Nothing\n0 Nothing number 4294967298\n4 Busy\n\
-         0 Nothing\n0 Nothing\n0 Nothing number 4294967299\n0 Nothing value 76\n",
-    ),
-    // Flags.
-    (
-        "1 start TMJOIN|TMRESUME 1:aa:\n1 start TMASYNC 1:aa:\n1 end TMNOFLAGS 1:aa:\n\
-         1 end TMSUCCESS|TMMIGRATE 1:aa:\n1 recover TMASYNC 1",
-        "-5 Nothing\n-2 Nothing\n-5 Nothing\n-5 Nothing\n-5 Nothing\n",
-    ),
-    // An absent key, and the empty value.
-    (
-        "# a comment\n\n1 start 0x0 1:aa:\n1 get 6b\n1 put 6b -\n1 get 6b\n",
-        "0 Nothing number 4294967297\n0 Nothing absent\n0 Nothing\n0 Nothing value -\n",
-    ),
-    // A delete, and what the branch reads behind it.
-    (
-        "1 start TMNOFLAGS 1:aa:\n1 put 6b -\n1 get 6b\n1 delete 6b\n1 get 6b",
-        "0 Nothing number 4294967297\n0 Nothing\n0 Nothing value -\n0 Nothing\n0 Nothing absent\n",
-    ),
-];
-
-fn opened(alloc: Global, script: &str) -> Result<String, AllocError> {
-    format!(in alloc; "connect\n1 open TMNOFLAGS xarm\n{script}")
-}
-
-fn is_worked(alloc: Global, script: &str, replies: &str) -> Result<bool, AllocError> {
-    let script = opened(alloc, script)?;
-    let want = format!(in alloc; "{OPENED}{replies}")?;
-    Ok(prints(alloc, script.as_str(), want.as_str()))
-}
-
-fn wrong_worked(alloc: Global, rows: &[(&str, &str)]) -> Option<usize> {
-    first_wrong(
-        rows,
-        |(script, replies)| is_worked(alloc, script, replies) == Ok(true),
-    )
-}
-
-#[test]
-fn worked_rows(rt: HostRuntime) {
-    none_wrong(&rt, wrong_worked(rt.alloc(), &WORKED));
-}
-
-fn put_keys(alloc: Global, script: &mut String) -> Result<(), AllocError> {
-    for key in 0..WRITES {
-        let line = format!(in alloc; "1 put {key:04x} 76\n")?;
-        script.push_str(line.as_str())?;
-    }
-    Ok(())
-}
-
-/// A branch writes as many keys as it may, and then so.
-fn key_script(alloc: Global, end: &str) -> Result<String, AllocError> {
-    let mut script = opened(alloc, "1 start TMNOFLAGS 1:aa:\n")?;
-    put_keys(alloc, &mut script)?;
-    script.push_str(end)?;
-    Ok(script)
-}
-
-fn key_replies(alloc: Global, end: &str) -> Result<String, AllocError> {
-    let mut want = String::from_str(alloc, OPENED)?;
-    want.push_str("0 Nothing number 4294967297\n")?;
-    for _ in 0..WRITES {
-        want.push_str("0 Nothing\n")?;
-    }
-    want.push_str(end)?;
-    Ok(want)
-}
-
-/// No further key is written, but those again.
-#[test]
-fn written_keys(rt: HostRuntime) {
-    let end = "1 put 0100 76\n1 put 0000 77\n1 delete 0100\n1 delete 0001\n";
-    let replies = "-5 Limit\n0 Nothing\n-5 Limit\n0 Nothing\n";
-    let script = key_script(rt.alloc(), end).expect(&rt, "a script");
-    let want = key_replies(rt.alloc(), replies).expect(&rt, "replies");
-    assert!(rt; prints(rt.alloc(), script.as_str(), want.as_str()));
 }
 
 /// Gives zeros, and then fails or ends.

@@ -1,7 +1,7 @@
 ghost use Rattle.xa_frame.specs.Limits.{IsRequest};
 
-use crate::desks::{Visit, at_new_desk, audited, opened_over};
-use crate::tests::refused_rows::{FAILING, NO_ROOM, ROOM, ROWS};
+use crate::desks::{Visit, at_new_desk, audited};
+use crate::tests::refused_rows::ROWS;
 use crate::tests::rooms::Audited;
 use crate::tests::rows::none_wrong;
 use std::alloc::Global;
@@ -10,18 +10,18 @@ use std::sync::Wait;
 use std::sync::ledger::Ledger;
 use xa_codes::{Detail, XA_OK};
 use xa_desk::Door;
-use xa_disk::{Effect, MemDisk};
+use xa_disk::MemDisk;
 use xa_frame::{Reply, Request};
 use xa_manager::{Manager, connect_reply};
 use xa_room::{Desk, Manages, Share, Start};
-use xa_rows::{LOG_BYTES, Line, PREPARED_LOG_BYTES, Play};
-use xa_script::{CallEffect, LogFile, read_line, reply_line};
+use xa_rows::{Line, Play};
+use xa_script::{read_line, reply_line};
 use xa_workers::{Gate, OpenGate, Post};
 
-// Worked rows, that are right whichever one allocation is refused: what was answered that it wanted memory is asked
-// again, and all other replies are those with ample memory. A manager that isn't opened ends a row, and so does a disk
-// in memory that found none, whose call is answered with detail Device. Such a row is played once more. `.ci/refused`
-// refuses each allocation in turn; without it these tests show the rows with ample memory.
+// Worked rows at a desk, that are right whichever one allocation is refused: what was answered that it wanted memory is
+// asked again, and all other replies are those with ample memory. A manager that isn't opened ends a row, and so does a
+// disk in memory that found none, whose call is answered with detail Device. Such a row is played once more.
+// `.ci/refused` refuses each allocation in turn; without it these tests show the rows with ample memory.
 
 /// Why a row ended early: not all was answered as with ample memory.
 #[derive(Clone, Copy, Debug, Drop, PartialEq, Eq)]
@@ -42,9 +42,6 @@ pub trait Asks {
 
     fn ask(&mut self, session: u64, request: Request) -> Reply
         requires { IsRequest request };
-
-    /// Plans that a device call fails. Whether there was memory for the plan.
-    fn plan(&mut self, file: LogFile, call: u64, effect: Effect) -> bool;
 }
 
 impl Asks for Manager<MemDisk> {
@@ -60,16 +57,8 @@ impl Asks for Manager<MemDisk> {
         request.hold();
         self.call(session, request)
     }
-
-    fn plan(&mut self, file: LogFile, call: u64, effect: Effect) -> bool {
-        match file {
-            LogFile::Current => self.fail(call, effect).is_ok(),
-            LogFile::Other => self.fail_other(call, effect).is_ok(),
-        }
-    }
 }
 
-/// A desk's device calls can't be planned to fail.
 impl<M: Manages, S: Start, L: Ledger, G: Gate, R: Clock + Wait> Asks for Post<'_, M, S, L, G, R> {
     fn connect(&mut self) -> Reply {
         connect_reply(self.connect())
@@ -82,28 +71,15 @@ impl<M: Manages, S: Start, L: Ledger, G: Gate, R: Clock + Wait> Asks for Post<'_
     fn ask(&mut self, session: u64, request: Request) -> Reply {
         Door::call(self, session, request)
     }
-
-    fn plan(&mut self, _file: LogFile, _call: u64, _effect: Effect) -> bool {
-        false
-    }
 }
 
 /// What a line came to.
 #[derive(Drop)]
 enum Told {
-    /// No event was asked for.
-    Nothing,
     /// There is no such line.
     Unknown,
     /// An event's reply.
     Event(Reply),
-}
-
-fn effect_of(effect: CallEffect) -> Effect {
-    match effect {
-        CallEffect::Kept => Effect::Kept,
-        CallEffect::Lost => Effect::Lost,
-    }
 }
 
 /// What a line came to, if memory was found.
@@ -115,13 +91,6 @@ fn said<A: Asks>(alloc: Global, asked: &mut A, line: &str) -> Option<Told> {
             Reply::plain(XA_OK)
         }
         xa_script::Line::Call(session, request) => asked.ask(session, request),
-        xa_script::Line::Fail { file, call, effect } => {
-            return if asked.plan(file, call, effect_of(effect)) {
-                Some(Told::Nothing)
-            } else {
-                None
-            };
-        }
         _ => return Some(Told::Unknown),
     };
     if reply.detail == Detail::Memory {
@@ -171,7 +140,6 @@ fn behind_line<A: Asks>(
             *events = events.saturating_add(1);
             is_shown(alloc, &Reply { place: 0, ..reply }, want)
         }
-        Some(Told::Nothing) if want.is_empty() => Ok(()),
         Some(Told::Unknown) if want == "-5 Frame" => Ok(()),
         _ => Err(Halt::Wrong),
     }
@@ -201,52 +169,7 @@ fn behind<A: Asks>(
     Ok(())
 }
 
-fn by_manager(alloc: Global, log_bytes: u64, play: Play) -> Result<(), Halt> {
-    let mut events = 0;
-    match opened_over(alloc, log_bytes) {
-        Some(mut manager) => behind(alloc, &mut manager, play, &mut events),
-        None => Err(Halt::Stopped),
-    }
-}
-
-/// Whether a row ends right, once more where it was stopped.
-fn is_right(alloc: Global, log_bytes: u64, play: Play) -> bool {
-    match by_manager(alloc, log_bytes, play) {
-        Err(Halt::Stopped) => by_manager(alloc, log_bytes, play).is_ok(),
-        end => end.is_ok(),
-    }
-}
-
-fn wrong_row(alloc: Global, log_bytes: u64, plays: &[Play]) -> Option<usize> {
-    for (index, play) in plays.iter().enumerate() {
-        if !is_right(alloc, log_bytes, play) {
-            return Some(index);
-        }
-    }
-    None
-}
-
-#[test]
-fn by_a_manager(rt: HostRuntime) {
-    none_wrong(&rt, wrong_row(rt.alloc(), LOG_BYTES, &ROWS));
-}
-
-#[test]
-fn by_a_manager_whose_device_fails(rt: HostRuntime) {
-    none_wrong(&rt, wrong_row(rt.alloc(), LOG_BYTES, &FAILING));
-}
-
-#[test]
-fn by_a_manager_with_room_for_one(rt: HostRuntime) {
-    none_wrong(&rt, wrong_row(rt.alloc(), PREPARED_LOG_BYTES, &ROOM));
-}
-
-#[test]
-fn by_a_manager_one_byte_short(rt: HostRuntime) {
-    none_wrong(&rt, wrong_row(rt.alloc(), PREPARED_LOG_BYTES - 1, &NO_ROOM));
-}
-
-// The same rows at a desk. What wanted memory has no receipt.
+// What wanted memory has no receipt.
 
 #[derive(Drop)]
 struct Row {

@@ -1,10 +1,95 @@
-use xa_rows::{
-    COMMITTED, DECIDED, DECIDED_AND_RESTARTED, FORGOTTEN, HEURISTIC, HUNG_UP, LISTED, LOG_FULL,
-    LOSE, LOSE_LATE, Line, NONE_LISTED, OK, P1, P2, PREPARED, Play, READ_IN_SECOND, READ_ONLY,
-    REFUSED_AT_ONCE, RESTART, VOTED, WRITTEN, WRITTEN_AFTER_A_READ,
-};
+use xa_rows::{Line, NONE_LISTED, OK, P1, Play, RESTART};
 
 // Worked rows: what they ask, and what is answered with ample memory.
+
+// Two sessions.
+const P2: [Line; 4] = [
+    ("connect", "0 Nothing number 1"),
+    ("1 open TMNOFLAGS xarm", OK),
+    ("connect", "0 Nothing number 2"),
+    ("2 open TMNOFLAGS xarm", OK),
+];
+
+// Session 1 works for 1:aa:bb, and leaves it.
+const WRITTEN: [Line; 3] = [
+    ("1 start TMNOFLAGS 1:aa:bb", "0 Nothing number 4294967297"),
+    ("1 put 6b 76", OK),
+    ("1 end TMSUCCESS 1:aa:bb", OK),
+];
+
+const PREPARED: [Line; 1] = [("1 prepare TMNOFLAGS 1:aa:bb", OK)];
+
+const COMMITTED: [Line; 1] = [("1 commit TMNOFLAGS 1:aa:bb", OK)];
+
+// Recovery lists it.
+const LISTED: [Line; 1] = [(
+    "1 recover TMSTARTRSCAN|TMENDRSCAN 10",
+    "1 Nothing xids 1:aa:bb",
+)];
+
+// The operator commits it, which is answered, and recovered, until it is forgotten.
+const DECIDED: [Line; 1] = [("1 decide commit 1:aa:bb", OK)];
+
+const HEURISTIC: [Line; 2] = [
+    ("1 commit TMNOFLAGS 1:aa:bb", "7 Nothing"),
+    ("1 rollback TMNOFLAGS 1:aa:bb", "7 Nothing"),
+];
+
+const FORGOTTEN: [Line; 2] = [
+    ("1 forget TMNOFLAGS 1:aa:bb", OK),
+    ("1 forget TMNOFLAGS 1:aa:bb", "-4 Nothing"),
+];
+
+// A branch without writes is gone once it is prepared.
+const READ_ONLY: [Line; 4] = [
+    ("1 start TMNOFLAGS 1:aa:", "0 Nothing number 4294967297"),
+    ("1 end TMSUCCESS 1:aa:", OK),
+    ("1 prepare TMNOFLAGS 1:aa:", "3 Nothing"),
+    ("1 commit TMNOFLAGS 1:aa:", "-4 Nothing"),
+];
+
+// What it read in the first boot makes no write of the second late.
+const WRITTEN_AFTER_A_READ: [Line; 7] = [
+    ("1 start TMNOFLAGS 1:aa:", "0 Nothing number 4294967297"),
+    ("1 get 6b", "0 Nothing absent"),
+    ("1 end TMSUCCESS 1:aa:", OK),
+    ("1 prepare TMNOFLAGS 1:aa:", "3 Nothing"),
+    ("1 restart", OK),
+    ("1 start TMNOFLAGS 1:bb:", "0 Nothing number 8589934593"),
+    ("1 put 6b 76", OK),
+];
+
+// A session that is gone marks the branch at which it worked, not one that it had left.
+const HUNG_UP: [Line; 9] = [
+    ("1 start TMNOFLAGS 1:bb:", "0 Nothing number 4294967297"),
+    ("1 end TMSUCCESS 1:bb:", OK),
+    ("1 start TMNOFLAGS 1:aa:", "0 Nothing number 4294967298"),
+    ("2 start TMJOIN 1:aa:", "0 Nothing number 4294967298"),
+    ("1 hangup", OK),
+    ("2 end TMSUCCESS 1:aa:", "101 Nothing"),
+    ("2 prepare TMNOFLAGS 1:bb:", "3 Nothing"),
+    ("2 prepare TMNOFLAGS 1:aa:", "101 Nothing"),
+    ("2 prepare TMNOFLAGS 1:aa:", "-4 Nothing"),
+];
+
+// A branch of the second boot reads the key: what 1:aa:bb wrote, or nothing.
+const READ_IN_SECOND: [Line; 2] = [
+    ("1 start TMNOFLAGS 1:cc:", "0 Nothing number 8589934593"),
+    ("1 get 6b", "0 Nothing value 76"),
+];
+
+// What the operator decided outlasts a restart.
+const DECIDED_AND_RESTARTED: Play = &[
+    &P1,
+    &WRITTEN,
+    &PREPARED,
+    &DECIDED,
+    &RESTART,
+    &LISTED,
+    &HEURISTIC,
+    &READ_IN_SECOND,
+    &FORGOTTEN,
+];
 
 const THIRD: [Line; 2] = [
     ("connect", "0 Nothing number 3"),
@@ -134,7 +219,6 @@ const DELETES: [Line; 5] = [
     ("1 get 6b", "0 Nothing absent"),
 ];
 
-/// Rows in which no device call fails.
 pub const ROWS: [Play; 18] = [
     &[&P1, &WRITTEN, &READ_BACK],
     &[&P2, &BOTH, &LATE],
@@ -173,49 +257,3 @@ pub const ROWS: [Play; 18] = [
     &[&P2, &MARKS],
     &[&P1, &DELETES],
 ];
-
-const REFUSED: [Line; 8] = [
-    ("fail 1 lost", ""),
-    ("1 prepare TMNOFLAGS 1:aa:bb", "-3 Device"),
-    ("1 prepare TMNOFLAGS 1:aa:bb", OK),
-    ("fail 1 lost", ""),
-    ("1 rollback TMNOFLAGS 1:aa:bb", "-3 Device"),
-    ("fail 2 lost", ""),
-    ("1 commit TMNOFLAGS 1:aa:bb", "4 Device"),
-    ("1 commit TMNOFLAGS 1:aa:bb", OK),
-];
-
-const COMMIT_LOST: [Line; 2] = [
-    ("1 commit TMNOFLAGS 1:aa:bb", "-7 Device"),
-    ("1 get 6b", "-7 Nothing"),
-];
-
-/// Rows in which device calls fail.
-pub const FAILING: [Play; 3] = [
-    &[&P1, &WRITTEN, &REFUSED, &REFUSED_AT_ONCE],
-    &[
-        &P1,
-        &WRITTEN,
-        &PREPARED,
-        &LOSE_LATE,
-        &COMMIT_LOST,
-        &RESTART,
-        &NONE_LISTED,
-        &READ_IN_SECOND,
-    ],
-    &[
-        &P1,
-        &WRITTEN,
-        &PREPARED,
-        &LOSE,
-        &COMMIT_LOST,
-        &RESTART,
-        &LISTED,
-        &COMMITTED,
-    ],
-];
-
-/// Rows of a log that has room for a prepared branch, and of one that has a byte less.
-pub const ROOM: [Play; 1] = [VOTED];
-
-pub const NO_ROOM: [Play; 1] = [&[&P1, &WRITTEN, &LOG_FULL]];
