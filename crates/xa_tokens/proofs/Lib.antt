@@ -1,0 +1,5 @@
+pub mod Sums
+pub mod Keeps
+pub mod Audited
+pub mod Allowed
+pub mod Grouped

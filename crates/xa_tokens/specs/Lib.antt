@@ -1,0 +1,6 @@
+pub mod Account
+pub mod Group
+pub mod Receipts
+pub mod Rule
+pub mod Steps
+pub mod View
