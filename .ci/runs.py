@@ -1,0 +1,135 @@
+"""The kinds of runs of .ci/history: a server, its clients, what goes wrong meanwhile, and what is compared afterwards."""
+import os
+import re
+
+from callers import KEYS
+from crashes import fail_power, tails
+from frames import LIMIT, Peer, request, shown
+from histories import DOWN, LOGS, History, Script, Search
+from loads import Load, Mistake, Server
+
+# The most calls of a run: a play makes all of them again.
+MOST = 4000
+TRIMMED = re.compile(r"xarm: log trimmed from \d+ to (\d+) bytes in \d+ ms")
+EIO, ENOSPC = 5, 28
+
+
+class Run:
+    """A run in a folder of its own, by random numbers that its seed gives."""
+
+    def __init__(self, program, library, room, rng):
+        self.program, self.library, self.room, self.rng = program, library, room, rng
+        self.server = self.load = None
+        self.steps = {}
+
+    def serve(self, *words, waits=True, **environment):
+        how = {"LD_PRELOAD": self.library, **environment} if environment else {}
+        handles = [int(environment["JOURNAL"])] if "JOURNAL" in environment else []
+        self.server = Server(self.program, self.room, words, self.rng.random() < 0.5, how, handles, waits)
+
+    def keep_busy(self, clients, seconds=0.5, most=MOST, again=0, **mix):
+        self.load = Load(self.server, self.rng.random(), clients, again, **{"at_once": self.rng.random() < 0.7, **mix})
+        self.load.run(seconds, most)
+
+    def finish(self, told=""):
+        """All calls under way are answered, all hang up, and the server prints how many events there were."""
+        self.load.drain()
+        self.load.hang_up()
+        for _ in range(self.load.again + len(self.load.late)):
+            self.server.connect().close()
+        printed = self.server.ends()
+        rest = TRIMMED.sub("", self.server.has_told()).strip()
+        if rest != told:
+            raise Mistake(f"the server told: {rest}")
+        return printed
+
+    def compare(self, then=None, words=()):
+        """Compares with a play. The history."""
+        trims = TRIMMED.findall(self.server.has_told())
+        history = History(self.load.calls(), trims)
+        search = Search(history, self.program, words)
+        wrong, self.steps = search.find(then and (lambda steps: then(history, search, steps)))
+        if wrong:
+            raise Mistake(wrong)
+        return history
+
+    def close(self):
+        if self.server:
+            self.server.kill()
+
+
+def count_events(run, history, printed, *audit):
+    """The server counts what has a place, the hang-ups at the end too."""
+    trims = len(TRIMMED.findall(run.server.has_told()))
+    connects = len(run.load.all) + run.load.again + len(run.load.late)
+    wanted = [f"calls {len(history.placed) + 2 * connects + 3 * trims}", *audit]
+    if printed != wanted:
+        raise Mistake(f"the server printed {printed} and not {wanted}")
+
+
+def load_and_compare(run, words, clients, again=0, audit=(), environment=None, play=(), waits=True, **how):
+    """A run where nothing is killed."""
+    run.serve(*words, "--connections", str(clients + again), waits=waits, **(environment or {}))
+    run.keep_busy(clients, again=again, **how)
+    printed = run.finish()
+    count_events(run, run.compare(words=play), printed, *audit)
+
+
+def fresh(run):
+    """A server that has just begun, whose first loop has the clients that didn't wait for it, and the other loops those that come late."""
+    loops, clients = run.rng.choice((1, 2, 4, 4, 4)), run.rng.choice((8, 10, 12, 16))
+    slow = run.rng.choice(({}, {"FAULT": "slow 1+1"}, {"FAULT": "slow 1+3"}))
+    how = {"seconds": run.rng.choice((0.1, 0.2, 0.5)), "late": run.rng.randrange(6), "waits": False, "at_once": True}
+    load_and_compare(run, ("--loops", str(loops), "--trim", "0"), clients, environment=slow, **how)
+
+
+def idle(run):
+    """Few clients for four loops."""
+    load_and_compare(run, ("--loops", "4", "--trim", "0"), run.rng.choice((2, 3, 4, 5)))
+
+
+def crowd(run):
+    """Many clients, most of whose calls log at once."""
+    load_and_compare(run, ("--loops", run.rng.choice(("2", "4")), "--trim", "0"), 64, seconds=1, meddles=5)
+
+
+def workers(run):
+    """Workers, whose history is audited."""
+    clients = run.rng.choice((4, 8, 16))
+    load_and_compare(run, ("--workers", str(clients)), clients, audit=("audit ok",))
+
+
+def trims(run):
+    """A small log, which the server trims by itself."""
+    size = ("--log-bytes", "65536")
+    load_and_compare(run, ("--loops", run.rng.choice(("1", "2", "4")), "--trim", "6000", *size), 10, seconds=1, play=size)
+
+
+def full_log(run):
+    """A log without room for much, which only clients trim."""
+    size = ("--log-bytes", str(run.rng.choice((3000, 6000, 12_000))))
+    load_and_compare(run, ("--loops", run.rng.choice(("2", "4")), "--trim", "0", *size), 12, trims=20, play=size)
+
+
+def reconnects(run):
+    """Clients that hang up in the middle of anything, and connect anew."""
+    load_and_compare(run, ("--loops", run.rng.choice(("2", "4")), "--trim", "0"), run.rng.choice((6, 12)), again=12)
+
+
+def slow_syncs(run):
+    """Some syncs, or all, are slow."""
+    fault = run.rng.choice(("slow 5/20", "slow 3+2", "slow 13/60"))
+    words = ("--loops", run.rng.choice(("2", "4")), "--trim", "0")
+    load_and_compare(run, words, run.rng.choice((8, 16)), environment={"FAULT": fault}, seconds=0.8)
+
+
+KINDS = {
+    "fresh": fresh,
+    "idle": idle,
+    "crowd": crowd,
+    "workers": workers,
+    "trims": trims,
+    "full log": full_log,
+    "reconnects": reconnects,
+    "slow syncs": slow_syncs,
+}
