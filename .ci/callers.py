@@ -29,11 +29,11 @@ class World:
     """What the clients of one server share. In a hundred calls so many meddle, and so many are rare; in a thousand so many are Trims, and
     Restarts."""
 
-    def __init__(self, seed, clients, meddles=12, rare=2, trims=3, restarts=1):
+    def __init__(self, seed, clients, meddles=12, rare=2, trims=3, restarts=1, longest=3):
         self.random = random.Random(seed)
         self.xids = [[f"1:{client:02x}:{branch:02x}" for branch in range(OWN)] for client in range(clients)]
         self.meddles, self.rare, self.trims, self.restarts = meddles, rare, trims, restarts
-        self.value = self.moment = 0
+        self.value, self.moment, self.longest = 0, 0, longest
 
     def some(self, weights):
         return self.random.choices(list(weights), list(weights.values()))[0]
@@ -60,8 +60,10 @@ class World:
         return self.some(RARE)
 
 
-def calls(world, client):
-    """The calls of a session, without end. It is sent the code of each reply."""
+def calls(world, client, is_quiet=False):
+    """The calls of a session, without end. It is sent the code of each reply. One that is quiet only meddles."""
+    while is_quiet:
+        yield world.some(MEDDLING).format(world.other())
     while world.random.random() < 0.3:
         yield world.some(MEDDLING).format(world.other())
     yield "open TMNOFLAGS n"
@@ -96,7 +98,7 @@ def works(world, begin):
     if code:
         return code
     xid = begin.split()[-1]
-    for _ in range(world.random.choice((1, 1, 2, 3))):
+    for _ in range(world.random.randrange(world.longest) + 1):
         yield world.record()
         if world.random.random() < 0.04:
             yield from suspends(world, xid)

@@ -16,6 +16,8 @@ from frames import LIMIT, free_port, request
 HANGS_UP, AT_ONCE = 15, 2
 # How likely it is that a late client comes, each time that replies were taken.
 COMES = 0.1
+# The same of a quiet one that asks.
+ASKS = 0.05
 
 
 class Mistake(Exception):
@@ -92,11 +94,11 @@ class Asked:
 class Connection:
     """A connection of a client, which is one session."""
 
-    def __init__(self, number, server, world, client):
-        self.number, self.client, self.world = number, client, world
+    def __init__(self, number, server, world, client, is_quiet=False):
+        self.number, self.client, self.world, self.is_quiet = number, client, world, is_quiet
         self.began, self.closed, self.ended = time.monotonic_ns(), None, False
         self.socket = server.connect()
-        self.calls, self.came, self.all = calls(world, client), bytearray(), []
+        self.calls, self.came, self.all = calls(world, client, is_quiet), bytearray(), []
         self.code = None
 
     def ask(self, line=None):
@@ -146,21 +148,21 @@ class Connection:
 class Load:
     """Clients of a server, each with one connection at a time. So many times one may hang up, and connect anew.
 
-    They connect at once, or one after the other; so many come later, while the others are busy. A loop that has just begun gets no
-    connection, and those that come late find loops that have done nothing beside one that has done all: what goes wrong with that is seen
-    in a server's first events or never."""
+    They connect at once, or one after the other; so many come late, while the others are busy. Where some are quiet, every second one
+    asks seldom: since connections are handed to the loops in turn, some loops have then done much and others little.
+    """
 
-    def __init__(self, server, seed, clients, again=0, at_once=True, late=0, **mix):
-        self.server, self.world, self.again = server, World(seed, clients, **mix), again
+    def __init__(self, server, seed, clients, again=0, at_once=True, late=0, some_quiet=False, may_lose=False, **mix):
+        self.server, self.world, self.again, self.may_lose = server, World(seed, clients, **mix), again, may_lose
         self.poll, self.all, self.by_handle, self.lost = select.epoll(), [], {}, 0
-        self.late = list(range(clients - late, clients))
+        self.late, self.resting, self.some_quiet = list(range(clients - late, clients)), [], some_quiet
         for client in range(clients - late):
             connection = self.connect(client)
             while not (at_once or connection.is_answered() or connection.ended):
                 self.turn(goes_on=False)
 
     def connect(self, client):
-        connection = Connection(len(self.all), self.server, self.world, client)
+        connection = Connection(len(self.all), self.server, self.world, client, self.some_quiet and client % 2 == 1)
         self.all.append(connection)
         self.by_handle[connection.socket.fileno()] = connection
         self.poll.register(connection.socket, select.EPOLLIN)
@@ -174,15 +176,19 @@ class Load:
         connection.close()
 
     def run(self, seconds, most):
-        """Keeps all of them busy for so long, or for so many calls."""
+        """Keeps all of them busy for so long from the first reply on, or for so many calls."""
+        while not any(connection.all[0].content for connection in self.all):
+            self.turn()
         for connection in list(self.by_handle.values()):
-            if connection.is_answered():
+            if connection.is_answered() and not connection.is_quiet:
                 self.step(connection)
         until, left = time.monotonic() + seconds, most
         while time.monotonic() < until and left > 0:
             left -= self.turn()
             if self.late and self.world.random.random() < COMES:
                 self.connect(self.late.pop())
+            if self.resting and self.world.random.random() < ASKS:
+                self.resting.pop(0).ask()
 
     def turn(self, goes_on=True):
         """Takes what came to any of them, and then has these ask. How many."""
@@ -195,12 +201,16 @@ class Load:
         for connection in whole:
             if connection.ended:
                 self.loses(connection, goes_on)
+            elif connection.is_quiet:
+                self.resting.append(connection)
             elif goes_on:
                 self.step(connection)
         return len(whole)
 
     def loses(self, connection, goes_on):
         """The server has closed one: its client connects anew."""
+        if not self.may_lose:
+            raise Mistake(f"the server closed a connection, and didn't answer: {connection.all[-1].line}")
         self.lost += 1
         self.disconnect(connection)
         if goes_on:
