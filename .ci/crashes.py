@@ -3,7 +3,10 @@ was synced, and of what was written since then the first so many writes. And the
 import itertools
 import os
 
-from histories import LOGS
+from callers import KEYS
+from frames import shown
+from histories import LOGS, NEVER
+from loads import Mistake, frame
 
 FILES = ("l", "l.2")
 
@@ -59,6 +62,59 @@ def fail_power(room, journal, rng):
         image.keep(rng.choice((0, 0, rng.randrange(len(image.writes) + 1))))
         with open(os.path.join(room, file), "wb") as left:
             left.write(image.content)
+
+
+class Aftermath:
+    """What a new server on these files was asked, one call after the other, and how it answered."""
+
+    def __init__(self, server):
+        self.peer, self.lines = server.connect(), []
+        self.ask("open TMNOFLAGS n")
+        listed = self.ask("recover TMSTARTRSCAN|TMENDRSCAN 256").split()[3:]
+        self.ask("branches 256")
+        self.read("9:aa:")
+        for number, xid in enumerate(listed):
+            self.ask(f"{'rollback' if number % 3 == 0 else 'commit'} TMNOFLAGS {xid}")
+            self.ask(f"forget TMNOFLAGS {xid}")
+        self.read("9:ab:")
+        self.ask("trim")
+        self.peer.close()
+
+    def ask(self, line):
+        self.peer.sendall(frame(line))
+        came = b""
+        while len(came) < 4 or len(came) < 4 + int.from_bytes(came[:4], "big"):
+            more = self.peer.recv(65_536)
+            if not more:
+                raise Mistake(f"the server that was started again didn't answer: {line}")
+            came += more
+        self.lines.append((line, shown(came[4:])[1]))
+        return self.lines[-1][1]
+
+    def read(self, xid):
+        """Reads each key in a branch of its own, and gives that up."""
+        self.ask(f"start TMNOFLAGS {xid}")
+        for key in KEYS:
+            self.ask(f"get {key}")
+        self.ask(f"end TMSUCCESS {xid}")
+        self.ask(f"rollback TMNOFLAGS {xid}")
+
+    def is_wrong(self, search, steps, tails):
+        """What is wrong, where nothing that may have been done unseen explains the answers."""
+        wrong = None
+        for tail in tails:
+            script = search.script(steps)
+            for asked in tail:
+                script.maybe(asked)
+            script.crash()
+            script.connect(NEVER, self)
+            for line, reply in self.lines:
+                script.add(NEVER, f"{script.numbers[self]} {line}", reply)
+            _, found = search.played(script)
+            if not found:
+                return None
+            wrong = wrong or f"after the crash: {found}"
+        return wrong
 
 
 def tails(calls):

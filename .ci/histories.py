@@ -80,6 +80,22 @@ class History:
         before = bisect.bisect_left(self.times, time)
         return self.greatest[before - 1] if before else 0
 
+    def cut_at_down(self):
+        """Leaves out what came since the manager went down, by a record of which nobody knows whether it was logged. The calls of that
+        record's group, in order. All that is asked later is refused."""
+        lost = [place for place, reply in self.replies.items() if reply == DOWN and self.placed[place].line != "restart"]
+        if not lost:
+            return []
+        first, group = min(lost), []
+        for place in range(first, self.last + 1):
+            asked, reply = self.placed.pop(place), self.replies.pop(place)
+            if reply == DOWN and place == first + len(group) and asked.line.split()[0] in LOGS:
+                group.append(asked)
+            elif not is_down_reply(asked.line, reply):
+                raise Mistake(f"the manager is down, but {asked.line} was answered {reply} at place {place}")
+        self.last = first - 1
+        return group
+
     def actor(self, connection):
         """What a connection did without a reply, in order."""
         places = [place for place, asked in self.placed.items() if asked.connection is connection]
@@ -87,10 +103,17 @@ class History:
         steps = [Step("connect", connection, self.answered_before(connection.began), first)]
         if asked := self.flights.get(connection):
             steps.append(Step("flight", connection, max(last, self.answered_before(asked.sent)), line=asked.line))
-        if connection.closed is not None or connection.ended:
+        if connection.closed is not None and not connection.was_killed:
             since = connection.all[-1].sent if connection.ended else connection.closed
             steps.append(Step("hangup", connection, max(last, self.answered_before(since))))
         return steps
+
+
+def is_down_reply(line, reply):
+    """Whether a call may be answered so while the manager is down, and its device too."""
+    if line == "restart":
+        return reply == DOWN
+    return reply == "-7 Nothing" or line.split()[0] in ("open", "close") and reply in ("0 Nothing", "-6 Nothing")
 
 
 def trim_steps(end):
@@ -164,13 +187,16 @@ class Search:
 
     def play(self, steps):
         """Plays the events. The first place where the reply is another one, and what is wrong there; nothing where all agree."""
+        return self.played(self.script(steps))
+
+    def script(self, steps):
         script = Script()
         for place in range(1, self.history.last + 1):
             if place in steps:
                 script.step(place, steps[place])
             else:
                 script.call(place, self.history.placed[place], self.history.replies[place])
-        return self.played(script)
+        return script
 
     def played(self, script):
         self.plays += 1
@@ -227,6 +253,12 @@ class Script:
     def add(self, place, line, wanted):
         self.lines.append(line)
         self.wanted.append((place, line, wanted))
+
+    def maybe(self, asked):
+        """A call that was done unseen, whatever it was answered."""
+        if asked.connection not in self.numbers:
+            self.connect(NEVER, asked.connection)
+        self.add(NEVER, f"{self.numbers[asked.connection]} {asked.line}", None)
 
     def crash(self):
         """A crash, and the process begins anew: no session is connected."""

@@ -74,7 +74,8 @@ class Server:
 
     def kill(self):
         self.ran.kill()
-        self.ran.communicate()
+        self.ran.wait()
+        self.ran.stdout.close()
 
     def ends(self):
         """What it printed, once it has ended by itself."""
@@ -99,7 +100,7 @@ class Connection:
         self.began, self.closed, self.ended = time.monotonic_ns(), None, False
         self.socket = server.connect()
         self.calls, self.came, self.all = calls(world, client, is_quiet), bytearray(), []
-        self.code = None
+        self.code, self.was_killed = None, False
 
     def ask(self, line=None):
         """Sends its next call."""
@@ -258,6 +259,7 @@ class Load:
                 if connection.receive() and not connection.ended:
                     connection.take(time.monotonic_ns())
             self.disconnect(connection)
+            connection.was_killed = True
 
     def calls(self):
         return [asked for connection in self.all for asked in connection.all]

@@ -3,9 +3,8 @@ import os
 import re
 
 from callers import KEYS
-from crashes import fail_power, tails
-from frames import LIMIT, Peer, request, shown
-from histories import DOWN, LOGS, History, Script, Search
+from crashes import Aftermath, fail_power, tails
+from histories import History, Search
 from loads import Load, Mistake, Server
 
 # The most calls of a run: a play makes all of them again.
@@ -20,7 +19,7 @@ class Run:
     def __init__(self, program, library, room, rng):
         self.program, self.library, self.room, self.rng = program, library, room, rng
         self.server = self.load = None
-        self.steps = {}
+        self.steps, self.lacks_memory = {}, False
 
     def serve(self, *words, waits=True, **environment):
         how = {"LD_PRELOAD": self.library, **environment} if environment else {}
@@ -40,10 +39,12 @@ class Run:
             self.server.connect().close()
         return self.server.ends()
 
-    def compare(self, then=None, words=()):
-        """Compares with a play. The history."""
+    def compare(self, then=None, words=(), cut=None):
+        """Compares with a play. The history. Where it is to be cut once the manager is down, the group whose record was lost is added."""
         trims = TRIMMED.findall(self.server.has_told())
-        history = History(self.load.calls(), trims)
+        history = History(self.load.calls(), trims, self.lacks_memory)
+        if cut is not None:
+            cut += history.cut_at_down()
         search = Search(history, self.program, words)
         wrong, self.steps = search.find(then and (lambda steps: then(history, search, steps)))
         if wrong:
@@ -128,6 +129,78 @@ def slow_syncs(run):
     load_and_compare(run, words, run.rng.choice((8, 16)), environment={"FAULT": fault}, seconds=0.8)
 
 
+def serve_with_journal(run, *words, **environment):
+    """Serves with a journal of what a power failure would leave. Its file."""
+    path = os.path.join(run.room, "journal")
+    with open(path, "ab") as journal:
+        run.serve(*words, JOURNAL=str(journal.fileno()), **environment)
+    return path
+
+
+def fail_and_restart(run, path):
+    """The power fails, and a new server is asked what lasts."""
+    with open(path, "rb") as journal:
+        fail_power(run.room, journal.read(), run.rng)
+    run.server = Server(run.program, run.room, ["--loops", "2"])
+    return Aftermath(run.server)
+
+
+def kills(run):
+    """The power fails under load. Of the calls that were under way any may have been done, in any order; else what a play's crash leaves
+    is what the next server lists and reads."""
+    path = serve_with_journal(run, "--loops", run.rng.choice(("2", "4")), "--trim", "0", FAULT=run.rng.choice(("slow 1+1", "slow 1+4")))
+    run.keep_busy(run.rng.choice((3, 4, 5)), seconds=run.rng.uniform(0.02, 0.4), most=800, restarts=3, trims=10)
+    run.load.kill()
+    aftermath = fail_and_restart(run, path)
+
+    def then(history, search, steps):
+        done = {step.owner for step in steps.values() if step.kind == "flight"}
+        return aftermath.is_wrong(search, steps, tails([asked for owner, asked in history.flights.items() if owner not in done]))
+
+    run.compare(then)
+
+
+def failed_syncs(run):
+    """A sync fails, and the manager is down: up to there all is as in a play, and from there on all is refused. Then the power fails. Of
+    the group whose sync it was the first calls may have been done, or all, or none."""
+    fault = f"fdatasync {run.rng.randrange(4, 40)} {EIO}"
+    path = serve_with_journal(run, "--loops", run.rng.choice(("2", "4")), "--trim", "0", FAULT=fault)
+    run.keep_busy(8, seconds=0.3, most=1500, restarts=0, trims=0)
+    run.load.drain()
+    run.server.kill()
+    aftermath = fail_and_restart(run, path)
+    group = []
+
+    def then(_, search, steps):
+        return aftermath.is_wrong(search, steps, [group[:count] for count in range(len(group) + 1)])
+
+    run.compare(then, cut=group)
+
+
+def refused_writes(run):
+    """Writes fail, one now and then, or some in a row, so that the manager goes down: then a Restart finds that nothing was written."""
+    first = run.rng.randrange(5, 60)
+    fault = run.rng.choice((f"pwrite {run.rng.randrange(5, 12)}/{ENOSPC}", f"pwrite {first}-{first + 2} {ENOSPC}"))
+    run.serve("--loops", run.rng.choice(("2", "4")), "--trim", "0", FAULT=fault)
+    run.keep_busy(10, restarts=0, trims=0)
+    run.load.drain()
+    run.server.kill()
+    run.compare()
+
+
+def little_memory(run):
+    """Each of so many allocations is refused: a call is told so and has no place, or its connection is closed, and it may have been
+    done."""
+    run.lacks_memory = True
+    library = os.path.join(os.path.dirname(run.library), "refuse.so")
+    each = {"LD_PRELOAD": library, "EACH": str(run.rng.choice((1009, 2003, 5003)))}
+    run.serve("--loops", run.rng.choice(("1", "2", "4")), "--trim", "0", **each)
+    run.keep_busy(8, seconds=0.3, most=1500, may_lose=True)
+    run.load.drain()
+    run.server.kill()
+    run.compare()
+
+
 KINDS = {
     "fresh": fresh,
     "uneven": uneven,
@@ -138,4 +211,8 @@ KINDS = {
     "full log": full_log,
     "reconnects": reconnects,
     "slow syncs": slow_syncs,
+    "kills": kills,
+    "failed syncs": failed_syncs,
+    "refused writes": refused_writes,
+    "little memory": little_memory,
 }
