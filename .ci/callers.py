@@ -1,5 +1,6 @@
 """Random calls of the clients of .ci/history: mostly useful branches over a few shared keys, and now and then a call that meddles with the
 branches of others. Lines are those of docs/SCRIPT.md without the session's number."""
+import collections
 import random
 
 KEYS = [f"6b{number:02x}" for number in range(8)]
@@ -34,11 +35,15 @@ class World:
         self.xids = [[f"1:{client:02x}:{branch:02x}" for branch in range(OWN)] for client in range(clients)]
         self.meddles, self.rare, self.trims, self.restarts = meddles, rare, trims, restarts
         self.value, self.moment, self.longest = 0, 0, longest
+        self.recent = collections.deque(maxlen=max(2, clients // 2))
 
     def some(self, weights):
         return self.random.choices(list(weights), list(weights.values()))[0]
 
     def other(self):
+        """An XID of anybody, mostly one that is likely to be known."""
+        if self.recent and self.random.random() < 0.7:
+            return self.random.choice(self.recent)
         return self.random.choice(self.random.choice(self.xids))
 
     def new_value(self):
@@ -81,7 +86,7 @@ def calls(world, client, is_quiet=False):
         elif chance > 100 - (world.trims + world.restarts) / 10:
             yield "restart"
         else:
-            yield from branch(world, world.random.choice(world.xids[client]))
+            yield from branch(world, client, world.random.choice(world.xids[client]))
 
 
 def meddles(world):
@@ -98,6 +103,7 @@ def works(world, begin):
     if code:
         return code
     xid = begin.split()[-1]
+    world.recent.append(xid)
     for _ in range(world.random.randrange(world.longest) + 1):
         yield world.record()
         if world.random.random() < 0.04:
@@ -114,7 +120,7 @@ def suspends(world, xid):
     yield f"start TMRESUME {world.other() if world.random.random() < 0.1 else xid}"
 
 
-def branch(world, xid):
+def branch(world, client, xid):
     """A whole branch; where it can't begin, what is left of the one before is cleared away."""
     code = yield from works(world, f"start TMNOFLAGS {xid}")
     if code:
@@ -122,10 +128,20 @@ def branch(world, xid):
         yield f"rollback TMNOFLAGS {xid}"
         yield f"forget TMNOFLAGS {xid}"
         return
+    if world.random.random() < 0.1:
+        yield world.some(MEDDLING).format(world.other())
+    yield from completes(world, client, xid)
+
+
+def completes(world, client, xid):
+    """A branch's completion, in one phase or in two, where it may be left in doubt for a while, or for others."""
     chance = world.random.random()
-    if chance < 0.5:
+    if chance < 0.45:
         yield f"commit TMONEPHASE {xid}"
-    elif chance < 0.55:
+    elif chance < 0.5:
         yield f"rollback TMNOFLAGS {xid}"
     elif not (yield f"prepare TMNOFLAGS {xid}") and chance < 0.97:
+        world.recent.append(xid)
+        if world.random.random() < 0.2:
+            yield from works(world, f"start TMNOFLAGS {world.random.choice(world.xids[client])}")
         yield f"{'commit' if chance < 0.9 else 'rollback'} TMNOFLAGS {xid}"

@@ -6,8 +6,8 @@
    fdatasync that takes so many milliseconds longer as the error says.
 
    To the descriptor whose number stands in JOURNAL it writes what a crash needs to know: each pwrite before it is made, with its bytes,
-   and where each thread's sync begins and has ended. A kill leaves what was written, synced or not; from this one can make the files that a power
-   failure leaves. */
+   and where each thread's sync begins and has ended. A kill leaves what was written, synced or not; from this one can make the files
+   that a power failure leaves. */
 typedef unsigned long size_t;
 typedef long ssize_t;
 typedef long off_t;

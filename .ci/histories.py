@@ -177,9 +177,8 @@ class Search:
             else:
                 wrong = f"place {lacks} is nobody's"
             furthest = max(furthest, (lacks, wrong, steps), key=lambda it: it[0])
-            open_ones = [
-                index for index, place in enumerate(self.history.missing[: len(counts)]) if place <= lacks and path[index] + 1 < counts[index]
-            ]
+            before = enumerate(self.history.missing[: len(counts)])
+            open_ones = [index for index, place in before if place <= lacks and path[index] + 1 < counts[index]]
             if not open_ones:
                 return furthest[1:]
             path = [*path[: open_ones[-1]], path[open_ones[-1]] + 1]

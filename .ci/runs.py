@@ -202,8 +202,8 @@ def little_memory(run):
 
 
 KINDS = {
-    "fresh": fresh,
     "uneven": uneven,
+    "fresh": fresh,
     "idle": idle,
     "crowd": crowd,
     "workers": workers,
