@@ -30,11 +30,12 @@ class World:
     """What the clients of one server share. In a hundred calls so many meddle, and so many are rare; in a thousand so many are Trims, and
     Restarts."""
 
-    def __init__(self, seed, clients, meddles=12, rare=2, trims=3, restarts=1, longest=3):
+    def __init__(self, seed, clients, meddles=12, rare=2, trims=3, restarts=1, longest=3, joined=0.0):
         self.random = random.Random(seed)
         self.xids = [[f"1:{client:02x}:{branch:02x}" for branch in range(OWN)] for client in range(clients)]
         self.meddles, self.rare, self.trims, self.restarts = meddles, rare, trims, restarts
         self.value, self.moment, self.longest = 0, 0, longest
+        self.joined = joined
         self.recent = collections.deque(maxlen=max(2, clients // 2))
 
     def some(self, weights):
@@ -57,6 +58,10 @@ class World:
         if chance < 0.45:
             return f"put {key} {self.new_value()}"
         return f"get {key}" if chance < 0.92 else f"delete {key}"
+
+    def records(self):
+        """One of them, or some at once."""
+        return self.record() if self.random.random() >= self.joined else tuple(self.record() for _ in range(6))
 
     def rare_call(self):
         if self.random.random() < 0.3:
@@ -105,7 +110,7 @@ def works(world, begin):
     xid = begin.split()[-1]
     world.recent.append(xid)
     for _ in range(world.random.randrange(world.longest) + 1):
-        yield world.record()
+        yield world.records()
         if world.random.random() < 0.04:
             yield from suspends(world, xid)
     fails = world.random.random() < 0.02

@@ -52,7 +52,7 @@ class History:
         self.placed, self.replies, self.flights, self.lacked = {}, {}, {}, 0
         for asked in calls:
             if asked.content is None:
-                self.flights[asked.connection] = asked
+                self.flights.setdefault(asked.connection, []).append(asked)
             else:
                 self.add(asked, lacks_memory)
         self.last = max(self.placed, default=0)
@@ -101,7 +101,7 @@ class History:
         places = [place for place, asked in self.placed.items() if asked.connection is connection]
         first, last = min(places, default=NEVER), max(places, default=0)
         steps = [Step("connect", connection, self.answered_before(connection.began), first)]
-        if asked := self.flights.get(connection):
+        for asked in self.flights.get(connection, ()):
             steps.append(Step("flight", connection, max(last, self.answered_before(asked.sent)), line=asked.line))
         if connection.closed is not None and not connection.was_killed:
             since = connection.all[-1].sent if connection.ended else connection.closed

@@ -100,24 +100,26 @@ class Connection:
         self.began, self.closed, self.ended = time.monotonic_ns(), None, False
         self.socket = server.connect()
         self.calls, self.came, self.all = calls(world, client, is_quiet), bytearray(), []
+        self.waiting = []
         self.code, self.was_killed = None, False
 
-    def ask(self, line=None):
-        """Sends its next call."""
-        if line is None:
-            # a manager that is down helps nobody: now and then somebody restarts it
-            is_down = self.code == -7 and self.world.random.random() < 0.2
-            line = "restart" if is_down else self.calls.send(self.code)
-        content = frame(line) if line[:3] != "put" else request(f"1 {line}")
-        asked = Asked(self, line, time.monotonic_ns())
-        self.all.append(asked)
+    def ask(self):
+        """Sends its next call, or some at once."""
+        # a manager that is down helps nobody: now and then somebody restarts it
+        is_down = self.code == -7 and self.world.random.random() < 0.2
+        lines = "restart" if is_down else self.calls.send(self.code)
+        lines = (lines,) if isinstance(lines, str) else lines
+        content = b"".join(frame(line) if line[:3] != "put" else request(f"1 {line}") for line in lines)
+        now = time.monotonic_ns()
+        self.waiting = [Asked(self, line, now) for line in lines]
+        self.all += self.waiting
         try:
             self.socket.sendall(content)
         except OSError:
             self.ended = True
 
     def receive(self):
-        """Takes what came. Whether the reply is whole, or the connection has ended."""
+        """Takes what came. Whether all replies are there, or the connection has ended."""
         try:
             more = self.socket.recv(65_536)
         except OSError:
@@ -126,20 +128,18 @@ class Connection:
             self.ended = True
             return True
         self.came += more
-        length = int.from_bytes(self.came[:4], "big") + 4
-        if len(self.came) > length:
-            raise Mistake(f"more than a reply came to: {self.all[-1].line}")
-        return len(self.came) == length
-
-    def take(self, now):
-        """Takes the reply that is whole."""
-        asked = self.all[-1]
-        asked.received, asked.content = now, bytes(self.came[4:])
-        self.code = int.from_bytes(self.came[5:9], "big", signed=True)
-        self.came.clear()
+        now = time.monotonic_ns()
+        while len(self.came) >= 4 and len(self.came) >= (end := int.from_bytes(self.came[:4], "big") + 4):
+            if not self.waiting:
+                raise Mistake(f"more than a reply came to: {self.all[-1].line}")
+            asked = self.waiting.pop(0)
+            asked.received, asked.content = now, bytes(self.came[4:end])
+            self.code = int.from_bytes(self.came[5:9], "big", signed=True)
+            del self.came[:end]
+        return not self.waiting
 
     def is_answered(self):
-        return bool(self.all) and self.all[-1].content is not None
+        return not self.waiting
 
     def close(self):
         self.closed = time.monotonic_ns()
@@ -195,10 +195,6 @@ class Load:
         """Takes what came to any of them, and then has these ask. How many."""
         ready = [self.by_handle[handle] for handle, _ in self.poll.poll(0.05)]
         whole = [connection for connection in ready if connection.receive()]
-        now = time.monotonic_ns()
-        for connection in whole:
-            if not connection.ended:
-                connection.take(now)
         for connection in whole:
             if connection.ended:
                 self.loses(connection, goes_on)
@@ -228,7 +224,7 @@ class Load:
 
     def are_settled(self):
         """Whether all but a few connections had a reply."""
-        return sum(it.all[0].content is None for it in self.by_handle.values()) < AT_ONCE
+        return sum(not it.all[0].content for it in self.by_handle.values()) < AT_ONCE
 
     def drain(self):
         """Waits for the reply of each call under way."""
@@ -256,8 +252,7 @@ class Load:
         self.server.kill()
         for connection in list(self.by_handle.values()):
             while not connection.ended and not connection.is_answered():
-                if connection.receive() and not connection.ended:
-                    connection.take(time.monotonic_ns())
+                connection.receive()
             self.disconnect(connection)
             connection.was_killed = True
 

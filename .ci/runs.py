@@ -79,7 +79,7 @@ def fresh(run):
     """A server that has just begun, whose first loop has the clients that didn't wait for it, and the other loops those that come late."""
     loops, clients = run.rng.choice((1, 2, 4, 4, 4)), run.rng.choice((8, 10, 12, 16))
     slow = run.rng.choice(({}, {"FAULT": "slow 1+1"}, {"FAULT": "slow 1+3"}))
-    how = {"seconds": run.rng.choice((0.1, 0.2, 0.5)), "late": run.rng.randrange(6), "waits": False, "at_once": True}
+    how = {"seconds": 2, "most": run.rng.choice((100, 300, 1000)), "late": run.rng.randrange(6), "waits": False, "at_once": True}
     load_and_compare(run, ("--loops", str(loops), "--trim", "0"), clients, environment=slow, **how)
 
 
@@ -91,12 +91,13 @@ def idle(run):
 def uneven(run):
     """Loops of which some have done much and others little: answers that one gives to the other are counted by it."""
     loops, clients = run.rng.choice(("2", "2", "4")), run.rng.choice((8, 12, 16))
-    load_and_compare(run, ("--loops", loops, "--trim", "0"), clients, some_quiet=True, longest=8, at_once=True, seconds=0.3)
+    mix = {"some_quiet": True, "longest": 8, "joined": run.rng.choice((0, 0.3)), "at_once": True}
+    load_and_compare(run, ("--loops", loops, "--trim", "0"), clients, seconds=4, most=run.rng.choice((150, 300, 600)), **mix)
 
 
 def crowd(run):
     """Many clients, most of whose calls log at once."""
-    load_and_compare(run, ("--loops", run.rng.choice(("2", "4")), "--trim", "0"), 64, seconds=1, meddles=5)
+    load_and_compare(run, ("--loops", run.rng.choice(("2", "4")), "--trim", "0"), 64, seconds=1, meddles=5, joined=0.1)
 
 
 def workers(run):
@@ -155,7 +156,7 @@ def kills(run):
 
     def then(history, search, steps):
         done = {step.owner for step in steps.values() if step.kind == "flight"}
-        return aftermath.is_wrong(search, steps, tails([asked for owner, asked in history.flights.items() if owner not in done]))
+        return aftermath.is_wrong(search, steps, tails([asked for owner, (asked,) in history.flights.items() if owner not in done]))
 
     run.compare(then)
 
