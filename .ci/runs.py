@@ -6,6 +6,7 @@ from callers import KEYS
 from crashes import Aftermath, fail_power, tails
 from histories import History, Search
 from loads import Load, Mistake, Server
+from promises import check_promises
 
 # The most calls of a run: a play makes all of them again.
 MOST = 4000
@@ -49,6 +50,8 @@ class Run:
         wrong, self.steps = search.find(then and (lambda steps: then(history, search, steps)))
         if wrong:
             raise Mistake(wrong)
+        if not history.flights:
+            check_promises(history)
         return history
 
     def close(self):
