@@ -87,13 +87,13 @@ class History:
         if not lost:
             return []
         first, group = min(lost), []
-        for place in range(first, self.last + 1):
+        for place in sorted(place for place in self.placed if place >= first):
             asked, reply = self.placed.pop(place), self.replies.pop(place)
             if reply == DOWN and place == first + len(group) and asked.line.split()[0] in LOGS:
                 group.append(asked)
             elif not is_down_reply(asked.line, reply):
                 raise Mistake(f"the manager is down, but {asked.line} was answered {reply} at place {place}")
-        self.last = first - 1
+        self.last, self.missing = first - 1, [place for place in self.missing if place < first]
         return group
 
     def actor(self, connection):
