@@ -159,7 +159,9 @@ class Search:
             at[actor] = number + 1
             steps[place] = self.history.actors[actor][number]
             counts.append(len(options))
-        return steps, counts, None
+        # a connection that is in no place yet, but asked something
+        late = [acts[0].high for acts, number in zip(self.history.actors, at) if acts and not number and acts[0].high <= self.history.last]
+        return steps, counts, min(late, default=None)
 
     def find(self, then=None):
         """Plays one assignment after the other until one agrees, and with it what comes then: a function of the steps that says nothing

@@ -214,9 +214,11 @@ class Load:
             self.connect(connection.client)
 
     def step(self, connection):
-        """One asks, or hangs up and connects anew."""
+        """One asks, or hangs up and connects anew; it may have asked before, and not wait for the reply."""
         if self.again and self.world.random.random() * 1000 < HANGS_UP and self.are_settled():
             self.again -= 1
+            if self.world.random.random() < 0.4:
+                connection.ask()
             self.disconnect(connection)
             self.connect(connection.client)
         else:

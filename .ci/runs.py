@@ -65,9 +65,11 @@ def count_events(run, history, printed, *audit):
         raise Mistake(f"the server told: {rest}")
     trims = len(TRIMMED.findall(run.server.has_told()))
     connects = len(run.load.all) + run.load.again + len(run.load.late)
-    wanted = [f"calls {len(history.placed) + 2 * connects + 3 * trims}", *audit]
-    if printed != wanted:
-        raise Mistake(f"the server printed {printed} and not {wanted}")
+    # a call that nobody saw answered may have been made
+    may = sum(len(asked) for asked in history.flights.values())
+    counts = [len(history.placed) + 2 * connects + 3 * trims + flights for flights in range(may + 1)]
+    if printed not in [[f"calls {count}", *audit] for count in counts]:
+        raise Mistake(f"the server printed {printed} and not calls {counts[0]} to {counts[-1]}, {audit}")
 
 
 def load_and_compare(run, words, clients, again=0, audit=(), environment=None, play=(), waits=True, **how):
@@ -218,5 +220,6 @@ KINDS = {
     "kills": kills,
     "failed syncs": failed_syncs,
     "refused writes": refused_writes,
-    "little memory": little_memory,
 }
+# Only where they are named: an instrumented build has an allocator of its own, which can't be made to refuse.
+BY_HAND = {"little memory": little_memory}
