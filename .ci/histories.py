@@ -211,7 +211,8 @@ class Search:
             # of a group whose record was lost each call is answered so, while in a play the first one has brought the manager down
             is_same = found == wanted or wanted is None or (wanted, before, found) == (DOWN, DOWN, "-7 Nothing")
             if not is_same:
-                return place, f"place {place}, {line}: it was answered {wanted[:300]}, but a play prints {found[:300]}"
+                where = "" if place == NEVER else f"place {place}, "
+                return place, f"{where}{line}: it was answered {wanted[:300]}, but a play prints {found[:300]}"
             before = wanted
         return None, None
 

@@ -155,7 +155,7 @@ def kills(run):
     """The power fails under load. Of the calls that were under way any may have been done, in any order; else what a play's crash leaves
     is what the next server lists and reads."""
     path = serve_with_journal(run, "--loops", run.rng.choice(("2", "4")), "--trim", "0", FAULT=run.rng.choice(("slow 1+1", "slow 1+4")))
-    run.keep_busy(run.rng.choice((3, 4, 5)), seconds=run.rng.uniform(0.02, 0.4), most=800, restarts=3, trims=10)
+    run.keep_busy(run.rng.choice((3, 4, 5)), seconds=3, most=run.rng.randrange(20, 400), restarts=3, trims=10)
     run.load.kill()
     aftermath = fail_and_restart(run, path)
 
