@@ -96,8 +96,8 @@ def idle(run):
 def uneven(run):
     """Loops of which some have done much and others little: answers that one gives to the other are counted by it."""
     loops, clients = run.rng.choice(("2", "2", "4")), run.rng.choice((8, 12, 16))
-    mix = {"some_quiet": True, "longest": 8, "joined": run.rng.choice((0, 0.3)), "at_once": True}
-    load_and_compare(run, ("--loops", loops, "--trim", "0"), clients, seconds=4, most=run.rng.choice((150, 300, 600)), **mix)
+    mix = {"some_quiet": True, "longest": 8, "joined": run.rng.choice((0, 0, 0.3)), "at_once": True}
+    load_and_compare(run, ("--loops", loops, "--trim", "0"), clients, seconds=4, most=run.rng.choice((150, 250)), **mix)
 
 
 def crowd(run):
