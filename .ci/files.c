@@ -1,8 +1,13 @@
 /* Tells of each call on a file, and of each send, that a program makes which is run under it (LD_PRELOAD), by a line to the
    descriptor whose number stands in TELL: the call, the file's name, what was asked and what came of it. One call can be made to
    fail: FAULT has its name, which one of that name, counted from 1, and the error's number. The error 0 stands for a short write, of
-   half of the bytes, and a + behind the count for all from that one on. The name 'over' stands for each pwrite of more bytes than the
-   number says, and 'slow' for an fdatasync that takes so many milliseconds longer as the error says. */
+   half of the bytes, and a + behind the count for all from that one on, a / for each whose count is a multiple, and a - with a second
+   count for all from one to the other. The name 'over' stands for each pwrite of more bytes than the number says, and 'slow' for an
+   fdatasync that takes so many milliseconds longer as the error says.
+
+   To the descriptor whose number stands in JOURNAL it writes what a crash needs to know: each pwrite before it is made, with its bytes,
+   and where each thread's sync begins and has ended. A kill leaves what was written, synced or not; from this one can make the files
+   that a power failure leaves. */
 typedef unsigned long size_t;
 typedef long ssize_t;
 typedef long off_t;
@@ -21,18 +26,25 @@ extern ssize_t write(int file, const void *bytes, size_t count);
 extern int poll(void *files, unsigned long count, int milliseconds);
 extern void abort(void);
 
-enum { PREAD = 17, PWRITE = 18, SENDTO = 44, FSYNC = 74, FDATASYNC = 75 };
+enum { PREAD = 17, PWRITE = 18, SENDTO = 44, FSYNC = 74, FDATASYNC = 75, GETTID = 186 };
 
-static long to, number, error;
-static int goes_on;
+struct piece {
+    const void *bytes;
+    size_t count;
+};
+extern ssize_t writev(int file, const struct piece *pieces, int count);
+
+static long to, journal, number, last, error;
+static char form;
 static char name[16];
 
 __attribute__((constructor)) static void begin(void)
 {
-    const char *tell = getenv("TELL"), *fault = getenv("FAULT");
+    const char *tell = getenv("TELL"), *fault = getenv("FAULT"), *keeps = getenv("JOURNAL");
     char *rest;
     int at = 0;
     to = tell ? strtol(tell, &rest, 10) : 0;
+    journal = keeps ? strtol(keeps, &rest, 10) : 0;
     if (!fault)
         return;
     while (fault[at] && fault[at] != ' ' && at < 15) {
@@ -40,8 +52,10 @@ __attribute__((constructor)) static void begin(void)
         at++;
     }
     number = strtol(fault + at, &rest, 10);
-    goes_on = *rest == '+';
-    error = strtol(rest + goes_on, &rest, 10);
+    form = *rest;
+    if (form == '-')
+        last = strtol(rest + 1, &rest, 10);
+    error = strtol(rest + (form == '+' || form == '/'), &rest, 10);
 }
 
 /* whether this call of that name is the one that is to fail */
@@ -52,21 +66,53 @@ static int fails(const char *call)
     if (!number || strncmp(call, name, 16) != 0)
         return 0;
     count = __sync_add_and_fetch(&seen, 1);
-    return goes_on ? count >= number : count == number;
+    if (form == '/')
+        return count % number == 0;
+    if (form == '-')
+        return count >= number && count <= last;
+    return form == '+' ? count >= number : count == number;
+}
+
+/* the name of a file, and where it begins in the path */
+static const char *name_of(int file, char *path, size_t room)
+{
+    char link[64];
+    const char *slash;
+    ssize_t length;
+    snprintf(link, sizeof link, "/proc/self/fd/%d", file);
+    length = readlink(link, path, room - 1);
+    path[length < 0 ? 0 : length] = 0;
+    slash = strrchr(path, '/');
+    return slash ? slash + 1 : path;
+}
+
+/* an entry of the journal, in one write */
+static void note(const char *what, int file, const void *bytes, size_t count, long at)
+{
+    char path[512], line[640];
+    struct piece pieces[2];
+    int kept = *__errno_location();
+    if (!journal)
+        return;
+    pieces[0].bytes = line;
+    pieces[0].count = (size_t)snprintf(line, sizeof line, "%s %s %ld %ld\n", what, name_of(file, path, sizeof path), at, (long)count);
+    pieces[1].bytes = bytes;
+    pieces[1].count = count;
+    if (writev((int)journal, pieces, 2) != (ssize_t)(pieces[0].count + count))
+        abort();
+    *__errno_location() = kept;
 }
 
 static ssize_t told(const char *call, int file, long at, ssize_t answer)
 {
-    char link[64], path[512], line[640];
-    const char *last;
+    char path[512], line[640];
     ssize_t length;
     int kept = *__errno_location();
-    snprintf(link, sizeof link, "/proc/self/fd/%d", file);
-    length = readlink(link, path, sizeof path - 1);
-    path[length < 0 ? 0 : length] = 0;
-    last = strrchr(path, '/');
-    length = snprintf(line, sizeof line, "%s %s %ld %ld\n", call, last ? last + 1 : path, at, answer < 0 ? (long)-kept : (long)answer);
-    if (to && write((int)to, line, (size_t)length) != length)
+    if (!to)
+        return answer;
+    length = snprintf(line, sizeof line, "%s %s %ld %ld\n", call, name_of(file, path, sizeof path), at,
+                      answer < 0 ? (long)-kept : (long)answer);
+    if (write((int)to, line, (size_t)length) != length)
         abort();
     *__errno_location() = kept;
     return answer;
@@ -83,13 +129,30 @@ ssize_t pread(int file, void *bytes, size_t count, off_t at)
     return told("pread", file, at, fails("pread") ? failed() : syscall(PREAD, file, bytes, count, at));
 }
 
+static ssize_t written(int file, const void *bytes, size_t count, off_t at)
+{
+    note("pwrite", file, bytes, count, at);
+    return told("pwrite", file, at, syscall(PWRITE, file, bytes, count, at));
+}
+
 ssize_t pwrite(int file, const void *bytes, size_t count, off_t at)
 {
     if (strncmp("over", name, 16) == 0 && count > (size_t)number)
         return told("pwrite", file, at, failed());
     if (!fails("pwrite"))
-        return told("pwrite", file, at, syscall(PWRITE, file, bytes, count, at));
-    return told("pwrite", file, at, error ? failed() : syscall(PWRITE, file, bytes, (count + 1) / 2, at));
+        return written(file, bytes, count, at);
+    return error ? told("pwrite", file, at, failed()) : written(file, bytes, (count + 1) / 2, at);
+}
+
+/* a sync that isn't to fail */
+static int synced(long call, int file)
+{
+    int answer;
+    note("begin", file, (void *)0, 0, syscall(GETTID));
+    answer = (int)syscall(call, file);
+    if (answer == 0)
+        note("end", file, (void *)0, 0, syscall(GETTID));
+    return answer;
 }
 
 int fdatasync(int file)
@@ -97,7 +160,7 @@ int fdatasync(int file)
     /* counted by itself: it fails nothing */
     if (fails("slow"))
         poll((void *)0, 0, (int)error);
-    return (int)told("fdatasync", file, 0, fails("fdatasync") ? failed() : syscall(FDATASYNC, file));
+    return (int)told("fdatasync", file, 0, fails("fdatasync") ? failed() : synced(FDATASYNC, file));
 }
 
 int fsync(int file)
