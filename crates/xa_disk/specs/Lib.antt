@@ -3,6 +3,7 @@ pub mod Time
 pub mod Plans
 pub mod Counts
 pub mod RawCall
+pub mod Syncs
 pub mod Replay
 pub mod Keeping
 pub mod Images

@@ -10,3 +10,5 @@ pub data RawCall : Type 0 where
   Puts : (at : ℕ) (bytes : List ℕ) → RawCall
   -- what was written is made to last
   Syncs : RawCall
+  -- the answer is taken of a sync by a handle of the file, made behind the last write
+  Takes : RawCall

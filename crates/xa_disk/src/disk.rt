@@ -1,7 +1,9 @@
-ghost use Rattle.std.specs.Prelude.{◌≡◌, ◌≤◌, List, ℕ, length, IfOk, OnOk, OnErr};
+ghost use Rattle.std.specs.Prelude.{◌≡◌, ◌≤◌, List, ℕ, length, IfOk, IsErr, OnOk, OnErr};
 ghost use Rattle.xa_disk.specs.Counts.{with_length, with_read, with_write, with_sync};
 ghost use Rattle.xa_disk.specs.declared.counts.Counts.{Counts};
 ghost use Rattle.xa_disk.specs.Disk.{put, Torn, Same, Only, Passes, CountsFault, Reads};
+ghost use Rattle.xa_disk.specs.Syncs.{HasFailed};
+ghost use Rattle.xa_disk.specs.declared.syncer.Syncer.{Syncer};
 
 use crate::syncer::{SyncAnswer, Syncer};
 use thiserror::Error;
@@ -84,18 +86,32 @@ pub trait Disk {
         ensures calls { counts self.new ≡ with_sync (counts self.old) }
         ensures count { CountsFault result (failures self.old) (failures self.new) };
 
+    /// What makes the sync of this disk that is due.
+    ghost its_syncer: { Self → Syncer → Type 0 };
+
     /// What makes the next sync while others use the disk.
-    fn syncer(&self) -> Syncer;
+    fn syncer(&self) -> Syncer
+        ensures { its_syncer self.now result };
 
     /// Takes what a syncer of this disk was answered: as `sync`, which it makes itself where that isn't a sync of all that
-    /// was written.
+    /// was written. A sync that failed is one that fails here, whenever it was made and of whichever disk.
     fn take_sync(&mut self, answer: SyncAnswer) -> Result<(), DiskFault>
         ensures durable { honest → OnOk result (Only (seen self.old) (may_leave self.new)) }
         ensures same { honest → seen self.new ≡ seen self.old }
         ensures time { honest → Passes Same (moment self.old) (moment self.new)
             (left_since self.old) (left_since self.new) (may_leave self.old) (may_leave self.new) }
         ensures calls { counts self.new ≡ with_sync (counts self.old) }
-        ensures count { CountsFault result (failures self.old) (failures self.new) };
+        ensures count { CountsFault result (failures self.old) (failures self.new) }
+        ensures failed { HasFailed answer → IsErr result };
+
+    /// Takes what a syncer of this disk was answered, where its sync is no call of the disk: were it lost, an error of it
+    /// would be, too. Nothing else changes.
+    fn leave_sync(&mut self, answer: SyncAnswer)
+        ensures same { honest → seen self.new ≡ seen self.old }
+        ensures time { honest → Passes Same (moment self.old) (moment self.new)
+            (left_since self.old) (left_since self.new) (may_leave self.old) (may_leave self.new) }
+        ensures calls { counts self.new ≡ counts self.old }
+        ensures count { failures self.new ≡ failures self.old };
 
     /// Law: this moment is one of those since an earlier one.
     ghost counts_now: { (disk : Self) (t : ℕ) (c : List ℕ) → t ≤ moment disk → may_leave disk c → left_since disk t c };

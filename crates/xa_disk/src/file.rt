@@ -7,11 +7,13 @@
 ghost use Rattle.std.specs.Prelude.{◌≡◌, ◌≢◌, ◌≤◌, ◌∷◌, true, false, None, if◌then◌else◌, length, IfOk, OnOk, OnErr, IsErr, MatchResult};
 ghost use Rattle.xa_disk.specs.Counts.{no_calls, with_length, with_read, with_write, with_sync};
 ghost use Rattle.xa_disk.specs.Disk.{put, Torn, Same, Only, Passes, CountsFault, Reads};
-ghost use Rattle.xa_disk.specs.RawCall.{Measures, Gets, Puts, Syncs};
+ghost use Rattle.xa_disk.specs.RawCall.{Measures, Gets, Puts, Syncs, Takes};
+ghost use Rattle.xa_disk.specs.Syncs.{HasFailed, IsDue, IsDueSync, IsSyncerOf};
 
 use crate::opening::{locked, shared};
 use crate::syncer::{SyncAnswer, Syncer};
 use crate::tally::Tally;
+use crate::told::Told;
 use crate::{Disk, DiskFault, FileCall, FileFault, HostFile, RawFile};
 use std::fs::File;
 use std::io;
@@ -73,9 +75,7 @@ impl FileDisk<HostFile> {
         ensures whole { IfOk result (λ disk. disk.unsynced ≡ false) }
         ensures error { IfOk result (λ disk. disk.tally.error ≡ None) }
     {
-        let Ok(file) = HostFile::of(rt.alloc(), file) else {
-            return Err(FileFault::Memory);
-        };
+        let file = HostFile::of(rt.alloc(), file)?;
         FileDisk::on(rt, path, file)
     }
 }
@@ -111,22 +111,52 @@ impl<F: RawFile> FileDisk<F> {
     // Takes what a sync was answered, or syncs the file, unless a sync has failed.
     fn try_sync(&mut self, answer: SyncAnswer) -> io::Result<()>
         ensures refused { self.old.unsynced ≡ true → IsErr result }
+        ensures failed { HasFailed answer → IsErr result }
         ensures durable { F.honest → OnOk result (Only (F.seen self.old.file) (F.may_leave self.new.file)) }
         ensures same { F.honest → F.seen self.new.file ≡ F.seen self.old.file }
         ensures time { F.honest → Passes Same (F.moment self.old.file) (F.moment self.new.file)
             (F.left_since self.old.file) (F.left_since self.new.file)
             (F.may_leave self.old.file) (F.may_leave self.new.file) }
-        ensures called { F.recorded → F.calls self.new.file
-            ≡ (if self.old.unsynced then F.calls self.old.file else Syncs ∷ F.calls self.old.file) }
+        ensures none { F.recorded → self.old.unsynced ≡ true → F.calls self.new.file ≡ F.calls self.old.file }
+        ensures takes { F.recorded → self.old.unsynced ≡ false
+            → IsDueSync answer (F.file self.old.file) (F.written self.old.file)
+            → F.calls self.new.file ≡ Takes ∷ F.calls self.old.file }
+        ensures syncs { F.recorded → self.old.unsynced ≡ false
+            → (IsDueSync answer (F.file self.old.file) (F.written self.old.file) → ⊥)
+            → F.calls self.new.file ≡ Syncs ∷ F.calls self.old.file }
         ensures tally { self.new.tally ≡ self.old.tally }
     {
+        let told = answer.into_told();
         if self.unsynced {
             return Err(failed_before());
         }
-        match answer.answer_after(self.tally.counts.writes) {
-            Some(answered) => self.file.take_sync(answered),
+        match told {
+            Some(told) => self.take_told(told),
             None => self.file.sync(),
         }
+    }
+
+    // Takes what a sync was answered. Where that isn't one of all that was written to this file, the file is synced: that
+    // fails, too, if the other one has.
+    fn take_told(&mut self, told: Told) -> io::Result<()>
+        ensures failed { IsErr told.answer → IsErr result }
+        ensures durable { F.honest → OnOk result (Only (F.seen self.old.file) (F.may_leave self.new.file)) }
+        ensures same { F.honest → F.seen self.new.file ≡ F.seen self.old.file }
+        ensures time { F.honest → Passes Same (F.moment self.old.file) (F.moment self.new.file)
+            (F.left_since self.old.file) (F.left_since self.new.file)
+            (F.may_leave self.old.file) (F.may_leave self.new.file) }
+        ensures takes { F.recorded → IsDue told (F.file self.old.file) (F.written self.old.file)
+            → F.calls self.new.file ≡ Takes ∷ F.calls self.old.file }
+        ensures syncs { F.recorded → (IsDue told (F.file self.old.file) (F.written self.old.file) → ⊥)
+            → F.calls self.new.file ≡ Syncs ∷ F.calls self.old.file }
+        ensures tally { self.new.tally ≡ self.old.tally }
+    {
+        if told.is_due(self.file.id(), self.file.writes()) {
+            return self.file.take_sync(told);
+        }
+        let synced = self.file.sync();
+        told.into_answer()?;
+        synced
     }
 }
 
@@ -152,6 +182,8 @@ impl<F: RawFile> Disk for FileDisk<F> {
     ghost failures = { λ d. d.tally.failures };
 
     ghost counts = { λ d. d.tally.counts };
+
+    ghost its_syncer = { λ d s. IsSyncerOf s (F.file d.file) (F.written d.file) };
 
     ghost counts_now = { λ d. F.counts_now d.file };
 
@@ -238,10 +270,8 @@ impl<F: RawFile> Disk for FileDisk<F> {
         self.take_sync(SyncAnswer::none())
     }
 
-    fn syncer(&self) -> Syncer
-        ensures { result.writes ≡ self.now.tally.counts.writes }
-    {
-        Syncer::of(self.file.shared(), self.tally.counts.writes)
+    fn syncer(&self) -> Syncer {
+        Syncer::of(self.file.handle(), self.file.writes())
     }
 
     fn take_sync(&mut self, answer: SyncAnswer) -> Result<(), DiskFault>
@@ -250,8 +280,15 @@ impl<F: RawFile> Disk for FileDisk<F> {
         ensures time { F.honest → Passes Same (F.moment self.old.file) (F.moment self.new.file)
             (F.left_since self.old.file) (F.left_since self.new.file)
             (F.may_leave self.old.file) (F.may_leave self.new.file) }
-        ensures called { F.recorded → F.calls self.new.file
-            ≡ (if self.old.unsynced then F.calls self.old.file else Syncs ∷ F.calls self.old.file) }
+        ensures none { F.recorded → self.old.unsynced ≡ true → F.calls self.new.file ≡ F.calls self.old.file }
+        // The answer of the sync that is due is taken, and of no other: behind another one the file is synced.
+        ensures takes { F.recorded → self.old.unsynced ≡ false
+            → IsDueSync answer (F.file self.old.file) (F.written self.old.file)
+            → F.calls self.new.file ≡ Takes ∷ F.calls self.old.file }
+        ensures syncs { F.recorded → self.old.unsynced ≡ false
+            → (IsDueSync answer (F.file self.old.file) (F.written self.old.file) → ⊥)
+            → F.calls self.new.file ≡ Syncs ∷ F.calls self.old.file }
+        ensures failed { HasFailed answer → IsErr result }
         ensures refused { self.old.unsynced ≡ true → IsErr result }
         ensures unsynced { MatchResult result (λ _. self.new.unsynced ≡ false) (λ _. self.new.unsynced ≡ true) }
         ensures calls { self.new.tally.counts ≡ with_sync self.old.tally.counts }
@@ -265,5 +302,19 @@ impl<F: RawFile> Disk for FileDisk<F> {
         let answer = self.tally.answer(FileCall::Sync, synced);
         self.unsynced = answer.is_err();
         answer
+    }
+
+    fn leave_sync(&mut self, answer: SyncAnswer)
+        ensures time { F.honest → Passes Same (F.moment self.old.file) (F.moment self.new.file)
+            (F.left_since self.old.file) (F.left_since self.new.file)
+            (F.may_leave self.old.file) (F.may_leave self.new.file) }
+        ensures file { self.new.file ≡ self.old.file }
+        ensures tally { self.new.tally ≡ self.old.tally }
+        ensures failed { HasFailed answer → self.new.unsynced ≡ true }
+        ensures unsynced { self.old.unsynced ≡ true → self.new.unsynced ≡ true }
+    {
+        if answer.has_failed() {
+            self.unsynced = true;
+        }
     }
 }

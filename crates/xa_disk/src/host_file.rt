@@ -5,10 +5,13 @@
 ghost use Rattle.std.specs.Prelude.{◌≡◌, [], refl};
 ghost use Rattle.xa_disk.specs.Images.{torn_by_nothing};
 
-use crate::RawFile;
-use std::alloc::{AllocError, Global};
+use crate::file_id::FileId;
+use crate::shared_file::HostHandle;
+use crate::told::Told;
+use crate::{FileCall, FileFault, RawFile};
+use std::alloc::Global;
 use std::fs::File;
-use std::os::unix::fs::FileExt;
+use std::os::unix::fs::{FileExt, MetadataExt};
 use std::sync::Arc;
 use std::{fmt, io};
 
@@ -16,13 +19,32 @@ use std::{fmt, io};
 #[derive(Drop)]
 pub struct HostFile {
     file: Arc<File, Global>,
+    id: FileId,
+    writes: u64,
 }
 
 impl HostFile {
-    pub(crate) fn of(alloc: Global, file: File) -> Result<HostFile, AllocError> {
-        Ok(HostFile {
-            file: Arc::new(alloc, file)?,
-        })
+    pub(crate) fn of(alloc: Global, file: File) -> Result<HostFile, FileFault> {
+        let id = match file.metadata() {
+            Ok(found) => FileId {
+                device: found.dev(),
+                inode: found.ino(),
+            },
+            Err(error) => {
+                return Err(FileFault::Call {
+                    call: FileCall::Length,
+                    error,
+                });
+            }
+        };
+        match Arc::new(alloc, file) {
+            Ok(file) => Ok(HostFile {
+                file,
+                id,
+                writes: 0,
+            }),
+            Err(_) => Err(FileFault::Memory),
+        }
     }
 }
 
@@ -43,6 +65,10 @@ impl RawFile for HostFile {
 
     ghost calls = { λ _. [] };
 
+    ghost file = { λ f. f.id };
+
+    ghost written = { λ f. f.writes };
+
     ghost counts_now = { λ _ _ _ _ now. now };
 
     ghost only_now = { λ _ _ left. left };
@@ -50,6 +76,14 @@ impl RawFile for HostFile {
     ghost tears_torn = { torn_by_nothing };
 
     ghost seen_may_stay = { λ _. refl };
+
+    fn id(&self) -> FileId {
+        self.id
+    }
+
+    fn writes(&self) -> u64 {
+        self.writes
+    }
 
     fn length(&mut self) -> io::Result<u64> {
         Ok(self.file.metadata()?.len())
@@ -60,6 +94,7 @@ impl RawFile for HostFile {
     }
 
     fn write_at(&mut self, at: u64, from: &[u8]) -> io::Result<()> {
+        self.writes = self.writes.saturating_add(1);
         self.file.write_all_at(from, at)
     }
 
@@ -68,13 +103,16 @@ impl RawFile for HostFile {
         self.file.sync_data()
     }
 
-    fn shared(&self) -> Option<Arc<File, Global>> {
-        Arc::try_clone(&self.file).ok()
+    fn handle(&self) -> Option<HostHandle> {
+        match Arc::try_clone(&self.file) {
+            Ok(file) => Some(HostHandle::new(file, self.id)),
+            Err(_) => None,
+        }
     }
 
-    // Whoever made the sync made it by the same description of the file, so an error is told to one of them alone.
-    fn take_sync(&mut self, answer: io::Result<()>) -> io::Result<()> {
-        answer
+    // The sync was made by the same description of the file, so an error of it is told to nobody else.
+    fn take_sync(&mut self, told: Told) -> io::Result<()> {
+        told.into_answer()
     }
 }
 

@@ -9,7 +9,8 @@
 //! - `file`: `FileDisk`, a file, which is a disk where its `RawFile` is; with `tally` (its counts) and `teller` (what
 //!   tells its first fault)
 //! - `raw_file`: the trait `RawFile`, the calls on an open file; `host_file`: `HostFile`, the system's
-//! - `syncer`: `Syncer`, which makes a sync while others use the disk, and `SyncAnswer`, what it was answered
+//! - `syncer`: `Syncer`, which makes a sync while others use the disk, and `SyncAnswer`, what it was answered, if it was made:
+//!   `Told`; by a handle of the file (`shared_file`: `SharedFile`, `HostHandle`), which has the file's number (`file_id`)
 //! - `opening`: how a file is taken as a disk, and `file_fault`: `FileFault`, why it isn't; `file_call`: `FileCall`, the
 //!   system's calls on files
 //! - `opens`: `Opens`, what opens files as disks
@@ -23,24 +24,30 @@ mod faults;
 mod file;
 mod file_call;
 mod file_fault;
+mod file_id;
 mod host_file;
 mod memory;
 mod opening;
 mod opens;
 mod plan;
 mod raw_file;
+mod shared_file;
 mod syncer;
 mod tally;
 mod teller;
+mod told;
 
 pub use counts::Counts;
 pub use disk::{Disk, DiskFault};
 pub use file::FileDisk;
 pub use file_call::FileCall;
 pub use file_fault::FileFault;
+pub use file_id::FileId;
 pub use host_file::HostFile;
 pub use memory::MemDisk;
 pub use opens::Opens;
 pub use plan::Effect;
 pub use raw_file::RawFile;
+pub use shared_file::{HostHandle, SharedFile};
 pub use syncer::{SyncAnswer, Syncer};
+pub use told::Told;

@@ -1,6 +1,6 @@
 //! A disk in memory that keeps a record of its writes and syncs.
 ghost use Rattle.std.specs.Prelude.{◌≡◌, ◌⊎◌, ◌+◌, ◌≤◌, ◌<◌, ◌≢◌, ◌↔◌, ℕ, [], ⊤, false};
-ghost use Rattle.std.specs.Prelude.{length, Some, None, OnOk, OnErr, IfOk, MatchBool, MatchResult, IsTrue, is_ok};
+ghost use Rattle.std.specs.Prelude.{length, Some, None, OnOk, OnErr, IfOk, IsErr, MatchBool, MatchResult, IsTrue, is_ok};
 ghost use Rattle.xa_disk.specs.Disk.{put, Torn, Same, Only, AllOrNone, CountsFault, Reads};
 ghost use Rattle.xa_disk.specs.Replay.{first_of, replay, IsImage, LeftSince};
 ghost use Rattle.xa_disk.specs.Images.{counts_now, only_now, stays_of, all_or_none_torn};
@@ -226,6 +226,7 @@ impl MemDisk {
 impl Disk for MemDisk {
     ghost use Rattle.xa_disk.specs.Counts.{with_length, with_read, with_write, with_sync};
     ghost use Rattle.xa_disk.specs.Memory.{Keeps, Wrote, Synced, PassesTime, CountsDown, Heeds, image_of, planned};
+    ghost use Rattle.xa_disk.specs.Syncs.{HasFailed};
 
     ghost honest = { ⊤ };
 
@@ -244,6 +245,8 @@ impl Disk for MemDisk {
     ghost failures = { λ d. d.failures };
 
     ghost counts = { λ d. d.counts };
+
+    ghost its_syncer = { λ _ s. s.handle ≡ None };
 
     ghost counts_now = { λ d t c le now. counts_now d.first d.calls t c le now };
 
@@ -319,7 +322,7 @@ impl Disk for MemDisk {
         Syncer::none()
     }
 
-    fn take_sync(&mut self, _answer: SyncAnswer) -> Result<(), DiskFault>
+    fn take_sync(&mut self, answer: SyncAnswer) -> Result<(), DiskFault>
         ensures durable { OnOk result (Only self.old.bytes (image_of self.new)) }
         ensures same { self.new.bytes ≡ self.old.bytes }
         ensures time { PassesTime Same self.old self.new }
@@ -328,7 +331,19 @@ impl Disk for MemDisk {
         ensures later { CountsDown self.old self.new }
         ensures heeds { Heeds (planned self.old 1) result
             (Synced self.old self.new) (Keeps self.old self.new) (Keeps self.old self.new) }
+        ensures failed { HasFailed answer → IsErr result }
     {
+        if answer.has_failed() {
+            let plan = self.begin(self.counts.with_sync());
+            return self.end(plan, false);
+        }
         self.sync()
+    }
+
+    fn leave_sync(&mut self, answer: SyncAnswer)
+        ensures time { PassesTime Same self.old self.new }
+        ensures keeps { self.new ≡ self.old }
+    {
+        let _has_failed = answer.has_failed();
     }
 }

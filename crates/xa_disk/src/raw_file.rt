@@ -1,16 +1,19 @@
-use std::alloc::Global;
-use std::fs::File;
+use crate::file_id::FileId;
+use crate::shared_file::HostHandle;
+use crate::told::Told;
 use std::io;
-use std::sync::Arc;
 
 /// The calls of the system on one open file that a disk is made of: each is made once, with these arguments.
 ///
 /// The ghost members are those of `Disk`, and the clauses on values say of a file what `Disk` says of a disk, where
 /// `honest` holds of the type. `calls` is the record of the calls, where `recorded` holds of the type.
 pub trait RawFile {
-    ghost use Rattle.std.specs.Prelude.{◌≡◌, ◌≤◌, ◌∷◌, List, ℕ, length, IfOk, OnOk, OnErr};
+    ghost use Rattle.std.specs.Prelude.{◌≡◌, ◌≤◌, ◌∷◌, List, ℕ, length, IfOk, IfSome, OnOk, OnErr};
+    ghost use Rattle.xa_disk.specs.Counts.{plus};
     ghost use Rattle.xa_disk.specs.Disk.{put, Torn, Same, Only, Passes, Reads};
-    ghost use Rattle.xa_disk.specs.RawCall.{RawCall, Measures, Gets, Puts, Syncs};
+    ghost use Rattle.xa_disk.specs.RawCall.{RawCall, Measures, Gets, Puts, Syncs, Takes};
+    ghost use Rattle.xa_disk.specs.Syncs.{IsDue};
+    ghost use Rattle.xa_disk.specs.declared.file_id.FileId.{FileId};
 
     /// The clauses on values hold of this type of file.
     ghost honest: { Type 0 };
@@ -36,13 +39,26 @@ pub trait RawFile {
     /// Each call that was made, failed or not, the newest first.
     ghost calls: { Self → List RawCall };
 
+    /// Which file it is.
+    ghost file: { Self → FileId };
+
+    /// How many writes were asked for, failed or not; at 2^64 - 1 it stays.
+    ghost written: { Self → ℕ };
+
+    fn id(&self) -> FileId
+        ensures { result ≡ file self.now };
+
+    fn writes(&self) -> u64
+        ensures { result ≡ written self.now };
+
     /// How many bytes a read can give.
     fn length(&mut self) -> io::Result<u64>
         ensures value { honest → IfOk result (λ n. n ≡ length (seen self.old)) }
         ensures same { honest → seen self.new ≡ seen self.old }
         ensures time { honest → Passes Same (moment self.old) (moment self.new)
             (left_since self.old) (left_since self.new) (may_leave self.old) (may_leave self.new) }
-        ensures called { recorded → calls self.new ≡ Measures ∷ calls self.old };
+        ensures called { recorded → calls self.new ≡ Measures ∷ calls self.old }
+        ensures file { (file self.new ≡ file self.old) × (written self.new ≡ written self.old) };
 
     /// Fills `into` with the bytes from an offset on. A read past the length is an error.
     fn read_at(&mut self, at: u64, into: &mut [u8]) -> io::Result<()>
@@ -51,7 +67,8 @@ pub trait RawFile {
         ensures same { honest → seen self.new ≡ seen self.old }
         ensures time { honest → Passes Same (moment self.old) (moment self.new)
             (left_since self.old) (left_since self.new) (may_leave self.old) (may_leave self.new) }
-        ensures called { recorded → calls self.new ≡ Gets at (length into.old) ∷ calls self.old };
+        ensures called { recorded → calls self.new ≡ Gets at (length into.old) ∷ calls self.old }
+        ensures file { (file self.new ≡ file self.old) × (written self.new ≡ written self.old) };
 
     /// Writes over what is there, and past the end; a gap before the offset is filled with zeros.
     fn write_at(&mut self, at: u64, from: &[u8]) -> io::Result<()>
@@ -60,7 +77,8 @@ pub trait RawFile {
         ensures failed { honest → OnErr result (tears (seen self.old) at from.now (seen self.new)) }
         ensures time { honest → Passes (Torn at (length from.now)) (moment self.old) (moment self.new)
             (left_since self.old) (left_since self.new) (may_leave self.old) (may_leave self.new) }
-        ensures called { recorded → calls self.new ≡ Puts at from.now ∷ calls self.old };
+        ensures called { recorded → calls self.new ≡ Puts at from.now ∷ calls self.old }
+        ensures file { (file self.new ≡ file self.old) × (written self.new ≡ plus (written self.old) 1) };
 
     /// Makes what a read gives what a crash leaves.
     fn sync(&mut self) -> io::Result<()>
@@ -68,18 +86,23 @@ pub trait RawFile {
         ensures same { honest → seen self.new ≡ seen self.old }
         ensures time { honest → Passes Same (moment self.old) (moment self.new)
             (left_since self.old) (left_since self.new) (may_leave self.old) (may_leave self.new) }
-        ensures called { recorded → calls self.new ≡ Syncs ∷ calls self.old };
+        ensures called { recorded → calls self.new ≡ Syncs ∷ calls self.old }
+        ensures file { (file self.new ≡ file self.old) × (written self.new ≡ written self.old) };
 
-    /// The file, for a sync while others use it; None where its syncs are made here alone.
-    fn shared(&self) -> Option<Arc<File, Global>>;
+    /// A handle of this file, for a sync while others use it; None where its syncs are made here alone.
+    fn handle(&self) -> Option<HostHandle>
+        ensures { IfSome result (λ handle. handle.id ≡ file self.now) };
 
-    /// Takes what a sync of `shared` was answered that was made after the last write: as `sync`.
-    fn take_sync(&mut self, answer: io::Result<()>) -> io::Result<()>
+    /// Takes what a sync by a handle of this file was answered that was made behind the last write: as `sync`.
+    fn take_sync(&mut self, told: Told) -> io::Result<()>
+        requires { IsDue told (file self.old) (written self.old) }
+        ensures is { result ≡ told.answer }
         ensures durable { honest → OnOk result (Only (seen self.old) (may_leave self.new)) }
         ensures same { honest → seen self.new ≡ seen self.old }
         ensures time { honest → Passes Same (moment self.old) (moment self.new)
             (left_since self.old) (left_since self.new) (may_leave self.old) (may_leave self.new) }
-        ensures called { recorded → calls self.new ≡ Syncs ∷ calls self.old };
+        ensures called { recorded → calls self.new ≡ Takes ∷ calls self.old }
+        ensures file { (file self.new ≡ file self.old) × (written self.new ≡ written self.old) };
 
     /// Law: this moment is one of those since an earlier one.
     ghost counts_now: { (file : Self) (t : ℕ) (c : List ℕ) → t ≤ moment file → may_leave file c → left_since file t c };

@@ -1,81 +1,81 @@
 //! A sync that is made while others use the disk.
-ghost use Rattle.std.specs.Prelude.{◌≡◌, ◌≢◌, None};
+ghost use Rattle.std.specs.Prelude.{◌≡◌, None, MatchBool};
+ghost use Rattle.xa_disk.specs.Syncs.{HasFailed};
 
-use std::alloc::Global;
-use std::fs::File;
-use std::sync::Arc;
-use std::{fmt, io};
+use crate::shared_file::HostHandle;
+use crate::told::Told;
+use std::fmt;
 
 /// Makes the sync that is due of a disk's file. Whoever has it needn't have the disk: others may read it meanwhile, and a
-/// write is none of this sync's.
-#[derive(Drop)]
+/// write is none of this sync's. It can't be let go: its sync is made.
 pub struct Syncer {
     /// None where the disk makes its syncs itself.
-    file: Option<Arc<File, Global>>,
+    handle: Option<HostHandle>,
     /// How many writes there had been.
     writes: u64,
 }
 
-/// What a sync by a `Syncer` was answered. Its disk takes it (`Disk::take_sync`): the system may tell an error once, so one
-/// that isn't taken is lost.
-#[derive(Debug, Drop)]
+/// What a sync by a `Syncer` was answered. Its disk takes it (`Disk::take_sync`, `Disk::leave_sync`): the system may tell an
+/// error once, so one that is lost would be taken for none. So it can't be let go otherwise.
+#[derive(Debug)]
 pub struct SyncAnswer {
-    answer: Option<io::Result<()>>,
-    writes: u64,
-}
-
-impl SyncAnswer {
     /// None: the disk is to make the sync.
-    pub fn none() -> SyncAnswer
-        ensures { result.answer ≡ None }
-    {
-        SyncAnswer {
-            answer: None,
-            writes: 0,
-        }
-    }
+    told: Option<Told>,
 }
 
 impl Syncer {
     /// One that leaves the sync to the disk.
-    pub fn none() -> Syncer {
+    pub fn none() -> Syncer
+        ensures { result.handle ≡ None }
+    {
         Syncer {
-            file: None,
+            handle: None,
             writes: 0,
         }
     }
 
     /// One of a file to which there were so many writes.
-    pub(crate) fn of(file: Option<Arc<File, Global>>, writes: u64) -> Syncer
-        ensures { result.writes ≡ writes }
+    pub(crate) fn of(handle: Option<HostHandle>, writes: u64) -> Syncer
+        ensures { (result.handle ≡ handle) × (result.writes ≡ writes) }
     {
-        Syncer { file, writes }
+        Syncer { handle, writes }
     }
 
     /// Makes the sync.
-    pub fn sync(self) -> SyncAnswer
-        ensures { result.writes ≡ self.writes }
-    {
-        let Syncer { file, writes } = self;
-        let answer = match file {
-            Some(file) => Some(file.sync_data()),
-            None => None,
-        };
-        SyncAnswer { answer, writes }
+    pub fn sync(self) -> SyncAnswer {
+        let Syncer { handle, writes } = self;
+        match handle {
+            Some(handle) => SyncAnswer {
+                told: Some(Told::by(&handle, writes)),
+            },
+            None => SyncAnswer::none(),
+        }
     }
 }
 
 impl SyncAnswer {
-    /// What was answered of a file to which there were so many writes by now. None where the sync was left to the disk, or
-    /// was made before the last of them.
-    pub(crate) fn answer_after(self, writes: u64) -> Option<io::Result<()>>
-        ensures stale { self.writes ≢ writes → result ≡ None }
-        ensures none { self.answer ≡ None → result ≡ None }
+    /// None: the disk is to make the sync.
+    pub fn none() -> SyncAnswer
+        ensures { result.told ≡ None }
     {
-        if self.writes == writes && writes < u64::MAX {
-            self.answer
-        } else {
-            None
+        SyncAnswer { told: None }
+    }
+
+    /// What was told, where a sync was made.
+    pub(crate) fn into_told(self) -> Option<Told>
+        ensures { result ≡ self.told }
+    {
+        let SyncAnswer { told } = self;
+        told
+    }
+
+    /// Whether a sync was made, and failed.
+    pub(crate) fn has_failed(self) -> bool
+        ensures { MatchBool result (HasFailed self) (HasFailed self → ⊥) }
+    {
+        match self.into_told() {
+            Some(told) => told.into_answer().is_err(),
+            None => false,
         }
     }
 }

@@ -1,5 +1,5 @@
 //! How a record goes to the disk.
-ghost use Rattle.std.specs.Prelude.{◌≡◌, ◌≢◌, ℕ, ◌+◌, ◌-◌, ◌≤◌, List, length, take, Ok, OnOk, OnErr, MatchResult};
+ghost use Rattle.std.specs.Prelude.{◌≡◌, ◌≢◌, ℕ, ◌+◌, ◌-◌, ◌≤◌, List, length, take, IsErr, Ok, OnOk, OnErr, MatchResult};
 ghost use Rattle.xa_disk.specs.Counts.{with_sync};
 ghost use Rattle.xa_disk.specs.Disk.{put, Torn, Same, Only, CountsFault};
 ghost use Rattle.xa_disk.specs.Time.{TimePasses};
@@ -117,10 +117,15 @@ fn synced_by<D: Disk>(
     ensures written { OnOk result (write ≡ Ok tt) }
     ensures calls { MatchResult write
         (λ _. CountsFault result (D.failures disk.old) (D.failures disk.new) × (D.counts disk.new ≡ with_sync (D.counts disk.old)))
-        (λ _. disk.new ≡ disk.old) }
+        (λ _. IsErr result × (D.failures disk.new ≡ D.failures disk.old) × (D.counts disk.new ≡ D.counts disk.old)) }
 {
-    write?;
-    disk.take_sync(answer)
+    match write {
+        Ok(()) => disk.take_sync(answer),
+        Err(fault) => {
+            disk.leave_sync(answer);
+            Err(fault)
+        }
+    }
 }
 
 // Writes the bytes and syncs. If that fails, clears the first `len`, which alone count.

@@ -125,7 +125,9 @@ impl<D: Disk> Log<D> {
     }
 
     /// What makes the sync of a group that was written.
-    pub fn syncer(&self) -> Syncer {
+    pub fn syncer(&self) -> Syncer
+        ensures { D.its_syncer self.now.disk result }
+    {
         self.disk.syncer()
     }
 

@@ -62,7 +62,9 @@ impl<D: Disk> Manager<D> {
     }
 
     /// What makes the sync of the pending group.
-    pub fn syncer(&self) -> Syncer {
+    pub fn syncer(&self) -> Syncer
+        ensures { D.its_syncer (log_of self.now).disk result }
+    {
         self.log.syncer()
     }
 }

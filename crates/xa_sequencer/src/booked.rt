@@ -183,7 +183,8 @@ impl<M: GroupCommits, S: Start, L: Ledger> Booked<M, S, L> {
     /// Answers the calls of the pending group, by their sync's answer: the answers go to their senders' trays.
     ///
     /// # Errors
-    /// Out of memory: gives the answer back, and the group is still pending.
+    /// Out of memory: gives the answer back, and the group is still pending. So it does where no group is pending, which
+    /// never is while somebody has an answer.
     pub(crate) fn finish_mail(&mut self, answer: SyncAnswer) -> Result<(), SyncAnswer> {
         let Booked {
             sequencer,
@@ -193,7 +194,7 @@ impl<M: GroupCommits, S: Start, L: Ledger> Booked<M, S, L> {
             ..
         } = self;
         if sequencer.is_settled() {
-            return Ok(());
+            return Err(answer);
         }
         sequencer.promises();
         let (replies, calls) = sequencer.finish_group(answer)?;

@@ -11,6 +11,7 @@ use xa_manager::Asked;
 pub trait GroupCommits {
     ghost use Rattle.std.specs.Prelude.{◌≡◌, ◌≢◌, ◌+◌, true, is_none, List, Option, None, Some, MatchResult, IfErr, IfOk, OnErr, OnOk, pos};
     ghost use Rattle.std.specs.List.{AllByRecursion};
+    ghost use Rattle.xa_disk.specs.declared.syncer.Syncer.{Syncer};
     ghost use Rattle.xa_frame.specs.Limits.{IsReply};
     ghost use Rattle.xa_model.specs.{declared.event.Event.Event, Answer.plain, Events.IsAsked, State.State};
     ghost use Rattle.xa_manager.specs.{Answered.connect_reply, Once.AreOnce, Status.status_of, declared.together.Asked.Asked};
@@ -73,7 +74,11 @@ pub trait GroupCommits {
         ensures sessions { manages.sessions self.new ≡ manages.sessions self.old };
 
     /// What makes the sync of the pending group.
-    fn syncer(&self) -> Syncer;
+    ghost its_syncer: { Self → Syncer → Type 0 };
+
+    /// What makes the sync of the pending group.
+    fn syncer(&self) -> Syncer
+        ensures { its_syncer self.now result };
 
     /// Answers the pending group's calls, by the answer of its sync: gives the replies in the order in which they were
     /// answered, each with the place of its call among those that were asked, and the calls back. Of a call that has no

@@ -28,11 +28,14 @@ impl<D: Disk> GroupManager<D> {
 }
 
 impl<D: Disk> GroupCommits for GroupManager<D> {
+    ghost use Rattle.xa_manager.specs.Parts.{log_of};
     ghost use Rattle.xa_sequencer.specs.GroupManager.{OwnsItsGroup, manages_of, owns_none, pending_of};
 
     ghost manages = { manages_of D.Disk };
 
     ghost pending = { λ g. pending_of g };
+
+    ghost its_syncer = { λ g s. D.its_syncer (log_of g.manager).disk s };
 
     ghost has_its_group = { λ g. OwnsItsGroup g };
 

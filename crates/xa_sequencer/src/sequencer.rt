@@ -130,7 +130,9 @@ impl<M: GroupCommits, S: Start> Sequencer<M, S> {
     }
 
     /// What makes the sync of the pending group.
-    pub fn syncer(&self) -> Syncer {
+    pub fn syncer(&self) -> Syncer
+        ensures { M.its_syncer self.now.now result }
+    {
         self.manager.syncer()
     }
 

@@ -132,23 +132,33 @@ fn a_file_in_a_folder(rt: HostRuntime) {
     assert!(rt; is_a_disk(&mut disk) && is_removed(&rt, path.as_str()));
 }
 
-// A sync that was made apart is taken, and so is one that was made before the last write, or none at all: the disk then
-// makes its own.
-fn takes_syncs(disk: &mut FileDisk) -> Result<(), DiskFault> {
+// A sync that was made apart is taken, and so is one that was made before the last write, one of another file, or none at
+// all: the disk then makes its own. One may also be left.
+fn takes_syncs(disk: &mut FileDisk, other: &mut FileDisk) -> Result<(), DiskFault> {
     disk.write_at(0, b"a".as_slice())?;
     let answer = disk.syncer().sync();
     disk.take_sync(answer)?;
     let early = disk.syncer().sync();
-    disk.write_at(1, b"b".as_slice())?;
+    let written = disk.write_at(1, b"b".as_slice());
     disk.take_sync(early)?;
+    written?;
+    other.write_at(0, b"a".as_slice())?;
+    other.write_at(1, b"b".as_slice())?;
+    let others = other.syncer().sync();
+    disk.take_sync(others)?;
+    let left = disk.syncer().sync();
+    disk.leave_sync(left);
     disk.take_sync(SyncAnswer::none())
 }
 
 #[test]
 fn a_sync_is_made_apart(rt: HostRuntime) {
     let path = path_of(&rt, "xa_disk-apart").expect(&rt, "a path");
+    let second = path_of(&rt, "xa_disk-beside").expect(&rt, "a path");
     let mut disk = file_at(&rt, path.as_str()).expect(&rt, "a disk");
-    assert!(rt; takes_syncs(&mut disk) == Ok(()) && is_removed(&rt, path.as_str()));
+    let mut other = file_at(&rt, second.as_str()).expect(&rt, "a disk");
+    let are_taken = takes_syncs(&mut disk, &mut other) == Ok(());
+    assert!(rt; are_taken && is_removed(&rt, path.as_str()) && is_removed(&rt, second.as_str()));
 }
 
 // Why a path isn't taken as a disk.

@@ -7,7 +7,7 @@ ghost use Rattle.xa_model.specs.Events.{IsAsked};
 
 use std::alloc::Global;
 use xa_codes::{Bytes, XA_OK};
-use xa_disk::{Effect, MemDisk};
+use xa_disk::{Disk, Effect, MemDisk};
 use xa_frame::{Reply, Request};
 use xa_manager::{Asked, Manager, PendingGroup, Settings, connect_reply};
 use xa_rows::Play;
@@ -157,7 +157,12 @@ fn finished(
     };
     match finished {
         Ok((replies, _calls)) if is_right => Some(replies),
-        _ => None,
+        Ok(_) => None,
+        Err((_group, answer)) => {
+            // the manager isn't used any more, so any disk may have it
+            MemDisk::new(alloc).leave_sync(answer);
+            None
+        }
     }
 }
 
