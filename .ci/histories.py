@@ -19,9 +19,13 @@ from loads import Mistake
 LOGS = ("prepare", "commit", "rollback", "decide", "forget", "trim", "restart")
 STATUS = re.compile(r"(-6 Nothing|0 Nothing status( [a-z]+ \d+){10})")
 NEVER = 1 << 62
-# How many plays may look for the places of what had no reply.
-MOST_PLAYS = 300
+# How many plays may look for the places of what had no reply, and how many assignments of them that come to no play.
+MOST_PLAYS, MOST_TRIES = 300, 20_000
 DOWN = "-7 Device"
+
+
+class Undecided(Exception):
+    """It wasn't found out whether a run was right: there are too many orders of what had no reply."""
 
 
 class Step:
@@ -145,31 +149,57 @@ class Search:
                 if not step.may_lack:
                     break
                 number += 1
-        return sorted(found) + sorted(connects)[:1]
+        found.sort(key=lambda it: (self.is_flight(it), it))
+        return found + sorted(connects)[:1]
+
+    def is_flight(self, option):
+        return self.history.actors[option[2]][option[3]].kind == "flight"
 
     def assign(self, path):
-        """Gives each place that no reply has to a step, by these choices, and by the first ones behind them. The steps by place, from how
-        many each was chosen, and the place for which there was none."""
-        at, steps, counts = [0] * len(self.history.actors), {}, []
+        """Gives each place that no reply has to a step, by these choices, and by the first ones behind them. The steps by place, from which
+        options each was chosen, and the place for which there was none."""
+        at, steps, chosen = [0] * len(self.history.actors), {}, []
         for index, place in enumerate(self.history.missing):
             options = self.options(place, at)
             if not options:
-                return steps, counts, place
+                return steps, chosen, place
             _, _, actor, number = options[path[index] if index < len(path) else 0]
             at[actor] = number + 1
             steps[place] = self.history.actors[actor][number]
-            counts.append(len(options))
+            chosen.append(options)
         # a connection that is in no place yet, but asked something
         late = [acts[0].high for acts, number in zip(self.history.actors, at) if acts and not number and acts[0].high <= self.history.last]
-        return steps, counts, min(late, default=None)
+        return steps, chosen, min(late, default=None)
+
+    def with_flight(self, path, chosen):
+        """The last of these choices where a call that nobody saw answered is taken in place of what was. A place that is nobody's, since all
+        that might have it is used up, becomes somebody's by one more such call alone, in whichever order the others are."""
+        for index in range(len(chosen) - 1, -1, -1):
+            for number in range(path[index] + 1, len(chosen[index])):
+                if self.is_flight(chosen[index][number]):
+                    return [*path[:index], number]
+        return None
+
+    def next_path(self, path, chosen, lacks):
+        """The next choices, where these were wrong at a place. None where there are no others."""
+        if len(chosen) < len(self.history.missing) and not self.is_overdue(chosen, path, lacks):
+            return self.with_flight(path, chosen)
+        before = enumerate(self.history.missing[: len(chosen)])
+        open_ones = [index for index, place in before if place <= lacks and path[index] + 1 < len(chosen[index])]
+        return [*path[: open_ones[-1]], path[open_ones[-1]] + 1] if open_ones else None
+
+    def is_overdue(self, chosen, path, place):
+        """Whether a connection that asked something before a place isn't connected by these choices."""
+        begun = {options[number][2] for options, number in zip(chosen, path)}
+        return any(acts and acts[0].high < place and actor not in begun for actor, acts in enumerate(self.history.actors))
 
     def find(self, then=None):
         """Plays one assignment after the other until one agrees, and with it what comes then: a function of the steps that says nothing
         where that is well, and else what isn't. What was wrong, and with which steps, of the one that agreed up to the highest place."""
         path, furthest = [], (0, "nothing was tried", {})
-        for _ in range(MOST_PLAYS):
-            steps, counts, lacks = self.assign(path)
-            path = path[: len(counts)] + [0] * (len(counts) - len(path))
+        for _ in range(MOST_TRIES):
+            steps, chosen, lacks = self.assign(path)
+            path = path[: len(chosen)] + [0] * (len(chosen) - len(path))
             if lacks is None:
                 lacks, wrong = self.play(steps)
                 if lacks is None and then and (wrong := then(steps)):
@@ -179,12 +209,12 @@ class Search:
             else:
                 wrong = f"place {lacks} is nobody's"
             furthest = max(furthest, (lacks, wrong, steps), key=lambda it: it[0])
-            before = enumerate(self.history.missing[: len(counts)])
-            open_ones = [index for index, place in before if place <= lacks and path[index] + 1 < counts[index]]
-            if not open_ones:
+            path = self.next_path(path, chosen, lacks)
+            if path is None:
                 return furthest[1:]
-            path = [*path[: open_ones[-1]], path[open_ones[-1]] + 1]
-        return f"it is open, after {MOST_PLAYS} plays: {furthest[1]}", furthest[2]
+            if self.plays >= MOST_PLAYS:
+                break
+        raise Undecided(f"it is open, after {self.plays} plays: {furthest[1]}")
 
     def play(self, steps):
         """Plays the events. The first place where the reply is another one, and what is wrong there; nothing where all agree."""
