@@ -1,5 +1,5 @@
 -- What a loop does, one thing behind the other.
-use Rattle.std.proofs.Common.{◌≡◌, ◌∙◌, ◌<◌, ◌≤◌, ℕ, zero, suc, Bool, true, false, arith, length, map, List, [], ◌∷◌, ◌++◌, Option, Some, None, Result, Ok, Err, get_or, set, refl, sym, ap, subst, inl, inr}
+use Rattle.std.proofs.Common.{◌≡◌, ◌∙◌, ◌<◌, ◌≤◌, ℕ, zero, suc, Bool, true, false, arith, length, map, List, [], ◌∷◌, ◌++◌, Option, Some, None, Result, Ok, Err, get_or, set, refl, sym, ap, subst, inl, inr, ◌⊎◌}
 use Rattle.std.proofs.Math.Path.{fun_ext}
 use Rattle.std.specs.Option.{option_map}
 use Rattle.std.specs.Prelude.{nat_lt}
@@ -13,7 +13,7 @@ use Rattle.xa_reactor.specs.declared.loops.Ended.{Ended}
 use Rattle.xa_reactor.specs.declared.loops.Seed.{Seed}
 use Rattle.xa_reactor.specs.declared.peer.Peer.{Peer}
 use Rattle.xa_reactor.specs.Turning.{HasAnswered}
-use Rattle.xa_reactor.specs.Tending.{Does, DoesAll, Puts, Table, Tends, HasTended, HaveTended, SeedsHaveTended, nobody, sessions_of}
+use Rattle.xa_reactor.specs.Tending.{Does, DoesAll, DoesOrPosts, DoesSome, Puts, Table, Tends, TendsPosting, HasTended, HaveTended, SeedsHaveTended, nobody, sessions_of}
 
 pub same_table : (a b : Table) → ((key : ℕ) → b key ≡ a key) → a ≡ b
 same_table a b h = fun_ext (λ (key : ℕ). sym (h key))
@@ -72,28 +72,63 @@ at_map f (x ∷ xs) (suc i) a b lt = at_map f xs i a b (omega (arith, lt))
 
 -- ---- one thing behind the other
 
+module _ {D : Type 0} (does : Table → Table → D → D → Type 0) where
+  pub does_none : (a b : Table) (d e : D) → a ≡ b → d ≡ e → DoesSome does a d b e
+  does_none a b d e same is = ([], (same, is))
+
+  pub does_one : (a b : Table) (d e : D) → does a b d e → DoesSome does a d b e
+  does_one a b d e one = ((a, d) ∷ [], ((refl, refl), one))
+
+  does_both : (a b c : Table) (d e f : D) (ms ns : List (Table × D)) → DoesAll does a d ms b e → DoesAll does b e ns c f
+      → DoesAll does a d (ns ++ ms) c f
+  does_both a b c d e f ms [] h k =
+      subst (λ (t : Table). DoesAll does a d ms t f) k.0 (subst (λ (x : D). DoesAll does a d ms b x) k.1 h)
+  does_both a b c d e f ms (n ∷ ns) h k = (does_both a b n.0 d e n.1 ms ns h k.0, k.1)
+
+  pub does_twice : (a b c : Table) (d e f : D) → DoesSome does a d b e → DoesSome does b e c f → DoesSome does a d c f
+  does_twice a b c d e f h k = (k.0 ++ h.0, does_both a b c d e f h.0 k.0 h.1 k.1)
+
+  pub does_thrice : (a b c t : Table) (d e f x : D) → DoesSome does a d b e → DoesSome does b e c f → DoesSome does c f t x
+      → DoesSome does a d t x
+  does_thrice a b c t d e f x h k l = does_twice a c t d f x (does_twice a b c d e f h k) l
+
+  -- what each thing keeps
+  module _ (P : D → Type 0) (keeps : (a b : Table) (d e : D) → does a b d e → P d → P e) where
+    all_keep : (a b : Table) (d e : D) (ms : List (Table × D)) → DoesAll does a d ms b e → P d → P e
+    all_keep a b d e [] h p = subst P h.1 p
+    all_keep a b d e (m ∷ ms) h p = keeps m.0 b m.1 e h.1 (all_keep a m.0 d m.1 ms h.0 p)
+
+    pub does_keep : (a b : Table) (d e : D) → DoesSome does a d b e → P d → P e
+    does_keep a b d e h p = all_keep a b d e h.0 h.1 p
+
+-- what is so of each thing, said of a part of each door
+module _ {D E : Type 0} (f : D → E) (does : Table → Table → D → D → Type 0) (other : Table → Table → E → E → Type 0)
+    (one : (a b : Table) (d e : D) → does a b d e → other a b (f d) (f e)) where
+  all_by : (a b : Table) (d e : D) (ms : List (Table × D)) → DoesAll does a d ms b e
+      → DoesAll other a (f d) (map (λ (m : Table × D). (m.0, f m.1)) ms) b (f e)
+  all_by a b d e [] h = (h.0, ap f h.1)
+  all_by a b d e (m ∷ ms) h = (all_by a m.0 d m.1 ms h.0, one m.0 b m.1 e h.1)
+
+  pub does_by : (a b : Table) (d e : D) → DoesSome does a d b e → DoesSome other a (f d) b (f e)
+  does_by a b d e h = (map (λ (m : Table × D). (m.0, f m.1)) h.0, all_by a b d e h.0 h.1)
+
+-- ---- where nothing is posted
+
 module _ {D : Type 0} (connected : D → Result ℕ ConnectFault → D → Type 0)
     (called : ℕ → D → Question → Reply → D → Type 0) (left : ℕ → D → D → Type 0) where
   pub tends_none : (a b : Table) (d : D) → a ≡ b → Tends connected called left a d b d
-  tends_none a b d same = ([], (same, refl))
+  tends_none a b d same = does_none (Does connected called left) a b d d same refl
 
-  pub tends_one : (a b : Table) (d e : D) → Does connected called left a b d e → Tends connected called left a d b e
-  tends_one a b d e does = ((a, d) ∷ [], ((refl, refl), does))
-
-  does_twice : (a b c : Table) (d e f : D) (ms ns : List (Table × D)) → DoesAll connected called left a d ms b e
-      → DoesAll connected called left b e ns c f → DoesAll connected called left a d (ns ++ ms) c f
-  does_twice a b c d e f ms [] h k =
-      subst (λ (t : Table). DoesAll connected called left a d ms t f) k.0
-      (subst (λ (x : D). DoesAll connected called left a d ms b x) k.1 h)
-  does_twice a b c d e f ms (n ∷ ns) h k = (does_twice a b n.0 d e n.1 ms ns h k.0, k.1)
+  tends_one : (a b : Table) (d e : D) → Does connected called left a b d e → Tends connected called left a d b e
+  tends_one a b d e one = does_one (Does connected called left) a b d e one
 
   pub tends_twice : (a b c : Table) (d e f : D) → Tends connected called left a d b e → Tends connected called left b e c f
       → Tends connected called left a d c f
-  tends_twice a b c d e f h k = (k.0 ++ h.0, does_twice a b c d e f h.0 k.0 h.1 k.1)
+  tends_twice a b c d e f h k = does_twice (Does connected called left) a b c d e f h k
 
   pub tends_thrice : (a b c t : Table) (d e f x : D) → Tends connected called left a d b e → Tends connected called left b e c f
       → Tends connected called left c f t x → Tends connected called left a d t x
-  tends_thrice a b c t d e f x h k l = tends_twice a c t d f x (tends_twice a b c d e f h k) l
+  tends_thrice a b c t d e f x h k l = does_thrice (Does connected called left) a b c t d e f x h k l
 
   -- a session was connected
   pub tends_connected : (a b : Table) (d e : D) (key session : ℕ) → a key ≡ None → connected d (Ok session) e
@@ -127,11 +162,41 @@ module _ {D : Type 0} (connected : D → Result ℕ ConnectFault → D → Type 
   tends_left a b d e key session has leaves puts =
       tends_one a b d e (inr (inr (inr (record { key = key; session = session; has = has; leaves = leaves; puts = puts }))))
 
+-- ---- where calls are posted
+
+module _ {D : Type 0} (posted : ℕ → D → D → Type 0) (connected : D → Result ℕ ConnectFault → D → Type 0)
+    (called : ℕ → D → Question → Reply → D → Type 0) (left : ℕ → D → D → Type 0) where
+  pub posting_none : (a b : Table) (d : D) → a ≡ b → TendsPosting posted connected called left a d b d
+  posting_none a b d same = does_none (DoesOrPosts posted connected called left) a b d d same refl
+
+  pub posting_twice : (a b c : Table) (d e f : D) → TendsPosting posted connected called left a d b e
+      → TendsPosting posted connected called left b e c f → TendsPosting posted connected called left a d c f
+  posting_twice a b c d e f h k = does_twice (DoesOrPosts posted connected called left) a b c d e f h k
+
+  pub posting_thrice : (a b c t : Table) (d e f x : D) → TendsPosting posted connected called left a d b e
+      → TendsPosting posted connected called left b e c f → TendsPosting posted connected called left c f t x
+      → TendsPosting posted connected called left a d t x
+  posting_thrice a b c t d e f x h k l = does_thrice (DoesOrPosts posted connected called left) a b c t d e f x h k l
+
+  -- nothing was posted
+  pub posting_tended : (a b : Table) (d e : D) → Tends connected called left a d b e → TendsPosting posted connected called left a d b e
+  posting_tended a b d e h =
+      does_by (λ (x : D). x) (Does connected called left) (DoesOrPosts posted connected called left) (λ a b d e one. inl one) a b d e h
+
+  -- a call was posted, or none
+  pub posting_posted : (a b : Table) (d e : D) (key session : ℕ) → a key ≡ Some session → (e ≡ d) ⊎ posted session d e → a ≡ b
+      → TendsPosting posted connected called left a d b e
+  posting_posted a b d e key session has (inl is) same = does_none (DoesOrPosts posted connected called left) a b d e same (sym is)
+  posting_posted a b d e key session has (inr posts) same =
+      does_one (DoesOrPosts posted connected called left) a b d e
+      (inr (record { key = key; session = session; has = has; posts = posts; same = same }))
+
   -- of each seed's door
-  pub have_tended : (seeds : List (Seed D)) (doors : List D) (ended : List (Ended D)) → map (λ s. s.door) seeds ≡ doors
-      → SeedsHaveTended connected called left seeds ended → HaveTended connected called left doors ended
-  have_tended seeds doors ended is tended i d e lt =
+  pub have_tended : (is_settled : D → Type 0) (seeds : List (Seed D)) (doors : List D) (ended : List (Ended D)) → map (λ s. s.door) seeds ≡ doors
+      → SeedsHaveTended posted connected called left is_settled seeds ended
+      → HaveTended posted connected called left is_settled doors ended
+  have_tended is_settled seeds doors ended is tended i d e lt =
       let within : i < length seeds = omega (arith, lt, ap (λ (xs : List D). length xs) is, length-map seeds (λ (s : Seed D). s.door)) in
       let seed : Seed D = one_of seeds i within in
-      subst (λ (x : D). HasTended connected called left x (get_or ended i e).door)
+      subst (λ (x : D). HasTended posted connected called left is_settled x (get_or ended i e).door)
       (sym (at_map (λ (s : Seed D). s.door) seeds i seed d within) ∙ ap (λ (xs : List D). get_or xs i d) is) (tended i seed e within)

@@ -9,3 +9,4 @@ pub mod Asking
 pub mod Opening
 pub mod Together
 pub mod Peers
+pub mod Reception

@@ -25,6 +25,22 @@ pub record Puts (old new : Table) (key : ℕ) (session : Option ℕ) : Type 0 wh
   pub changed : new key ≡ session
   pub others : (other : ℕ) → other ≢ key → new other ≡ old other
 
+-- a call of a session that is served was posted, to be answered later
+pub record Posts {D : Type 0} (posted : ℕ → D → D → Type 0) (old new : Table) (d e : D) : Type 0 where
+  pub key : ℕ
+  pub session : ℕ
+  pub has : old key ≡ Some session
+  pub posts : posted session d e
+  pub same : old ≡ new
+
+-- one thing behind the other, with the table and the door before each, the last one's first
+abbrev pub DoesAll : {D : Type 0} → (Table → Table → D → D → Type 0) → Table → D → List (Table × D) → Table → D → Type 0
+DoesAll does old d [] new e = (old ≡ new) × (d ≡ e)
+DoesAll does old d (m ∷ ms) new e = DoesAll does old d ms m.0 m.1 × does m.0 new m.1 e
+
+abbrev pub DoesSome : {D : Type 0} → (Table → Table → D → D → Type 0) → Table → D → Table → D → Type 0
+DoesSome {D} does old d new e = (before : List (Table × D)) × DoesAll does old d before new e
+
 -- by what a connect, a call of a session and its hang-up do at the door
 module _ {D : Type 0} (connected : D → Result ℕ ConnectFault → D → Type 0)
     (called : ℕ → D → Question → Reply → D → Type 0) (left : ℕ → D → D → Type 0) where
@@ -63,28 +79,34 @@ module _ {D : Type 0} (connected : D → Result ℕ ConnectFault → D → Type 
   abbrev pub Does : Table → Table → D → D → Type 0
   Does old new d e = Connects old new d e ⊎ (Refuses old new d e ⊎ (Converses old new d e ⊎ Leaves old new d e))
 
-  -- one thing behind the other, with the table and the door before each, the last one's first
-  abbrev pub DoesAll : Table → D → List (Table × D) → Table → D → Type 0
-  DoesAll old d [] new e = (old ≡ new) × (d ≡ e)
-  DoesAll old d (m ∷ ms) new e = DoesAll old d ms m.0 m.1 × Does m.0 new m.1 e
+  -- Whatever the loop did where it posts nothing, it was one of these things behind the other.
+  abbrev pub Tends : Table → D → Table → D → Type 0
+  Tends old d new e = DoesSome Does old d new e
+
+-- by what a post does, too
+module _ {D : Type 0} (posted : ℕ → D → D → Type 0) (connected : D → Result ℕ ConnectFault → D → Type 0)
+    (called : ℕ → D → Question → Reply → D → Type 0) (left : ℕ → D → D → Type 0) where
+  abbrev pub DoesOrPosts : Table → Table → D → D → Type 0
+  DoesOrPosts old new d e = Does connected called left old new d e ⊎ Posts posted old new d e
 
   -- Whatever the loop did, it was one of these things behind the other. So from nobody to nobody each session that was
-  -- connected was hung up, once, and answered only in between.
-  abbrev pub Tends : Table → D → Table → D → Type 0
-  Tends old d new e = (before : List (Table × D)) × DoesAll old d before new e
+  -- connected was hung up, once, and only in between it was answered, and its calls were posted.
+  abbrev pub TendsPosting : Table → D → Table → D → Type 0
+  TendsPosting old d new e = DoesSome DoesOrPosts old d new e
 
-  -- the same from nobody to nobody
-  pub record HasTended (d e : D) : Type 0 where
-    pub tends : Tends nobody d nobody e
+  -- the same from nobody to nobody, and nothing that was posted is left to be answered, if there was nothing
+  pub record HasTended (is_settled : D → Type 0) (d e : D) : Type 0 where
+    pub tends : TendsPosting nobody d nobody e
+    pub settled : is_settled d → is_settled e
 
   -- of each door what a loop has made of it
-  abbrev pub HaveTended : List D → List (Ended D) → Type 0
-  HaveTended doors ended =
+  abbrev pub HaveTended : (D → Type 0) → List D → List (Ended D) → Type 0
+  HaveTended is_settled doors ended =
       (i : ℕ) (d : D) (e : Ended D) → i < length doors
-      → HasTended (slice_index_or doors i d) (slice_index_or ended i e).door
+      → HasTended is_settled (slice_index_or doors i d) (slice_index_or ended i e).door
 
   -- the same of what loops began with
-  abbrev pub SeedsHaveTended : List (Seed D) → List (Ended D) → Type 0
-  SeedsHaveTended seeds ended =
+  abbrev pub SeedsHaveTended : (D → Type 0) → List (Seed D) → List (Ended D) → Type 0
+  SeedsHaveTended is_settled seeds ended =
       (i : ℕ) (s : Seed D) (e : Ended D) → i < length seeds
-      → HasTended (slice_index_or seeds i s).door (slice_index_or ended i e).door
+      → HasTended is_settled (slice_index_or seeds i s).door (slice_index_or ended i e).door

@@ -1,12 +1,12 @@
 //! Event loops: few threads that serve the connections of a listener, each those that it is handed, at a door of its own.
 //!
-//! - `reception`: `Reception`, a door at which sessions connect; `watch`: `Watch`, whether replies told that the manager
-//!   behind the doors went down; `cause`: why it did
+//! - `reception`: `Reception`, a door at which sessions connect, and calls are posted before they are answered; `watch`:
+//!   `Watch`, whether replies told that the manager behind the doors went down; `cause`: why it did
 //! - `loops`: `run_loops`, a thread for each door; `LoopFault`, why it didn't, or not to the end
 //! - `socket`, `listener`: a connection's socket, and what connections come from
 //! - `peer`: a connection with its socket, and its turn; `peers`: those of a loop, whose turns come one behind the other
 //! - `ask`: a request that a connection brought in; `together`: the turns of a round, with one call at the door for all
-//!   requests that wait for no device, whose replies are sent then, and another for the rest
+//!   requests that wait for no device, whose replies are sent then, and another for the rest, which are posted before
 //! - `tending`: a loop, round by round (`round`, `timing`, `clock`, `tools`): while another loop holds up its answers, it
 //!   takes in more requests, and for a while before it waits for a device (`patience`); `beside`: what it does between
 //!   rounds; `noticing`: what events tell it; `acceptor`: the one that accepts; `common`: what the loops share, with a

@@ -65,7 +65,8 @@ pub struct Ended<D> {
 /// end behind so many connections, when the manager is down, or when one of them can't wait for events; if none of these
 /// is asked or comes, never.
 ///
-/// Each session that a loop connected at its door it hung up there, once, and answered only in between.
+/// Each session that a loop connected at its door it hung up there, once, and only in between it answered it, and posted
+/// its calls. Where nothing that was posted was left to be answered when it began, nothing is when it ends.
 pub fn run_loops<
     D: Reception + Send + Drop,
     R: AllocGlobal + Clock + Eprint + Net + Threads + Wait + Sync,
@@ -77,7 +78,8 @@ pub fn run_loops<
     settings: Settings,
 ) -> Result<Vec<Ended<D>>, LoopFault>
     ensures count { IfOk result (λ ended. length ended.items ≡ length doors.items) }
-    ensures tended { IfOk result (λ ended. HaveTended D.connected D.called D.left doors.items ended.items) }
+    ensures tended { IfOk result (λ ended. HaveTended D.posted D.connected D.called D.left D.is_settled
+        doors.items ended.items) }
 {
     let (seeds, boxes) = prepare(rt, doors)?;
     let common = Common::new(settings, boxes, watch, listener);
@@ -91,13 +93,14 @@ fn run_all<D: Reception + Send + Drop, R: AllocGlobal + Clock + Eprint + Threads
     seeds: Vec<Seed<D>>,
 ) -> Result<Vec<Ended<D>>, AllocError>
     ensures count { IfOk result (λ ended. length ended.items ≡ length seeds.items) }
-    ensures tended { IfOk result (λ ended. SeedsHaveTended D.connected D.called D.left seeds.items ended.items) }
+    ensures tended { IfOk result (λ ended. SeedsHaveTended D.posted D.connected D.called D.left D.is_settled
+        seeds.items ended.items) }
 {
     map_vec(
         rt,
         seeds,
         &|seed: Seed<D>| -> Ended<D>
-            ensures { HasTended D.connected D.called D.left seed.door result.door }
+            ensures { HasTended D.posted D.connected D.called D.left D.is_settled seed.door result.door }
         { run_loop(rt, common, seed) },
     )
 }
@@ -107,7 +110,7 @@ fn run_loop<D: Reception, R: AllocGlobal + Clock + Eprint + Wait>(
     common: &Common<'_>,
     seed: Seed<D>,
 ) -> Ended<D>
-    ensures { HasTended D.connected D.called D.left seed.door result.door }
+    ensures { HasTended D.posted D.connected D.called D.left D.is_settled seed.door result.door }
 {
     let Seed {
         index,

@@ -5,9 +5,9 @@ use xa_frame::Request;
 
 /// A door at which sessions connect, too.
 pub trait Reception: Door {
-    ghost use Rattle.std.specs.Prelude.{ℕ, All, Bool, Result};
+    ghost use Rattle.std.specs.Prelude.{ℕ, ◌≡◌, ◌⊎◌, All, Bool, Result};
     ghost use Rattle.xa_assoc.specs.declared.fault.ConnectFault.{ConnectFault};
-    ghost use Rattle.xa_reactor.specs.Asking.{HasRequest, TellsAll};
+    ghost use Rattle.xa_reactor.specs.{Asking.HasRequest, Asking.TellsAll, Reception.KeepsSettled};
 
     /// A connect took it from one to the other, with this result.
     ghost connected: { Self → Result ℕ ConnectFault → Self → Type 0 };
@@ -18,24 +18,38 @@ pub trait Reception: Door {
     /// It was asked where the log ends, and this was answered.
     ghost ends: { Self → ℕ → Type 0 };
 
+    /// A call of this session was posted between one and the other: it is to be answered yet.
+    ghost posted: { ℕ → Self → Self → Type 0 };
+
+    /// Nothing that was posted is left to be answered.
+    ghost is_settled: { Self → Type 0 };
+
     /// Connects a session.
     fn connect(&mut self) -> Result<u64, ConnectFault>
         ensures { connected self.old result self.new };
 
-    /// Answers requests, each once and as `call` does, in an order of its own.
+    /// Answers requests, each once and as `call` does, in an order of its own: those that were posted are among them, and
+    /// none of these is left.
     fn call_all(&mut self, asks: &mut [Ask])
+        requires { All HasRequest asks.old }
+        ensures told { TellsAll Self.called self.old asks.old asks.new self.new }
+        ensures settled { is_settled self.new };
+
+    /// The same of requests of which none was posted. What was posted is left.
+    fn call_quick(&mut self, asks: &mut [Ask])
         requires { All HasRequest asks.old }
         ensures { TellsAll Self.called self.old asks.old asks.new self.new };
 
     /// Whether the answer to a request may wait for a device. A hint: those of a round that don't are answered before the
-    /// others.
+    /// others, by `call_quick`, and aren't posted.
     fn may_wait(&self, request: &Request) -> bool;
 
-    /// This ask will be at this place among those of the next `call_all` whose requests may wait. From now on its request
-    /// may be answered together with those of other doors, by whichever door comes first; its reply is given by that
-    /// `call_all`. A hint: what wasn't posted is answered as well.
-    fn post(&self, place: usize, ask: &Ask)
-        requires { HasRequest ask.now };
+    /// This ask will be at this place among those of the next `call_all`. From now on its request may be answered together
+    /// with those of other doors, by whichever door comes first; its reply is given by that `call_all`. It may post
+    /// nothing: a hint, as what wasn't posted is answered as well.
+    fn post(&mut self, place: usize, ask: &Ask)
+        requires { HasRequest ask.now }
+        ensures { (self.new ≡ self.old) ⊎ posted ask.now.session self.old self.new };
 
     /// Whether a request would be answered now, without waiting for other doors. A hint.
     fn is_free(&self) -> bool;
@@ -56,4 +70,7 @@ pub trait Reception: Door {
 
     /// How many calls at this door may have moved the log's end; after the greatest number 0 comes.
     fn logged(&self) -> u64;
+
+    /// Law: a connect, a call and a hang-up leave nothing that was posted, if there was nothing.
+    ghost keeps_settled: { KeepsSettled connected Self.called Self.left is_settled };
 }

@@ -1,6 +1,5 @@
 //! One loop.
-ghost use Rattle.std.specs.Prelude.{◌≡◌};
-ghost use Rattle.xa_reactor.specs.Tending.{HasTended, Tends, sessions_of};
+ghost use Rattle.xa_reactor.specs.Tending.{HasTended, TendsPosting, sessions_of};
 ghost use Rattle.xa_reactor.specs.Together.{HasLent, IsOver};
 
 use crate::acceptor::Acceptor;
@@ -34,7 +33,7 @@ pub(crate) fn tend<D: Reception, R: AllocGlobal + Clock + Eprint + Wait>(
     poll: Poll,
     door: &mut D,
 ) -> bool
-    ensures { HasTended D.connected D.called D.left door.old door.new }
+    ensures { HasTended D.posted D.connected D.called D.left D.is_settled door.old door.new }
 {
     let mut peers = Peers::new(rt.alloc());
     let is_whole = run(rt, common, index, poll, &mut peers, door).is_ok();
@@ -55,7 +54,9 @@ fn run<D: Reception, R: AllocGlobal + Clock + Eprint + Wait>(
     peers: &mut Peers,
     door: &mut D,
 ) -> io::Result<()>
-    ensures { Tends D.connected D.called D.left (sessions_of peers.old.all) door.old (sessions_of peers.new.all) door.new }
+    ensures tends { TendsPosting D.posted D.connected D.called D.left
+        (sessions_of peers.old.all) door.old (sessions_of peers.new.all) door.new }
+    ensures settled { D.is_settled door.old → D.is_settled door.new }
 {
     begin_trims(rt, common, door);
     let mut this = Loop::new(rt, common, index, poll)?;
@@ -112,7 +113,9 @@ impl Loop {
         peers: &mut Peers,
         door: &mut D,
     ) -> io::Result<bool>
-        ensures { Tends D.connected D.called D.left (sessions_of peers.old.all) door.old (sessions_of peers.new.all) door.new }
+        ensures tends { TendsPosting D.posted D.connected D.called D.left
+            (sessions_of peers.old.all) door.old (sessions_of peers.new.all) door.new }
+        ensures settled { D.is_settled door.old → D.is_settled door.new }
     {
         self.wait(rt, common, peers)?;
         let is_look = self.clock.is_look();
@@ -140,7 +143,9 @@ impl Loop {
         peers: &mut Peers,
         door: &mut D,
     ) -> bool
-        ensures { Tends D.connected D.called D.left (sessions_of peers.old.all) door.old (sessions_of peers.new.all) door.new }
+        ensures tends { TendsPosting D.posted D.connected D.called D.left
+            (sessions_of peers.old.all) door.old (sessions_of peers.new.all) door.new }
+        ensures settled { D.is_settled door.old → D.is_settled door.new }
     {
         let turns = peers.queued();
         if turns > 0 && self.tools.together.begin(turns) {
@@ -161,8 +166,10 @@ impl Loop {
         door: &mut D,
     ) -> bool
         requires { HasLent (sessions_of peers.old.all) self.old.tools.together }
-        ensures tends { Tends D.connected D.called D.left (sessions_of peers.old.all) door.old (sessions_of peers.new.all) door.new }
+        ensures tends { TendsPosting D.posted D.connected D.called D.left
+            (sessions_of peers.old.all) door.old (sessions_of peers.new.all) door.new }
         ensures over { IsOver self.new.tools.together }
+        ensures settled { D.is_settled door.new }
     {
         self.due = door.due();
         self.open_turns(rt.alloc(), peers, door);
@@ -178,7 +185,8 @@ impl Loop {
     // Opens the turns of those that have one.
     fn open_turns<D: Reception>(&mut self, alloc: Global, peers: &mut Peers, door: &mut D)
         requires { HasLent (sessions_of peers.old.all) self.old.tools.together }
-        ensures tends { Tends D.connected D.called D.left (sessions_of peers.old.all) door.old (sessions_of peers.new.all) door.new }
+        ensures tends { TendsPosting D.posted D.connected D.called D.left
+            (sessions_of peers.old.all) door.old (sessions_of peers.new.all) door.new }
         ensures lent { HasLent (sessions_of peers.new.all) self.new.tools.together }
     {
         let round = Round::new(&self.poll, alloc, self.clock.now);
@@ -191,7 +199,8 @@ impl Loop {
     // have one by then: what they ask of the device is answered with the rest. Whether a connection waits to be accepted.
     fn gather<D: Reception>(&mut self, alloc: Global, peers: &mut Peers, door: &mut D) -> bool
         requires { HasLent (sessions_of peers.old.all) self.old.tools.together }
-        ensures tends { Tends D.connected D.called D.left (sessions_of peers.old.all) door.old (sessions_of peers.new.all) door.new }
+        ensures tends { TendsPosting D.posted D.connected D.called D.left
+            (sessions_of peers.old.all) door.old (sessions_of peers.new.all) door.new }
         ensures lent { HasLent (sessions_of peers.new.all) self.new.tools.together }
     {
         let mut accepts = false;
@@ -218,7 +227,8 @@ impl Loop {
     // that have one by then: what they ask shares the device's sync. Whether a connection waits to be accepted.
     fn linger<D: Reception>(&mut self, alloc: Global, peers: &mut Peers, door: &mut D) -> bool
         requires { HasLent (sessions_of peers.old.all) self.old.tools.together }
-        ensures tends { Tends D.connected D.called D.left (sessions_of peers.old.all) door.old (sessions_of peers.new.all) door.new }
+        ensures tends { TendsPosting D.posted D.connected D.called D.left
+            (sessions_of peers.old.all) door.old (sessions_of peers.new.all) door.new }
         ensures lent { HasLent (sessions_of peers.new.all) self.new.tools.together }
     {
         if !self.tools.together.may_grow(peers.len()) {
@@ -242,7 +252,8 @@ impl Loop {
         looks: u32,
     ) -> (bool, bool)
         requires { HasLent (sessions_of peers.old.all) self.old.tools.together }
-        ensures tends { Tends D.connected D.called D.left (sessions_of peers.old.all) door.old (sessions_of peers.new.all) door.new }
+        ensures tends { TendsPosting D.posted D.connected D.called D.left
+            (sessions_of peers.old.all) door.old (sessions_of peers.new.all) door.new }
         ensures lent { HasLent (sessions_of peers.new.all) self.new.tools.together }
     {
         let mut accepts = false;
@@ -271,7 +282,8 @@ impl Loop {
         wait: Duration,
     ) -> io::Result<bool>
         requires { HasLent (sessions_of peers.old.all) self.old.tools.together }
-        ensures tends { Tends D.connected D.called D.left (sessions_of peers.old.all) door.old (sessions_of peers.new.all) door.new }
+        ensures tends { TendsPosting D.posted D.connected D.called D.left
+            (sessions_of peers.old.all) door.old (sessions_of peers.new.all) door.new }
         ensures lent { HasLent (sessions_of peers.new.all) self.new.tools.together }
     {
         let round = Round::new(&self.poll, alloc, self.clock.now);

@@ -1,8 +1,8 @@
 //! The turns of a round, with one call at the door for the requests that wait for no device, and another for the rest.
 ghost use Rattle.std.specs.Prelude.{ℕ, ◌≡◌, ◌+◌, ◌≤◌, [], All};
 ghost use Rattle.std.specs.Vec.{vec_capacity, vec_len};
-ghost use Rattle.xa_reactor.specs.Asking.{IsAnswered, IsLent, IsOpen, TurnedAll};
-ghost use Rattle.xa_reactor.specs.Tending.{Table, Tends, sessions_of};
+ghost use Rattle.xa_reactor.specs.Asking.{IsAnswered, IsLent, IsOpen, IsTold, PutsAll, TurnedAll};
+ghost use Rattle.xa_reactor.specs.Tending.{Table, Tends, TendsPosting, sessions_of};
 ghost use Rattle.xa_reactor.specs.Together.{HasLent, IsOver};
 
 use crate::ask::Ask;
@@ -83,7 +83,8 @@ impl Together {
         door: &mut D,
     )
         requires { HasLent (sessions_of peers.old.all) self.old }
-        ensures tends { Tends D.connected D.called D.left (sessions_of peers.old.all) door.old (sessions_of peers.new.all) door.new }
+        ensures tends { TendsPosting D.posted D.connected D.called D.left
+            (sessions_of peers.old.all) door.old (sessions_of peers.new.all) door.new }
         ensures lent { HasLent (sessions_of peers.new.all) self.new }
     {
         let turns = peers.queued();
@@ -104,7 +105,8 @@ impl Together {
         door: &mut D,
     )
         requires { HasLent (sessions_of peers.old.all) self.old }
-        ensures tends { Tends D.connected D.called D.left (sessions_of peers.old.all) door.old (sessions_of peers.new.all) door.new }
+        ensures tends { TendsPosting D.posted D.connected D.called D.left
+            (sessions_of peers.old.all) door.old (sessions_of peers.new.all) door.new }
         ensures lent { HasLent (sessions_of peers.new.all) self.new }
     {
         let turns = self.over.len() + self.quick.len() + self.waiting.len();
@@ -141,7 +143,7 @@ impl Together {
         ensures tends { Tends D.connected D.called D.left (sessions_of peers.old.all) door.old (sessions_of peers.new.all) door.new }
         ensures lent { HasLent (sessions_of peers.new.all) self.new }
     {
-        give_replies(&mut self.quick, &mut self.over, peers, round, door);
+        give_quick(&mut self.quick, &mut self.over, peers, round, door);
     }
 
     /// Answers the requests that were brought in, and closes their turns. The replies to those that wait for no device are
@@ -156,9 +158,10 @@ impl Together {
         requires { HasLent (sessions_of peers.old.all) self.old }
         ensures tends { Tends D.connected D.called D.left (sessions_of peers.old.all) door.old (sessions_of peers.new.all) door.new }
         ensures over { IsOver self.new }
+        ensures settled { D.is_settled door.new }
     {
-        give_replies(&mut self.quick, &mut self.over, peers, round, door);
-        give_replies(&mut self.waiting, &mut self.over, peers, round, door);
+        give_quick(&mut self.quick, &mut self.over, peers, round, door);
+        give_waiting(&mut self.waiting, &mut self.over, peers, round, door);
         go_on_all(&mut self.over, peers, door);
     }
 }
@@ -171,8 +174,9 @@ fn may_wait<D: Reception>(door: &D, ask: &Ask) -> bool {
     }
 }
 
-// Answers requests at a door, and sends the replies. What comes after their turns is put with the rest of that.
-fn give_replies<D: Reception>(
+// Answers requests that wait for no device at a door, and sends the replies. What comes after their turns is put with the
+// rest of that.
+fn give_quick<D: Reception>(
     asks: &mut Vec<Ask>,
     over: &mut Vec<(usize, Step)>,
     peers: &mut Peers,
@@ -185,6 +189,26 @@ fn give_replies<D: Reception>(
     ensures same { sessions_of peers.new.all ≡ sessions_of peers.old.all }
     ensures none { asks.new.items ≡ [] }
     ensures room { (vec_len over.new ≤ vec_len over.old + vec_len asks.old) × (vec_capacity over.new ≡ vec_capacity over.old) }
+{
+    answer_quick(asks, door);
+    send_all(asks, over, peers, round);
+}
+
+// The same of requests that may wait for one: none that was posted is left.
+fn give_waiting<D: Reception>(
+    asks: &mut Vec<Ask>,
+    over: &mut Vec<(usize, Step)>,
+    peers: &mut Peers,
+    round: Round<'_>,
+    door: &mut D,
+)
+    requires lent { All (IsLent (sessions_of peers.old.all)) asks.old.items }
+    requires room { vec_len over.old + vec_len asks.old ≤ vec_capacity over.old }
+    ensures tends { Tends D.connected D.called D.left (sessions_of peers.old.all) door.old (sessions_of peers.new.all) door.new }
+    ensures same { sessions_of peers.new.all ≡ sessions_of peers.old.all }
+    ensures none { asks.new.items ≡ [] }
+    ensures room { (vec_len over.new ≤ vec_len over.old + vec_len asks.old) × (vec_capacity over.new ≡ vec_capacity over.old) }
+    ensures settled { D.is_settled door.new }
 {
     answer_all(asks, door);
     send_all(asks, over, peers, round);
@@ -215,8 +239,8 @@ fn go_on_all<D: Reception>(over: &mut Vec<(usize, Step)>, peers: &mut Peers, doo
     }
 }
 
-// Answers requests at a door, and puts the replies to their connections.
-fn answer_all<D: Reception>(asks: &mut [Ask], door: &mut D)
+// Answers requests of which none was posted at a door, and puts the replies to their connections.
+fn answer_quick<D: Reception>(asks: &mut [Ask], door: &mut D)
     requires { All IsOpen asks.old }
     ensures turned { TurnedAll D.called door.old asks.old asks.new door.new }
     ensures answered { All IsAnswered asks.new }
@@ -224,7 +248,26 @@ fn answer_all<D: Reception>(asks: &mut [Ask], door: &mut D)
     if asks.is_empty() {
         return;
     }
+    door.call_quick(asks);
+    put_replies(asks);
+}
+
+// The same of requests among which are those that were posted: none of these is left.
+fn answer_all<D: Reception>(asks: &mut [Ask], door: &mut D)
+    requires { All IsOpen asks.old }
+    ensures turned { TurnedAll D.called door.old asks.old asks.new door.new }
+    ensures answered { All IsAnswered asks.new }
+    ensures settled { D.is_settled door.new }
+{
     door.call_all(asks);
+    put_replies(asks);
+}
+
+// Puts the replies of asks to their connections.
+fn put_replies(asks: &mut [Ask])
+    requires { All IsTold asks.old }
+    ensures { PutsAll asks.old asks.new }
+{
     for ask in asks.iter_mut() {
         let _answering = ask.connection.reply(ask.front, &ask.reply);
     }

@@ -1,9 +1,7 @@
 pub mod Adding
-pub mod Sharing
 pub mod Grouping
 pub mod Few
 pub mod Placing
 pub mod Asking
-pub mod Among
 pub mod Pendings
 pub mod Keeping

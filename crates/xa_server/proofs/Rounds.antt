@@ -1,5 +1,5 @@
 -- Asks that are answered in an order of the door's own.
-use Rattle.std.proofs.Common.{◌≡◌, ◌≢◌, ◌∙◌, ℕ, ◌<◌, zero, suc, arith, List, [], ◌∷◌, ◌++◌, get_or, length, set, Option, Some, None, refl, sym, ap, subst, inl, inr}
+use Rattle.std.proofs.Common.{◌≡◌, ◌∙◌, ℕ, ◌<◌, zero, suc, arith, List, [], ◌∷◌, ◌++◌, get_or, length, set, Option, Some, None, refl, sym, ap, subst, inl, inr}
 use Rattle.std.specs.Prelude.{All, IfSome, IsSomeAnd}
 use Rattle.std.proofs.lemmas.List.{set-get_or}
 use Rattle.std.proofs.lemmas.List.Elements.{All-head, All-same, All-weaker}
@@ -11,7 +11,11 @@ use Rattle.xa_frame.specs.declared.request.Request.{Request}
 use Rattle.xa_reactor.specs.declared.ask.Ask.{Ask}
 use Rattle.xa_reactor.specs.Asking.{HasRequest, IsAnswered, Tells, TellsAll, TellsEach, TellsOne, TellsSome}
 use Rattle.xa_reactor.proofs.Asking.{all_left_true}
-use Rattle.xa_server.specs.Rounds.{IsWithin, TellsAtMost}
+use Rattle.xa_model.specs.State.{State}
+use Rattle.xa_room.specs.declared.manages.Manages.{Ghosts}
+use Rattle.xa_server.specs.Loops.{Called}
+use Rattle.xa_server.specs.Rounds.{IsWithin, TakesBack, TellsAtMost}
+use Rattle.xa_tokens.specs.Account.{Account}
 
 -- where a number is a place, it doesn't matter what there would be elsewhere
 pub get_any : {A : Type 0} (xs : List A) (i : ℕ) (a b : A) → i < length xs → get_or xs i a ≡ get_or xs i b
@@ -42,21 +46,19 @@ module _ {D : Type 0} (called : ℕ → D → Question → Reply → D → Type 
   pub tells_twice : (a b c : List Ask) (d e f : D) → TellsSome called d a b e → TellsSome called e b c f → TellsSome called d a c f
   tells_twice a b c d e f h k = (k.0 ++ h.0, each_twice a b c d e f h.0 k.0 h.1 k.1)
 
-  -- the answer is to the ask's own call
-  pub tells_answer : (ask new : Ask) (d e : D) (session : ℕ) (request posted : Request) (reply : Reply) → new.key ≡ ask.key → new.session ≡ ask.session
-      → new.connection ≡ ask.connection → new.front ≡ ask.front → ask.request ≡ Some request → new.request ≡ None → (ask.session ≡ session) × (request ≡ posted)
-      → new.reply ≡ reply → called session d (Call posted) reply e → IsReply reply → TellsAtMost called d ask new e
-  tells_answer ask new d e session request posted reply key same connection front asked gone (own, is) replied told limits = inr (record {
+  -- the ask's request was answered
+  pub tells_answer : (ask new : Ask) (d e : D) (request : Request) (reply : Reply) → new.key ≡ ask.key → new.session ≡ ask.session
+      → new.connection ≡ ask.connection → new.front ≡ ask.front → ask.request ≡ Some request → new.request ≡ None → new.reply ≡ reply
+      → called ask.session d (Call request) reply e → IsReply reply → TellsAtMost called d ask new e
+  tells_answer ask new d e request reply key session connection front asked gone replied told limits = inr (record {
     key = key;
-    session = same;
+    session = session;
     connection = connection;
     front = front;
     request = request;
     asked = asked;
     gone = gone;
-    told =
-        subst (λ (n : ℕ). called n d (Call request) new.reply e) (sym own)
-        (subst (λ (q : Request). called session d (Call q) new.reply e) (sym is) (subst (λ (r : Reply). called session d (Call posted) r e) (sym replied) told));
+    told = subst (λ (r : Reply). called ask.session d (Call request) r e) (sym replied) told;
     limits = subst (λ (r : Reply). IsReply r) (sym replied) limits;
   })
 
@@ -86,14 +88,46 @@ module _ {D : Type 0} (called : ℕ → D → Question → Reply → D → Type 
   pub left_within : (asks told : List Ask) (d e : D) → TellsSome called d asks told e → All IsWithin asks → All IsWithin told
   left_within asks told d e some all = all_left_true called IsWithin still_within asks told d e some.0 some.1 all
 
--- ---- what is said of a part of a door is said of the door, where something was answered
+  none_each : (told : List Ask) (d e : D) (before : List (List Ask × D)) → TellsEach called d [] before told e → told ≡ []
+  none_each told d e [] h = sym h.0
+  none_each told d e (m ∷ ms) h =
+      let none : length m.0 ≡ 0 = ap (λ (xs : List Ask). length xs) (none_each m.0 d m.1 ms h.0) in
+      absurd (omega (arith, none, h.1.within))
+
+  pub none_still : (asks told : List Ask) (d e : D) → asks ≡ [] → TellsSome called d asks told e → told ≡ []
+  none_still asks told d e none h = none_each told d e h.0 (subst (λ (xs : List Ask). TellsEach called d xs h.0 told e) none h.1)
+
+-- ---- letters that come back
+
+module _ {M : Type 0} (m : Ghosts M) (start : State → Type 0) (base : ℕ × ℕ) where
+  pub takes_none : (asks : List Ask) (a : Account) → TakesBack m start base a asks asks a
+  takes_none asks a = record { some = tells_none (Called m start base) asks a; asked = refl }
+
+  pub takes_twice : (asks between told : List Ask) (a b c : Account) → TakesBack m start base a asks between b
+      → TakesBack m start base b between told c → TakesBack m start base a asks told c
+  takes_twice asks between told a b c h k = record {
+    some = tells_twice (Called m start base) asks between told a b c h.some k.some;
+    asked = k.asked ∙ h.asked;
+  }
+
+  -- one came back, which answered the ask at its place, or none
+  pub takes_one : (asks : List Ask) (a b : Account) (i : ℕ) (none new : Ask) → i < length asks
+      → TellsAtMost {D = Account} (Called m start base) a (get_or asks i none) new b → b.asked ≡ a.asked
+      → TakesBack m start base a asks (set asks i new) b
+  takes_one asks a b i none new lt tells same = record {
+    some = tells_more (Called m start base) asks asks a a b i none new (tells_none (Called m start base) asks a) lt tells;
+    asked = same;
+  }
+
+-- ---- what is said of a part of a door is said of the door
 
 unanswered : (request : Option Request) → IsSomeAnd request IsRequest → request ≡ None → ⊥
 unanswered (Some q) h none = absurd (cc none)
 unanswered None h none = h
 
 -- Between two answers stands a door that has the part. There is one for each part that keeps this, which each call keeps.
-module _ {D E : Type 0} (f : D → E) (Keeps : E → Type 0) (back : E → D) (is_back : (x : E) → Keeps x → f (back x) ≡ x)
+-- Where nothing is asked, no answer tells that the door stays.
+module _ {D E : Type 0} (f : D → E) (Keeps : E → Type 0) (back : (x : E) → Keeps x → D) (is_back : (x : E) (k : Keeps x) → f (back x k) ≡ x)
     (called : ℕ → E → Question → Reply → E → Type 0)
     (keeps : (session : ℕ) (d : E) (q : Request) (reply : Reply) (e : E) → Keeps d → called session d (Call q) reply e → Keeps e) where
   each_keeps : (asks told : List Ask) (d e : E) (before : List (List Ask × E)) → Keeps d → TellsEach called d asks before told e → Keeps e
@@ -130,19 +164,21 @@ module _ {D E : Type 0} (f : D → E) (Keeps : E → Type 0) (back : E → D) (i
       → TellsEach called (f x) asks (m ∷ ms) told e → TellsSome (λ s a q r b. called s (f a) q r (f b)) x asks told y
   lifted_each asks told x y e m [] k q h = ((m.0, x) ∷ [], ((h.0.0, refl), lifted_one m.0 told x y m.1 e h.0.1 q h.1))
   lifted_each asks told x y e m (n ∷ ms) k q h =
-      let same : f (back m.1) ≡ m.1 = is_back m.1 (each_keeps asks m.0 (f x) m.1 (n ∷ ms) k h.0) in
-      let some : TellsSome (λ s a q r b. called s (f a) q r (f b)) x asks m.0 (back m.1) =
-      lifted_each asks m.0 x (back m.1) m.1 n ms k same h.0 in
-      ((m.0, back m.1) ∷ some.0, (some.1, lifted_one m.0 told (back m.1) y m.1 e same q h.1))
+      let kept : Keeps m.1 = each_keeps asks m.0 (f x) m.1 (n ∷ ms) k h.0 in
+      let door : D = back m.1 kept in
+      let same : f door ≡ m.1 = is_back m.1 kept in
+      let some : TellsSome (λ s a q r b. called s (f a) q r (f b)) x asks m.0 door = lifted_each asks m.0 x door m.1 n ms k same h.0 in
+      ((m.0, door) ∷ some.0, (some.1, lifted_one m.0 told door y m.1 e same q h.1))
 
-  lifted_from : (asks told : List Ask) (x y : D) (before : List (List Ask × E)) → Keeps (f x) → asks ≢ [] → All HasRequest asks → All IsAnswered told
+  lifted_from : (asks told : List Ask) (x y : D) (before : List (List Ask × E)) → Keeps (f x) → (asks ≡ [] → y ≡ x) → All HasRequest asks → All IsAnswered told
       → TellsEach called (f x) asks before told (f y) → TellsSome (λ s a q r b. called s (f a) q r (f b)) x asks told y
-  lifted_from [] told x y before k some has none h = absurd (some refl)
-  lifted_from (a ∷ rest) told x y [] k some has none h =
+  lifted_from [] told x y before k same has none h =
+      ([], (sym (none_still called [] told (f x) (f y) refl (before, h)), sym (same refl)))
+  lifted_from (a ∷ rest) told x y [] k same has none h =
       absurd (unanswered a.request (All-head HasRequest a rest has)
       (All-head IsAnswered a rest (All-same IsAnswered (a ∷ rest) told h.0 none)))
-  lifted_from (a ∷ rest) told x y (m ∷ ms) k some has none h = lifted_each (a ∷ rest) told x y (f y) m ms k refl h
+  lifted_from (a ∷ rest) told x y (m ∷ ms) k same has none h = lifted_each (a ∷ rest) told x y (f y) m ms k refl h
 
-  pub lifted : (asks told : List Ask) (x y : D) → Keeps (f x) → asks ≢ [] → All HasRequest asks → All IsAnswered told
+  pub lifted : (asks told : List Ask) (x y : D) → Keeps (f x) → (asks ≡ [] → y ≡ x) → All HasRequest asks → All IsAnswered told
       → TellsSome called (f x) asks told (f y) → TellsAll (λ s a q r b. called s (f a) q r (f b)) x asks told y
-  lifted asks told x y k some has none h = record { some = lifted_from asks told x y h.0 k some has none h.1; none = none }
+  lifted asks told x y k same has none h = record { some = lifted_from asks told x y h.0 k same has none h.1; none = none }

@@ -5,3 +5,4 @@ pub mod Serves
 pub mod Loops
 pub mod Logging
 pub mod Rounds
+pub mod Settled

@@ -1,10 +1,14 @@
 -- What a post does with the asks of a round.
-use Rattle.std.specs.Prelude.{ℕ, ◌≡◌, ◌⊎◌, IfSome}
+use Rattle.std.specs.Prelude.{ℕ, ◌≡◌, ◌⊎◌, List, IfSome}
 use Rattle.xa_frame.specs.Limits.{IsRequest}
 use Rattle.xa_frame.specs.declared.question.Question.{Question}
 use Rattle.xa_frame.specs.declared.reply.Reply.{Reply}
-use Rattle.xa_reactor.specs.Asking.{Tells}
+use Rattle.xa_model.specs.State.{State}
+use Rattle.xa_reactor.specs.Asking.{Tells, TellsSome}
 use Rattle.xa_reactor.specs.declared.ask.Ask.{Ask}
+use Rattle.xa_room.specs.declared.manages.Manages.{Ghosts}
+use Rattle.xa_server.specs.Loops.{Called}
+use Rattle.xa_tokens.specs.Account.{Account}
 
 -- its request, if it is left, is within the limits
 abbrev pub IsWithin : Ask → Type 0
@@ -13,3 +17,9 @@ IsWithin a = IfSome a.request IsRequest
 -- the request of an ask was answered at the door, or nothing changed
 abbrev pub TellsAtMost : {D : Type 0} → (ℕ → D → Question → Reply → D → Type 0) → D → Ask → Ask → D → Type 0
 TellsAtMost called d a b e = ((b ≡ a) × (e ≡ d)) ⊎ Tells called d a b e
+
+-- Letters of a share came back: some asks were answered, one behind the other, and nothing was asked for again.
+pub record TakesBack {M : Type 0} (m : Ghosts M) (start : State → Type 0) (base : ℕ × ℕ) (old : Account) (asks told : List Ask)
+    (new : Account) : Type 0 where
+  pub some : TellsSome {D = Account} (Called m start base) old asks told new
+  pub asked : new.asked ≡ old.asked

@@ -1,7 +1,10 @@
 ghost use Rattle.std.specs.Prelude.{◌≡◌, ◌↔◌, ◌+◌, ◌<◌, ◌≤◌, ◌⊎◌, ℕ, List, None, IfErr, IfOk, IsErrOf, length, map, sum_by};
 ghost use Rattle.xa_model.specs.State.{State};
-ghost use Rattle.xa_server.specs.Loops.{AllLoop, Held, ServesByLoops};
+ghost use Rattle.std.specs.List.{AllByRecursion};
+ghost use Rattle.xa_server.specs.Loops.{AllLoop, IsFresh, ServesByLoops, told_by};
 ghost use Rattle.xa_server.specs.declared.engine.TheConstants.{MOST_LOOPS};
+ghost use Rattle.xa_tokens.specs.Account.{Account, Owes};
+ghost use Rattle.xa_tokens.specs.Receipts.{AreSame};
 
 use crate::fault::ServerFault;
 use crate::post::Post;
@@ -10,13 +13,14 @@ use std::marker::Brand;
 use std::net::Net;
 use std::rt::Clock;
 use std::sync::Wait;
-use std::sync::ledger::{Blank, Ledger, Share};
 use std::thread::Threads;
+use xa_handles::SharedSequencer;
 use xa_reactor::{Ended, Listener, LoopFault, Settings, Watch, run_loops};
 use xa_room::Start;
-use xa_sequencer::{GroupCommits, Sequencer, SharedSequencer};
+use xa_sequencer::{GroupCommits, Sequencer};
+use xa_tokens::{Book, Opened, Share};
 
-/// The most loops, and the parts of the ledger of which each takes some.
+/// The most loops.
 pub const MOST_LOOPS: u64 = 16;
 
 /// What loops tell of what they served.
@@ -35,7 +39,8 @@ pub struct Looped {
 ///
 /// From whichever state the manager stood for, what was served is a legal history of as many entries as it tells of; its
 /// committed branches are one copy; and what was answered as prepared is listed until its completion is asked for. Each
-/// entry is of a session that a loop connected, answered and hung up.
+/// entry was told to one loop, once, for what that asked of a session that it connected, answered and hung up; and no loop
+/// was told anything else.
 pub fn loop_manager<
     M: GroupCommits + Send + Drop,
     R: AllocGlobal + Clock + Eprint + Net + Threads + Wait + Sync,
@@ -52,50 +57,42 @@ pub fn loop_manager<
     ensures fault { IfErr result (λ fault. (fault ≡ ServerFault.Memory) ⊎ ((fault ≡ ServerFault.Wait)
         ⊎ (fault ≡ ServerFault.Loops loops))) }
 {
-    let blank = Blank::new(MOST_LOOPS);
-    loop_by::<M, Brand, Brand, R>(rt, listener, manager, blank, loops, settings)
+    if loops == 0 || loops > MOST_LOOPS {
+        return Err(ServerFault::Loops(loops));
+    }
+    let opened = Opened::new(rt.alloc())?;
+    loop_by::<M, Brand, Brand, R>(rt, listener, manager, opened, loops, settings)
 }
 
-// The same from the states that `S` picks, with the ledger that `L` picks.
+// The same by so many loops, from the states that `S` picks, with the history that `B` names.
 fn loop_by<
     M: GroupCommits + Send + Drop,
     S: Start + Send + Sync,
-    L: Ledger + Send + Sync,
+    B: Book + Send + Sync,
     R: AllocGlobal + Clock + Eprint + Net + Threads + Wait + Sync,
 >(
     rt: &R,
     listener: Listener,
     manager: M,
-    blank: Blank,
+    opened: Opened,
     loops: u64,
     settings: Settings,
 ) -> Result<Looped, ServerFault>
     requires settled { M.pending manager ≡ None }
     requires start { (s : State) → S.start s → M.manages.stands manager s }
     requires base { M.manages.failures manager ≡ S.base }
-    requires name { blank.name ≡ L.name }
-    requires parts { (blank.parts ≡ L.parts) × (blank.parts ≡ MOST_LOOPS) }
+    requires name { opened ≡ B.table }
+    requires loops { (0 < loops) × (loops ≤ MOST_LOOPS) }
     ensures served { IfOk result (λ told. ServesByLoops M.manages S.start S.base loops told) }
-    ensures loops { IsErrOf result (ServerFault.Loops loops) ↔ ((loops ≡ 0) ⊎ (MOST_LOOPS < loops)) }
-    ensures fault { IfErr result (λ fault. (fault ≡ ServerFault.Memory) ⊎ ((fault ≡ ServerFault.Wait)
-        ⊎ (fault ≡ ServerFault.Loops loops))) }
+    ensures fault { IfErr result (λ fault. (fault ≡ ServerFault.Memory) ⊎ (fault ≡ ServerFault.Wait)) }
 {
-    if loops == 0 || loops > MOST_LOOPS {
-        return Err(ServerFault::Loops(loops));
-    }
     let sequencer: Sequencer<M, S> = Sequencer::new(manager);
-    let (shared, share) = SharedSequencer::<M, S, L>::new(rt.alloc(), sequencer, blank);
+    let (shared, share) = SharedSequencer::<M, S, B>::new(rt.alloc(), sequencer, opened);
     let watch = Watch::new();
     let posts = make_posts(rt, &shared, &watch, share, loops)?;
-    let (share, is_whole) = run_posts(rt, listener, &watch, posts, settings)?;
-    let (sequencer, mut book, owed) = shared.into_sequencer();
-    // an answer that found no room in its loop's tray, though room was made for it before the call
-    if owed > 0 {
-        return Err(ServerFault::Memory);
-    }
+    let (share, is_whole) = run_posts(rt, listener, &shared, &watch, posts, settings)?;
+    let sequencer = shared.into_sequencer(share);
     sequencer.promises();
-    let mut share = share;
-    book.audit(&mut share);
     Ok(Looped {
         calls: sequencer.count(),
         is_whole,
@@ -104,24 +101,24 @@ fn loop_by<
 }
 
 // A post for each loop. Its share has one part, and the last one's what is left.
-fn make_posts<'a, M: GroupCommits, S: Start, L: Ledger, R: AllocGlobal + Clock + Wait>(
+fn make_posts<'a, M: GroupCommits, S: Start, B: Book, R: AllocGlobal + Clock + Wait>(
     rt: &'a R,
-    sequencer: &'a SharedSequencer<M, S, L>,
+    sequencer: &'a SharedSequencer<M, S, B>,
     watch: &'a Watch,
-    share: Share<L>,
+    share: Share<B>,
     loops: u64,
-) -> Result<Vec<Post<'a, M, S, L, R>>, AllocError>
+) -> Result<Vec<Post<'a, M, S, B, R>>, AllocError>
     requires parts { (0 < loops) × (loops ≤ share.parts) }
-    requires none { share.amount ≡ 0 }
+    requires fresh { IsFresh share }
     ensures count { IfOk result (λ posts. length posts.items ≡ loops) }
-    ensures parts { IfOk result (λ posts. sum_by (λ p. p.handle.share.parts) posts.items ≡ share.parts) }
-    ensures none { IfOk result (λ posts. sum_by (λ p. p.handle.share.amount) posts.items ≡ 0) }
+    ensures parts { IfOk result (λ posts. sum_by (λ p. p.handle.asker.parts) posts.items ≡ share.parts) }
+    ensures fresh { IfOk result (λ posts. AllByRecursion IsFresh (map (λ p. p.handle.asker) posts.items)) }
 {
     let mut rest = share;
     let alloc = rt.alloc();
     let mut posts = Vec::new(alloc);
     for _i in 1..loops {
-        let one = rest.split_off(1, 0);
+        let one = sequencer.split(&mut rest);
         posts.push(Post::new(rt, sequencer, watch, one, alloc)?)?;
     }
     posts.push(Post::new(rt, sequencer, watch, rest, alloc)?)?;
@@ -132,33 +129,38 @@ fn make_posts<'a, M: GroupCommits, S: Start, L: Ledger, R: AllocGlobal + Clock +
 fn run_posts<
     M: GroupCommits + Send,
     S: Start + Send + Sync,
-    L: Ledger + Send + Sync,
+    B: Book + Send + Sync,
     R: AllocGlobal + Clock + Eprint + Net + Threads + Wait + Sync,
 >(
     rt: &R,
     listener: Listener,
+    sequencer: &SharedSequencer<M, S, B>,
     watch: &Watch,
-    posts: Vec<Post<'_, M, S, L, R>>,
+    posts: Vec<Post<'_, M, S, B, R>>,
     settings: Settings,
-) -> Result<(Share<L>, bool), LoopFault>
-    requires { 0 < length posts.items }
-    ensures parts { IfOk result (λ all. all.0.parts ≡ sum_by (λ p. p.handle.share.parts) posts.entry.items) }
-    ensures loops { IfOk result (λ all. (ended : List Held)
-        × AllLoop M.manages S.start S.base
-        (map (λ p. (p.handle.share.parts, p.handle.share.amount)) posts.entry.items) ended
-        × (sum_by (λ (s : Held). s.1) ended ≡ all.0.amount)) }
+) -> Result<(Share<B>, bool), LoopFault>
+    requires some { 0 < length posts.items }
+    requires fresh { AllByRecursion IsFresh (map (λ p. p.handle.asker) posts.items) }
+    ensures parts { IfOk result (λ all. all.0.parts ≡ sum_by (λ p. p.handle.asker.parts) posts.entry.items) }
+    ensures loops { IfOk result (λ all. (ended : List Account)
+        × AllLoop M.manages S.start S.base (map (λ p. p.handle.asker) posts.entry.items) ended
+        × AreSame all.0.told (told_by ended)) }
+    ensures settled { IfOk result (λ all. Owes all.0 0) }
 {
     let ended = run_loops(rt, listener, watch, posts, settings)?;
-    Ok(gather(ended))
+    Ok(gather(sequencer, ended))
 }
 
 // The shares of loops that ended, as one, and whether each could wait to its end.
-fn gather<M: GroupCommits, S: Start, L: Ledger, R: Clock + Wait>(
-    ended: Vec<Ended<Post<'_, M, S, L, R>>>,
-) -> (Share<L>, bool)
-    requires { 0 < length ended.items }
-    ensures parts { result.0.parts ≡ sum_by (λ e. e.door.handle.share.parts) ended.entry.items }
-    ensures amount { result.0.amount ≡ sum_by (λ e. e.door.handle.share.amount) ended.entry.items }
+fn gather<M: GroupCommits, S: Start, B: Book, R: Clock + Wait>(
+    sequencer: &SharedSequencer<M, S, B>,
+    ended: Vec<Ended<Post<'_, M, S, B, R>>>,
+) -> (Share<B>, bool)
+    requires some { 0 < length ended.items }
+    requires settled { AllByRecursion (λ e. Owes e.door.handle.asker 0) ended.items }
+    ensures parts { result.0.parts ≡ sum_by (λ e. e.door.handle.asker.parts) ended.entry.items }
+    ensures told { AreSame result.0.told (told_by (map (λ e. e.door.handle.asker) ended.entry.items)) }
+    ensures settled { Owes result.0 0 }
 {
     let mut ended = ended;
     let Some(Ended { door, mut is_whole }) = ended.pop() else {
@@ -172,7 +174,7 @@ fn gather<M: GroupCommits, S: Start, L: Ledger, R: Clock + Wait>(
         },
     ) = ended.pop()
     {
-        all.merge(door.into_share());
+        sequencer.merge(&mut all, door.into_share());
         is_whole = is_whole && more;
     }
     (all, is_whole)

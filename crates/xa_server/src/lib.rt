@@ -5,8 +5,9 @@
 //! - `serving`: `serve_manager`, which has workers serve a manager's sessions at one desk, and then audits the desk's
 //!   history; `MOST_WORKERS`
 //! - `looping`: `serve_loops`, which does the same by event loops, by its `LoopService`
-//! - `engine`: `loop_manager`, which has event loops serve a manager's sessions, each at its `post`; `logging`: which calls
-//!   may move the log's end; `Looped`, what they tell; `MOST_LOOPS`
+//! - `engine`: `loop_manager`, which has event loops serve a manager's sessions, each at its `post`, by a handle of the
+//!   sequencer that they share: what they were told is the history, each entry once; `logging`: which calls may move the
+//!   log's end; `Looped`, what they tell; `MOST_LOOPS`
 //! - `audited`: `Audited`, what it tells of the history; `audited_lines`, the lines that show it
 //! - `serve_fault`: `ServeFault`, why nothing was served; `log_file`: `LogFile`, a file that it names; `fault`:
 //!   `ServerFault`, why nothing is told of it

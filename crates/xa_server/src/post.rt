@@ -1,28 +1,28 @@
-ghost use Rattle.std.specs.Prelude.{◌≡◌};
+ghost use Rattle.std.specs.Prelude.{ℕ, ◌≡◌, ◌+◌};
 
 use crate::logging::{appends, may_log};
 use std::alloc::{AllocError, Global};
 use std::fmt;
 use std::rt::Clock;
 use std::sync::Wait;
-use std::sync::ledger::{Ledger, Share};
 use std::thread::yield_now;
 use xa_assoc::ConnectFault;
 use xa_desk::Door;
 use xa_frame::{Reply, Request, Status};
+use xa_handles::{Content, Handle, Held, Letter, SharedSequencer};
 use xa_reactor::{Ask, Reception, Watch};
 use xa_room::{Start, Uptime};
-use xa_sequencer::{Answered, GroupCommits, Handle, Held, SharedSequencer};
+use xa_sequencer::GroupCommits;
+use xa_tokens::{Book, Share};
 
 /// How often a loop lets others have the lock who wait for it, before it answers what they all have posted: what they ask
 /// meanwhile needn't wait for the device, and what they have posted shares its sync.
 const LETS: u32 = 4;
 
-/// A loop's post: a door at a sequencer that the loops share, with the loop's share of what is counted. A watch sees
-/// each reply.
+/// A loop's post: a door at a sequencer that the loops share. A watch sees each reply.
 #[derive(Drop)]
-pub(crate) struct Post<'a, M: GroupCommits, S: Start, L: Ledger, R> {
-    pub(crate) handle: Handle<'a, M, S, L, R>,
+pub(crate) struct Post<'a, M: GroupCommits, S: Start, B: Book, R> {
+    pub(crate) handle: Handle<'a, M, S, B, R>,
     watch: &'a Watch,
     rt: &'a R,
     uptime: Uptime,
@@ -30,21 +30,23 @@ pub(crate) struct Post<'a, M: GroupCommits, S: Start, L: Ledger, R> {
     logged: u64,
 }
 
-impl<'a, M: GroupCommits, S: Start, L: Ledger, R: Clock + Wait> Post<'a, M, S, L, R> {
-    ghost use Rattle.std.specs.Prelude.{◌≡◌, ◌<◌, All, IfOk};
+impl<'a, M: GroupCommits, S: Start, B: Book, R: Clock + Wait> Post<'a, M, S, B, R> {
+    ghost use Rattle.std.specs.Prelude.{◌≡◌, ◌<◌, [], All, IfOk};
     ghost use Rattle.xa_reactor.specs.Asking.{IsAnswered, TellsSome};
-    ghost use Rattle.xa_server.specs.{Loops.Called, Rounds.IsWithin, Rounds.TellsAtMost};
+    ghost use Rattle.xa_server.specs.{Loops.Called, Rounds.IsWithin, Rounds.TakesBack, Rounds.TellsAtMost};
+    ghost use Rattle.xa_tokens.specs.Account.{Owes};
 
     pub(crate) fn new(
         rt: &'a R,
-        sequencer: &'a SharedSequencer<M, S, L>,
+        sequencer: &'a SharedSequencer<M, S, B>,
         watch: &'a Watch,
-        share: Share<L>,
+        share: Share<B>,
         alloc: Global,
-    ) -> Result<Post<'a, M, S, L, R>, AllocError>
+    ) -> Result<Post<'a, M, S, B, R>, AllocError>
         requires some { 0 < share.parts }
-        requires none { share.amount ≡ 0 }
-        ensures { IfOk result (λ post. post.handle.share ≡ share) }
+        requires told { share.told ≡ [] }
+        requires owes { Owes share 0 }
+        ensures { IfOk result (λ post. post.handle.asker ≡ share) }
     {
         let handle = Handle::new(rt, sequencer, share, alloc)?;
         Ok(Post {
@@ -56,192 +58,167 @@ impl<'a, M: GroupCommits, S: Start, L: Ledger, R: Clock + Wait> Post<'a, M, S, L
         })
     }
 
-    // Answers those that can't log, in order.
-    fn answer_quick(&mut self, held: &mut Option<Held<'a, M, S, L>>, asks: &mut [Ask])
-        requires { All IsWithin asks.old }
-        ensures { TellsSome (Called M.manages S.start S.base) (self.old.handle.share.parts, self.old.handle.share.amount)
-            asks.old asks.new (self.new.handle.share.parts, self.new.handle.share.amount) }
-    {
-        for ask in asks.iter_mut() {
-            self.answer_if_quick(held, ask);
-        }
-    }
-
-    // Answers those that were posted, as far as whoever had the lock didn't, together with what other loops have posted:
-    // they share one write and one sync, for which the lock is let go. Those that have no room with the others are left,
-    // and so are all where there is no memory.
-    fn answer_posted(&mut self, held: &mut Option<Held<'a, M, S, L>>, asks: &mut [Ask])
-        ensures { TellsSome (Called M.manages S.start S.base) (self.old.handle.share.parts, self.old.handle.share.amount)
-            asks.old asks.new (self.new.handle.share.parts, self.new.handle.share.amount) }
-    {
-        // it is taken anew
-        *held = None;
-        if !are_left(asks) {
-            return;
-        }
-        let lock = self.take_turn(asks);
-        let lock = self.answer_mail(lock, asks);
-        if are_left(asks) {
-            *held = Some(lock);
-        } else {
-            drop(lock);
-            yield_now();
-        }
-    }
-
-    // Answers what all have posted, if some are left.
-    fn answer_mail(&mut self, held: Held<'a, M, S, L>, asks: &mut [Ask]) -> Held<'a, M, S, L>
-        ensures { TellsSome (Called M.manages S.start S.base) (self.old.handle.share.parts, self.old.handle.share.amount)
-            asks.old asks.new (self.new.handle.share.parts, self.new.handle.share.amount) }
-    {
-        if !are_left(asks) {
-            return held;
-        }
-        let mut held = self.handle.answer_posted(held);
-        self.take_answers(&mut held, asks);
-        held
-    }
-
-    // Takes the lock when no group is pending, and the answers that others gave, or when none are left. While some are left,
-    // others who wait for the lock come first, some times.
-    fn take_turn(&mut self, asks: &mut [Ask]) -> Held<'a, M, S, L>
-        ensures { TellsSome (Called M.manages S.start S.base) (self.old.handle.share.parts, self.old.handle.share.amount)
-            asks.old asks.new (self.new.handle.share.parts, self.new.handle.share.amount) }
+    // Takes what was posted back, answered by whoever had the lock, or by itself: until nothing is left. Those of all loops
+    // share one write and one sync, for which the lock is let go.
+    fn take_back(&mut self, asks: &mut [Ask])
+        ensures back { TakesBack M.manages S.start S.base self.old.handle.asker asks.old asks.new
+            self.new.handle.asker }
+        ensures same { asks.old ≡ [] → self.new ≡ self.old }
+        ensures none { Owes self.new.handle.asker 0 }
     {
         let mut lets = 0u32;
         for _ in self.rt.forever() {
-            let mut held = self.handle.hold();
-            self.take_answers(&mut held, asks);
-            if !are_left(asks) || self.has_turn(&held, lets) {
-                return held;
+            if self.handle.owed() == 0 {
+                return;
             }
-            drop(held);
+            let held = self.handle.hold();
+            self.take_turn(held, asks, lets);
+            if self.handle.owed() == 0 {
+                yield_now();
+                return;
+            }
             self.handle.rest(lets);
             lets = lets.saturating_add(1);
         }
         unreachable!()
     }
 
+    // Takes the letters that came back, and where some are to come back yet, it is settled, and nobody else waits for the
+    // lock, has the posted calls answered. While others wait for the lock they come first, some times.
+    fn take_turn(&mut self, held: Held<'a, M, S, B>, asks: &mut [Ask], lets: u32)
+        ensures back { TakesBack M.manages S.start S.base self.old.handle.asker asks.old asks.new
+            self.new.handle.asker }
+        ensures same { asks.old ≡ [] → self.new ≡ self.old }
+    {
+        let Some(held) = self.take_letters(held, asks) else {
+            return;
+        };
+        if self.handle.owed() > 0 && self.has_turn(&held, lets) {
+            let held = self.handle.answer_posted(held);
+            let _lock = self.take_letters(held, asks);
+        }
+    }
+
     // Whether it may begin a group, after it let others have the lock so often.
-    fn has_turn(&self, held: &Held<'a, M, S, L>, lets: u32) -> bool {
+    fn has_turn(&self, held: &Held<'a, M, S, B>, lets: u32) -> bool {
         self.handle.is_settled(held) && (lets >= LETS || !self.handle.is_wanted())
     }
 
-    // Takes the answers to what was posted.
-    fn take_answers(&mut self, held: &mut Held<'a, M, S, L>, asks: &mut [Ask])
-        ensures { TellsSome (Called M.manages S.start S.base) (self.old.handle.share.parts, self.old.handle.share.amount)
-            asks.old asks.new (self.new.handle.share.parts, self.new.handle.share.amount) }
-    {
-        for _ in 0..asks.len() {
-            let Some(answered) = self.handle.next_answer(held) else {
-                return;
-            };
-            self.take_answer(held, asks, answered);
-        }
-    }
-
-    // Takes the answer to one of them, by its place.
-    fn take_answer(
+    // Takes the letters that came back, by the lock, which it gives back, unless that was let go for one of them.
+    fn take_letters(
         &mut self,
-        held: &mut Held<'a, M, S, L>,
+        held: Held<'a, M, S, B>,
         asks: &mut [Ask],
-        answered: Answered<M, S>,
-    )
-        ensures { TellsSome (Called M.manages S.start S.base) (self.old.handle.share.parts, self.old.handle.share.amount)
-            asks.old asks.new (self.new.handle.share.parts, self.new.handle.share.amount) }
+    ) -> Option<Held<'a, M, S, B>>
+        ensures back { TakesBack M.manages S.start S.base self.old.handle.asker asks.old asks.new
+            self.new.handle.asker }
+        ensures same { asks.old ≡ [] → self.new ≡ self.old }
     {
-        let place = answered.place();
+        let mut held = held;
+        for _ in 0..asks.len() {
+            if self.handle.owed() == 0 {
+                return Some(held);
+            }
+            let Some(letter) = self.handle.next_letter(&mut held) else {
+                return Some(held);
+            };
+            held = self.take_letter(held, asks, letter)?;
+        }
+        Some(held)
+    }
+
+    // Takes the letter of one of them, by its place.
+    fn take_letter(
+        &mut self,
+        held: Held<'a, M, S, B>,
+        asks: &mut [Ask],
+        letter: Letter<M, S, B>,
+    ) -> Option<Held<'a, M, S, B>>
+        requires { (n : ℕ) × Owes self.old.handle.asker (n + 1) }
+        ensures { TakesBack M.manages S.start S.base self.old.handle.asker asks.old asks.new
+            self.new.handle.asker }
+    {
+        let place = letter.place();
         if place < asks.len() {
-            self.take_answer_to(held, &mut asks[place], answered);
+            self.take_letter_to(held, &mut asks[place], letter)
+        } else {
+            Some(held)
         }
     }
 
-    // Takes an answer, if it is to this ask.
-    fn take_answer_to(
+    // Takes a letter, if it is of this ask: its answer, or the call that is to be answered by itself.
+    fn take_letter_to(
         &mut self,
-        held: &mut Held<'a, M, S, L>,
+        held: Held<'a, M, S, B>,
         ask: &mut Ask,
-        answered: Answered<M, S>,
-    )
-        ensures { TellsAtMost (Called M.manages S.start S.base)
-            (self.old.handle.share.parts, self.old.handle.share.amount) ask.old ask.new
-            (self.new.handle.share.parts, self.new.handle.share.amount) }
+        letter: Letter<M, S, B>,
+    ) -> Option<Held<'a, M, S, B>>
+        requires { (n : ℕ) × Owes self.old.handle.asker (n + 1) }
+        ensures told { TellsAtMost (Called M.manages S.start S.base) self.old.handle.asker ask.old ask.new
+            self.new.handle.asker }
+        ensures asked { self.new.handle.asker.asked ≡ self.old.handle.asker.asked }
     {
-        let is_to = match &ask.request {
-            Some(request) => answered.is_to(ask.session, request),
+        let is_of = match &ask.request {
+            Some(request) => letter.is_of(ask.session, request),
             None => false,
         };
-        if is_to && self.handle.count_answer(held, &answered) {
-            self.logged = self.logged.wrapping_add(1);
-            self.watch.see(false, answered.reply());
-            ask.request = None;
-            ask.reply = answered.into_reply();
+        if !is_of {
+            return Some(held);
         }
+        let (_, _, content) = letter.into_parts();
+        let (reply, held) = match content {
+            Content::Answered(answered) => (self.handle.take_answer(answered), Some(held)),
+            Content::Posted(posted) => self.handle.call_back(held, posted),
+        };
+        self.logged = self.logged.wrapping_add(1);
+        self.watch.see(false, &reply);
+        ask.request = None;
+        ask.reply = reply;
+        held
     }
 
     // Answers those that are left, one by one.
-    fn answer_left(&mut self, held: &mut Option<Held<'a, M, S, L>>, asks: &mut [Ask])
+    fn answer_left(&mut self, asks: &mut [Ask])
         requires { All IsWithin asks.old }
-        ensures some { TellsSome (Called M.manages S.start S.base)
-            (self.old.handle.share.parts, self.old.handle.share.amount) asks.old asks.new
-            (self.new.handle.share.parts, self.new.handle.share.amount) }
+        ensures some { TellsSome (Called M.manages S.start S.base) self.old.handle.asker asks.old asks.new
+            self.new.handle.asker }
+        ensures same { asks.old ≡ [] → self.new ≡ self.old }
         ensures none { All IsAnswered asks.new }
+        ensures settled { Owes self.old.handle.asker 0 → Owes self.new.handle.asker 0 }
     {
+        let mut held = None;
         for ask in asks.iter_mut() {
-            self.answer(held, ask);
-        }
-    }
-
-    // Answers an ask that can't log.
-    fn answer_if_quick(&mut self, held: &mut Option<Held<'a, M, S, L>>, ask: &mut Ask)
-        requires { IsWithin ask.old }
-        ensures { TellsAtMost (Called M.manages S.start S.base)
-            (self.old.handle.share.parts, self.old.handle.share.amount) ask.old ask.new
-            (self.new.handle.share.parts, self.new.handle.share.amount) }
-    {
-        let is_quick = match &ask.request {
-            Some(request) => !may_log(request),
-            None => false,
-        };
-        if is_quick {
-            self.answer(held, ask);
+            self.answer(&mut held, ask);
         }
     }
 
     // Answers an ask that is left. The next one goes on by the same lock, but not after a call that may have waited for the
     // device: others have their turn first. One that a pending group holds up waits until that is finished.
-    fn answer(&mut self, held: &mut Option<Held<'a, M, S, L>>, ask: &mut Ask)
+    fn answer(&mut self, held: &mut Option<Held<'a, M, S, B>>, ask: &mut Ask)
         requires { IsWithin ask.old }
-        ensures told { TellsAtMost (Called M.manages S.start S.base)
-            (self.old.handle.share.parts, self.old.handle.share.amount) ask.old ask.new
-            (self.new.handle.share.parts, self.new.handle.share.amount) }
+        ensures told { TellsAtMost (Called M.manages S.start S.base) self.old.handle.asker ask.old ask.new
+            self.new.handle.asker }
         ensures gone { IsAnswered ask.new }
+        ensures settled { Owes self.old.handle.asker 0 → Owes self.new.handle.asker 0 }
     {
         if let Some(request) = ask.request.take() {
             let lets_go = may_log(&request);
             let is_restart = self.count(&request);
-            let mut lock = self.lock(held);
-            match self.handle.call_held(&mut lock, ask.session, request) {
-                Ok(reply) => {
-                    ask.reply = reply;
-                    if lets_go {
-                        drop(lock);
-                        yield_now();
-                    } else {
-                        *held = Some(lock);
-                    }
-                }
-                Err(request) => {
-                    drop(lock);
-                    ask.reply = self.handle.call(ask.session, request);
-                }
+            let lock = self.lock(held);
+            let (reply, lock) = self.handle.call_held(lock, ask.session, request);
+            ask.reply = reply;
+            if lets_go {
+                drop(lock);
+                yield_now();
+            } else {
+                *held = lock;
             }
             self.watch.see(is_restart, &ask.reply);
         }
     }
 
     // The lock, where it was taken before, or newly taken.
-    fn lock(&self, held: &mut Option<Held<'a, M, S, L>>) -> Held<'a, M, S, L> {
+    fn lock(&self, held: &mut Option<Held<'a, M, S, B>>) -> Held<'a, M, S, B> {
         match held.take() {
             Some(lock) => lock,
             None => self.handle.hold(),
@@ -257,30 +234,21 @@ impl<'a, M: GroupCommits, S: Start, L: Ledger, R: Clock + Wait> Post<'a, M, S, L
     }
 
     /// The share.
-    pub(crate) fn into_share(self) -> Share<L>
-        ensures { result ≡ self.entry.handle.share }
+    pub(crate) fn into_share(self) -> Share<B>
+        ensures { result ≡ self.entry.handle.asker }
     {
-        let Post {
-            handle,
-            watch: _,
-            rt: _,
-            uptime: _,
-            logged: _,
-        } = self;
+        let Post { handle, .. } = self;
         handle.into_share()
     }
 }
 
-impl<M: GroupCommits, S: Start, L: Ledger, R: Clock + Wait> Door for Post<'_, M, S, L, R> {
+impl<M: GroupCommits, S: Start, B: Book, R: Clock + Wait> Door for Post<'_, M, S, B, R> {
     ghost use Rattle.xa_server.specs.Loops.{Called, Left};
 
     ghost called = { λ session a question reply b.
-        Called M.manages S.start S.base session (a.handle.share.parts, a.handle.share.amount) question reply
-        (b.handle.share.parts, b.handle.share.amount) };
+        Called M.manages S.start S.base session a.handle.asker question reply b.handle.asker };
 
-    ghost left = { λ session a b.
-        Left M.manages S.start S.base session (a.handle.share.parts, a.handle.share.amount)
-        (b.handle.share.parts, b.handle.share.amount) };
+    ghost left = { λ session a b. Left M.manages S.start S.base session a.handle.asker b.handle.asker };
 
     fn call(&mut self, session: u64, request: Request) -> Reply {
         let is_restart = self.count(&request);
@@ -301,13 +269,18 @@ impl<M: GroupCommits, S: Start, L: Ledger, R: Clock + Wait> Door for Post<'_, M,
     }
 }
 
-impl<M: GroupCommits, S: Start, L: Ledger, R: Clock + Wait> Reception for Post<'_, M, S, L, R> {
+impl<M: GroupCommits, S: Start, B: Book, R: Clock + Wait> Reception for Post<'_, M, S, B, R> {
     ghost use Rattle.xa_sequencer.specs.Associates.{AssociatedBy, EndedBy};
-    ghost use Rattle.xa_server.specs.Loops.{Connected};
+    ghost use Rattle.xa_server.specs.{Loops.Connected, Loops.Posted, Settled.keeps_settled};
+    ghost use Rattle.xa_tokens.specs.Account.{Owes};
 
-    ghost connected = { λ a result b.
-        Connected M.manages S.start S.base (a.handle.share.parts, a.handle.share.amount) result
-        (b.handle.share.parts, b.handle.share.amount) };
+    ghost connected = { λ a result b. Connected M.manages S.start S.base a.handle.asker result b.handle.asker };
+
+    ghost posted = { λ session a b. Posted session a.handle.asker b.handle.asker };
+
+    ghost is_settled = { λ a. Owes a.handle.asker 0 };
+
+    ghost keeps_settled = { keeps_settled M.manages S.start S.base (λ p. p.handle.asker) };
 
     ghost associates = { λ _ session result. AssociatedBy M.manages S.start S.base session result };
 
@@ -318,20 +291,19 @@ impl<M: GroupCommits, S: Start, L: Ledger, R: Clock + Wait> Reception for Post<'
     }
 
     fn call_all(&mut self, asks: &mut [Ask]) {
-        if asks.is_empty() {
-            return;
-        }
-        let mut held = None;
-        self.answer_quick(&mut held, asks);
-        self.answer_posted(&mut held, asks);
-        self.answer_left(&mut held, asks);
+        self.take_back(asks);
+        self.answer_left(asks);
+    }
+
+    fn call_quick(&mut self, asks: &mut [Ask]) {
+        self.answer_left(asks);
     }
 
     fn may_wait(&self, request: &Request) -> bool {
         may_log(request)
     }
 
-    fn post(&self, place: usize, ask: &Ask) {
+    fn post(&mut self, place: usize, ask: &Ask) {
         if let Some(request) = &ask.request {
             if appends(request) {
                 self.handle.post(place, ask.session, request);
@@ -364,13 +336,8 @@ impl<M: GroupCommits, S: Start, L: Ledger, R: Clock + Wait> Reception for Post<'
     }
 }
 
-// Whether a request is left to be answered.
-fn are_left(asks: &[Ask]) -> bool {
-    asks.iter().any(|ask| ask.request.is_some())
-}
-
 /// Shows the name alone.
-impl<M: GroupCommits, S: Start, L: Ledger, R> fmt::Debug for Post<'_, M, S, L, R> {
+impl<M: GroupCommits, S: Start, B: Book, R> fmt::Debug for Post<'_, M, S, B, R> {
     fn fmt<W: fmt::Write>(&self, f: &mut fmt::Formatter<W>) -> fmt::Result {
         f.debug_struct("Post").finish_non_exhaustive()
     }

@@ -1,18 +1,19 @@
-ghost use Rattle.std.specs.Prelude.{◌≡◌, ◌<◌, IfSome, None};
+ghost use Rattle.std.specs.Prelude.{ℕ, ◌≡◌, ◌+◌, ◌<◌, IfSome, None};
 ghost use Rattle.xa_frame.specs.Limits.{IsRequest};
 ghost use Rattle.xa_model.specs.State.{State};
 
-use crate::desks::{PARTS, opened};
+use crate::desks::opened;
 use std::alloc::Global;
 use std::marker::Brand;
 use std::sync::Wait;
-use std::sync::ledger::{Blank, Ledger};
 use xa_codes::XA_OK;
 use xa_disk::MemDisk;
 use xa_frame::Request;
+use xa_handles::{Content, Handle, Held, SharedSequencer};
 use xa_room::Start;
 use xa_script::{Line, read_line};
-use xa_sequencer::{GroupCommits, GroupManager, Handle, Held, Sequencer, SharedSequencer};
+use xa_sequencer::{GroupCommits, GroupManager, Sequencer};
+use xa_tokens::{Book, Opened};
 
 pub fn call_of(alloc: Global, line: &str) -> Option<(u64, Request)>
     ensures { IfSome result (λ call. IsRequest call.1) }
@@ -24,51 +25,79 @@ pub fn call_of(alloc: Global, line: &str) -> Option<(u64, Request)>
 }
 
 // Whether each line is answered by 0.
-fn calls<M: GroupCommits, S: Start, L: Ledger, R: Wait>(
+fn calls<M: GroupCommits, S: Start, B: Book, R: Wait>(
     alloc: Global,
-    handle: &mut Handle<'_, M, S, L, R>,
+    handle: &mut Handle<'_, M, S, B, R>,
     lines: &[&str],
 ) -> Option<bool> {
     let mut are_right = true;
     for line in lines {
         let (session, request) = call_of(alloc, line)?;
-        let mut held = handle.hold();
-        are_right &= handle.call_held(&mut held, session, request).ok()?.code == XA_OK;
+        let held = handle.hold();
+        let (reply, _held) = handle.call_held(held, session, request);
+        are_right &= reply.code == XA_OK;
     }
     Some(are_right)
 }
 
-fn posts<M: GroupCommits, S: Start, L: Ledger, R: Wait>(
+fn posts<M: GroupCommits, S: Start, B: Book, R: Wait>(
     alloc: Global,
-    handle: &Handle<'_, M, S, L, R>,
+    handle: &mut Handle<'_, M, S, B, R>,
     place: usize,
     line: &str,
 ) -> Option<()> {
     let (session, request) = call_of(alloc, line)?;
+    let owed = handle.owed();
     handle.post(place, session, &request);
-    Some(())
+    (handle.owed() > owed).then_some(())
 }
 
 // The number of the next answer, if it is 0 to this line, at this place, and to no other session.
-fn takes<M: GroupCommits, S: Start, L: Ledger, R: Wait>(
+fn takes<M: GroupCommits, S: Start, B: Book, R: Wait>(
     alloc: Global,
-    handle: &mut Handle<'_, M, S, L, R>,
-    held: &mut Held<'_, M, S, L>,
+    handle: &mut Handle<'_, M, S, B, R>,
+    held: &mut Held<'_, M, S, B>,
     place: usize,
     line: &str,
 ) -> Option<u64> {
     let (session, request) = call_of(alloc, line)?;
-    let answered = handle.next_answer(held)?;
-    let is_right = answered.place() == place
-        && answered.is_to(session, &request)
-        && !answered.is_to(0, &request)
-        && handle.count_answer(held, &answered)
-        && answered.reply().code == XA_OK;
-    if is_right {
-        Some(answered.into_reply().place)
-    } else {
-        None
+    if handle.owed() == 0 {
+        return None;
     }
+    let letter = handle.next_letter(held)?;
+    let is_right = letter.place() == place
+        && letter.is_of(session, &request)
+        && !letter.is_of(0, &request);
+    let (_, _, Content::Answered(answered)) = letter.into_parts() else {
+        return None;
+    };
+    let reply = handle.take_answer(answered);
+    (is_right && reply.code == XA_OK).then_some(reply.place)
+}
+
+// The number of the next call that comes back as it was, which its handle then answers by itself.
+fn takes_back<'a, M: GroupCommits, S: Start, B: Book, R: Wait>(
+    handle: &mut Handle<'a, M, S, B, R>,
+    held: Held<'a, M, S, B>,
+) -> Option<u64> {
+    if handle.owed() == 0 {
+        return None;
+    }
+    let mut held = held;
+    let letter = handle.next_letter(&mut held)?;
+    let (_, _, Content::Posted(posted)) = letter.into_parts() else {
+        return None;
+    };
+    let (reply, _held) = handle.call_back(held, posted);
+    Some(reply.place)
+}
+
+// Whether each call that the handle posted has come back to it, and was answered.
+fn has_all<M: GroupCommits, S: Start, B: Book, R: Wait>(
+    handle: &Handle<'_, M, S, B, R>,
+    held: &mut Held<'_, M, S, B>,
+) -> bool {
+    handle.next_letter(held).is_none() && handle.owed() == 0
 }
 
 // What the first handle asks between the group's answer and the moment when it takes its own.
@@ -84,11 +113,11 @@ const MEANWHILE: [&str; 8] = [
 ];
 
 // Two prepares that two handles post are answered together, by the one that has the lock. The first handle takes its answer
-// when it has counted more of its own than there were in all behind the group.
-fn share<M: GroupCommits, S: Start, L: Ledger, R: Wait>(
+// when it has asked for more of its own than there was in all behind the group, and nobody asks for it again.
+fn share<M: GroupCommits, S: Start, B: Book, R: Wait>(
     alloc: Global,
-    first: &mut Handle<'_, M, S, L, R>,
-    second: &mut Handle<'_, M, S, L, R>,
+    first: &mut Handle<'_, M, S, B, R>,
+    second: &mut Handle<'_, M, S, B, R>,
 ) -> Option<bool> {
     posts(alloc, first, 3, "1 prepare TMNOFLAGS 1:aa:")?;
     posts(alloc, second, 5, "2 prepare TMNOFLAGS 1:bb:")?;
@@ -98,31 +127,43 @@ fn share<M: GroupCommits, S: Start, L: Ledger, R: Wait>(
     let mut held = second.hold();
     let later = takes(alloc, second, &mut held, 5, "2 prepare TMNOFLAGS 1:bb:")?;
     let earlier = takes(alloc, first, &mut held, 3, "1 prepare TMNOFLAGS 1:aa:")?;
-    let is_over = first.next_answer(&mut held).is_none() && second.next_answer(&mut held).is_none();
+    let is_over = has_all(first, &mut held) && has_all(second, &mut held);
     Some(goes_on && is_over && earlier == 11 && later == 12)
 }
 
-// So is a call that is posted alone, with this number; one that logs nothing is left to its handle.
-fn answers_alone<M: GroupCommits, S: Start, L: Ledger, R: Wait>(
+// So is a call that is posted alone, with this number.
+fn answers_alone<M: GroupCommits, S: Start, B: Book, R: Wait>(
     alloc: Global,
-    handle: &mut Handle<'_, M, S, L, R>,
+    handle: &mut Handle<'_, M, S, B, R>,
     line: &str,
-    number: Option<u64>,
+    number: u64,
 ) -> Option<bool> {
     posts(alloc, handle, 0, line)?;
     let held = handle.hold();
     let mut held = handle.answer_posted(held);
-    let is_right = match number {
-        Some(number) => takes(alloc, handle, &mut held, 0, line)? == number,
-        None => true,
-    };
-    Some(is_right && handle.next_answer(&mut held).is_none())
+    let is_right = takes(alloc, handle, &mut held, 0, line)? == number;
+    Some(is_right && has_all(handle, &mut held))
 }
 
-fn answers<M: GroupCommits, S: Start, L: Ledger, R: Wait>(
+// One that logs nothing is left to its handle.
+fn leaves<M: GroupCommits, S: Start, B: Book, R: Wait>(
     alloc: Global,
-    first: &mut Handle<'_, M, S, L, R>,
-    second: &mut Handle<'_, M, S, L, R>,
+    handle: &mut Handle<'_, M, S, B, R>,
+    line: &str,
+    number: u64,
+) -> Option<bool> {
+    posts(alloc, handle, 0, line)?;
+    let held = handle.hold();
+    let held = handle.answer_posted(held);
+    let is_right = takes_back(handle, held)? == number;
+    let mut held = handle.hold();
+    Some(is_right && has_all(handle, &mut held))
+}
+
+fn answers<M: GroupCommits, S: Start, B: Book, R: Wait>(
+    alloc: Global,
+    first: &mut Handle<'_, M, S, B, R>,
+    second: &mut Handle<'_, M, S, B, R>,
 ) -> Option<bool> {
     let are_connected = first.connect().ok()? == 1 && second.connect().ok()? == 2;
     let is_ready = calls(
@@ -146,43 +187,40 @@ fn answers<M: GroupCommits, S: Start, L: Ledger, R: Wait>(
         ],
     )?;
     let is_shared = share(alloc, first, second)?;
-    let is_alone = answers_alone(alloc, first, "1 commit TMNOFLAGS 1:aa:", Some(21))?;
-    let is_left = answers_alone(alloc, first, "1 forget TMNOFLAGS 1:aa:", None)?;
+    let is_alone = answers_alone(alloc, first, "1 commit TMNOFLAGS 1:aa:", 21)?;
+    let is_left = leaves(alloc, first, "1 forget TMNOFLAGS 1:aa:", 22)?;
     Some(are_connected && is_ready && is_other_ready && is_shared && is_alone && is_left)
 }
 
-fn shares_both<M: GroupCommits + Drop, S: Start, L: Ledger, R: Wait>(
+fn shares_both<M: GroupCommits + Drop, S: Start, B: Book, R: Wait>(
     rt: &R,
     alloc: Global,
     manager: M,
-    blank: Blank,
+    history: Opened,
 ) -> Option<bool>
     requires settled { M.pending manager ≡ None }
     requires start { (s : State) → S.start s → M.manages.stands manager s }
     requires base { M.manages.failures manager ≡ S.base }
-    requires name { blank.name ≡ L.name }
-    requires parts { (blank.parts ≡ L.parts) × (blank.parts ≡ 8) }
+    requires name { history ≡ B.table }
 {
     let sequencer: Sequencer<M, S> = Sequencer::new(manager);
-    let (shared, mut share) = SharedSequencer::<M, S, L>::new(alloc, sequencer, blank);
-    let other = share.split_off(1, 0);
+    let (shared, mut share) = SharedSequencer::<M, S, B>::new(alloc, sequencer, history);
+    let other = shared.split(&mut share);
     let mut first = Handle::new(rt, &shared, share, alloc).ok()?;
     let mut second = Handle::new(rt, &shared, other, alloc).ok()?;
-    let are_right = answers(alloc, &mut first, &mut second);
-    let _first = first.into_share();
-    let _second = second.into_share();
-    let (sequencer, _book, owed) = shared.into_sequencer();
-    Some(are_right? && owed == 0 && sequencer.count() == 21)
+    let are_right = answers(alloc, &mut first, &mut second)?;
+    Some(are_right && second.status().calls == 22)
 }
 
 #[test]
 fn posted_calls_share_an_append(rt: HostRuntime) {
     let manager = opened(rt.alloc()).expect(&rt, "a manager");
+    let history = Opened::new(rt.alloc()).expect(&rt, "a history");
     let found = shares_both::<GroupManager<MemDisk>, Brand, Brand, HostRuntime>(
         &rt,
         rt.alloc(),
         GroupManager::new(manager),
-        Blank::new(PARTS),
+        history,
     );
     assert!(rt; found == Some(true));
 }

@@ -1,20 +1,22 @@
-ghost use Rattle.std.specs.Prelude.{◌≡◌, ◌<◌, IfSome, None};
+ghost use Rattle.std.specs.Prelude.{◌≡◌, ◌<◌, [], IfSome, None};
 ghost use Rattle.xa_frame.specs.Limits.{IsRequest};
 ghost use Rattle.xa_model.specs.State.{State};
+ghost use Rattle.xa_tokens.specs.Account.{Owes};
 
-use crate::desks::{PARTS, open_request, opened};
+use crate::desks::{open_request, opened};
 use std::alloc::Global;
 use std::marker::Brand;
 use std::sync::Wait;
-use std::sync::ledger::{Blank, Ledger, Share};
 use std::thread::{Threads, map_vec};
 use xa_codes::{XA_OK, XAER_PROTO};
 use xa_desk::Door;
 use xa_disk::MemDisk;
 use xa_fields::Key;
 use xa_frame::Request;
+use xa_handles::{Handle, SharedSequencer};
 use xa_room::Start;
-use xa_sequencer::{GroupCommits, GroupManager, Handle, Sequencer, SharedSequencer};
+use xa_sequencer::{GroupCommits, GroupManager, Sequencer};
+use xa_tokens::{Book, Opened, Share};
 
 fn get_request() -> Option<Request>
     ensures { IfSome result IsRequest }
@@ -80,18 +82,19 @@ fn a_sequencer_numbers_each_event(rt: HostRuntime) {
     assert!(rt; found == Some(true));
 }
 
-/// A part of the ledger, for a thread.
+/// A share by which nothing was asked, for a thread.
 #[derive(Drop)]
-struct Part<L: Ledger> {
-    share: Share<L>,
+struct Part<B: Book> {
+    share: Share<B>,
     ghost some: { 0 < share.parts },
-    ghost none: { share.amount ≡ 0 },
+    ghost told: { share.told ≡ [] },
+    ghost owes: { Owes share 0 },
 }
 
 // A connect, an Open and a hang-up.
-fn opens<M: GroupCommits, S: Start, L: Ledger, R: Wait>(
+fn opens<M: GroupCommits, S: Start, B: Book, R: Wait>(
     alloc: Global,
-    handle: &mut Handle<'_, M, S, L, R>,
+    handle: &mut Handle<'_, M, S, B, R>,
 ) -> Option<bool> {
     let session = handle.connect().ok()?;
     let reply = handle.call(session, open_request(alloc)?);
@@ -99,11 +102,11 @@ fn opens<M: GroupCommits, S: Start, L: Ledger, R: Wait>(
     Some(reply.code == XA_OK && reply.place > 1)
 }
 
-fn visit<M: GroupCommits, S: Start, L: Ledger, R: Wait>(
+fn visit<M: GroupCommits, S: Start, B: Book, R: Wait>(
     rt: &R,
     alloc: Global,
-    sequencer: &SharedSequencer<M, S, L>,
-    part: Part<L>,
+    sequencer: &SharedSequencer<M, S, B>,
+    part: Part<B>,
 ) -> bool {
     let Part { share } = part;
     let Ok(mut handle) = Handle::new(rt, sequencer, share, alloc) else {
@@ -114,40 +117,41 @@ fn visit<M: GroupCommits, S: Start, L: Ledger, R: Wait>(
     is_right
 }
 
-// Two visitors at once.
+// Two visitors at once, and then one who asks how many events there were.
 fn counts_both<
     M: GroupCommits + Send + Drop,
     S: Start + Send + Sync,
-    L: Ledger + Send + Sync,
+    B: Book + Send + Sync,
     R: Threads + Wait + Sync,
->(rt: &R, alloc: Global, manager: M, blank: Blank) -> Option<bool>
+>(rt: &R, alloc: Global, manager: M, history: Opened) -> Option<bool>
     requires settled { M.pending manager ≡ None }
     requires start { (s : State) → S.start s → M.manages.stands manager s }
     requires base { M.manages.failures manager ≡ S.base }
-    requires name { blank.name ≡ L.name }
-    requires parts { (blank.parts ≡ L.parts) × (blank.parts ≡ 8) }
+    requires name { history ≡ B.table }
 {
     let sequencer: Sequencer<M, S> = Sequencer::new(manager);
-    let (shared, mut share) = SharedSequencer::<M, S, L>::new(alloc, sequencer, blank);
-    let other = share.split_off(1, 0);
+    let (shared, mut share) = SharedSequencer::<M, S, B>::new(alloc, sequencer, history);
+    let one = shared.split(&mut share);
+    let other = shared.split(&mut share);
     let mut parts = Vec::new(alloc);
-    parts.push(Part { share }).ok()?;
+    parts.push(Part { share: one }).ok()?;
     parts.push(Part { share: other }).ok()?;
     let mut visits = map_vec(rt, parts, &|part| visit(rt, alloc, &shared, part)).ok()?;
     let second = visits.pop()?;
     let first = visits.pop()?;
-    let (sequencer, _book, owed) = shared.into_sequencer();
-    Some(first && second && owed == 0 && sequencer.count() == 6)
+    let handle = Handle::new(rt, &shared, share, alloc).ok()?;
+    Some(first && second && handle.status().calls == 6)
 }
 
 #[test]
 fn a_sequencer_is_shared(rt: HostRuntime) {
     let manager = opened(rt.alloc()).expect(&rt, "a manager");
+    let history = Opened::new(rt.alloc()).expect(&rt, "a history");
     let found = counts_both::<GroupManager<MemDisk>, Brand, Brand, HostRuntime>(
         &rt,
         rt.alloc(),
         GroupManager::new(manager),
-        Blank::new(PARTS),
+        history,
     );
     assert!(rt; found == Some(true));
 }

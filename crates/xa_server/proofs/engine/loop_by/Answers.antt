@@ -1,28 +1,33 @@
-use Rattle.std.proofs.Common.{◌∙◌, ℕ, map, arith}
+use Rattle.std.proofs.Common.{◌∙◌, map, ap}
 use Rattle.std.proofs.lemmas.List.{length-map}
-use Rattle.xa_server.proofs.Sharing.{sum_map}
 use Rattle.xa_server.proofs.engine.loop_by.Goals as goal
+use Rattle.xa_tokens.specs.Account.{Account}
 
--- the loops' shares as one have every part, so what they counted is the book's total, and the sequencer's count
+-- the loops' shares as one have every part, so what they were told is the history
+pub into_sequencer-sequencer-requires-clause-parts : goal.into_sequencer-sequencer-requires-clause-parts
+into_sequencer-sequencer-requires-clause-parts g c =
+    c.in_ok-share.ensures.parts ∙ (c.in_ok-posts.ensures.parts ∙ ap (λ (a : Account). a.parts) c.new-shared.ensures)
+
 pub returns-clause-served : goal.returns-clause-served
 returns-clause-served g c =
     let posts = c.in_ok-posts.posts.items in
     let ran = c.in_ok-share.ensures in
-    let history = c.promises.ensures.history in
-    let parts = ran.parts ∙ (c.in_ok-posts.ensures.parts ∙ c.new-shared.ensures.0) in
+    let whole = c.into_sequencer-sequencer.ensures in
     record {
-      now = c.into_sequencer-sequencer.result.0.now;
-      entries = history.0;
+      now = c.into_sequencer-sequencer.result.now;
+      entries = whole.book.entries;
+      ended = ran.loops.0;
       runs = record {
-        begun = map (λ p. (p.handle.share.parts, p.handle.share.amount)) posts;
-        ended = ran.loops.0;
-        count = length-map posts (λ p. (p.handle.share.parts, p.handle.share.amount)) ∙ c.in_ok-posts.ensures.count;
-        none = sum_map (λ p. (p.handle.share.parts, p.handle.share.amount)) (λ (s : ℕ × ℕ). s.1) posts ∙ c.in_ok-posts.ensures.none;
+        begun = map (λ p. p.handle.asker) posts;
+        count = length-map posts (λ p. p.handle.asker) ∙ c.in_ok-posts.ensures.count;
+        fresh = c.in_ok-posts.ensures.fresh;
         loop = ran.loops.1;
-        calls_are = ran.loops.2 ∙ (c.audit.ensures.whole parts ∙ omega (arith, c.into_sequencer-sequencer.ensures, c.count.ensures));
       };
-      legal = history.1.upholds.legal;
-      promises = c.promises.ensures.promises history.0 history.1;
-      counted = history.1.upholds.counted;
-      calls_are = c.count.ensures ∙ history.1.count_is;
+      receipts = whole.receipts;
+      are = whole.book.same;
+      once = λ weigh. whole.whole.told weigh ∙ ran.loops.2 weigh;
+      legal = whole.book.stands.upholds.legal;
+      promises = c.promises.ensures.promises whole.book.entries whole.book.stands;
+      counted = whole.book.stands.upholds.counted;
+      calls_are = c.count.ensures ∙ whole.book.stands.count_is;
     }

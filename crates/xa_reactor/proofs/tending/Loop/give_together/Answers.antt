@@ -1,6 +1,7 @@
 use Rattle.xa_reactor.specs.Tending.{Table, sessions_of}
 use Rattle.xa_reactor.proofs.Aside.{tends_aside}
-use Rattle.xa_reactor.proofs.Doing.{tends_thrice, tends_twice}
+use Rattle.xa_reactor.proofs.Doing.{posting_tended, posting_thrice, tends_twice}
+use Rattle.xa_reactor.proofs.Settled.{still_settled}
 use Rattle.xa_reactor.proofs.tending.Loop.give_together.Goals as goal
 
 pub returns-clause-tends : goal.returns-clause-tends
@@ -9,10 +10,20 @@ returns-clause-tends g c =
     let lingered : Table = sessions_of c.linger-lingered.new.peers.all in
     let more : Table = sessions_of c.gather-more.new.peers.all in
     let peers = c.close_all.new.peers.all in
-    tends_thrice g.D.Reception.connected g.D.Door.called g.D.Door.left before lingered (sessions_of peers) (sessions_of peers)
-    c.args.door.now c.linger-lingered.new.door c.close_all.new.door c.keep_short.new.door
-    (tends_thrice g.D.Reception.connected g.D.Door.called g.D.Door.left before (sessions_of c.open_turns.new.peers.all) (sessions_of c.gather-gathered.new.peers.all) lingered
+    posting_thrice g.D.Reception.posted g.D.Reception.connected g.D.Door.called g.D.Door.left before lingered more (sessions_of peers)
+    c.args.door.now c.linger-lingered.new.door c.gather-more.new.door c.keep_short.new.door
+    (posting_thrice g.D.Reception.posted g.D.Reception.connected g.D.Door.called g.D.Door.left before (sessions_of c.open_turns.new.peers.all) (sessions_of c.gather-gathered.new.peers.all) lingered
     c.args.door.now c.open_turns.new.door c.gather-gathered.new.door c.linger-lingered.new.door c.open_turns.ensures.tends c.gather-gathered.ensures.tends c.linger-lingered.ensures.tends)
-    (tends_twice g.D.Reception.connected g.D.Door.called g.D.Door.left lingered more (sessions_of peers)
-    c.linger-lingered.new.door c.gather-more.new.door c.close_all.new.door c.gather-more.ensures.tends c.close_all.ensures.tends)
+    c.gather-more.ensures.tends
+    (posting_tended g.D.Reception.posted g.D.Reception.connected g.D.Door.called g.D.Door.left more (sessions_of peers) c.gather-more.new.door c.keep_short.new.door
+    (tends_twice g.D.Reception.connected g.D.Door.called g.D.Door.left more (sessions_of peers) (sessions_of peers)
+    c.gather-more.new.door c.close_all.new.door c.keep_short.new.door c.close_all.ensures.tends
+    (tends_aside g.D.Reception.connected g.D.Door.called g.D.Door.left peers _ c.close_all.new.door c.keep_short.new.door c.keep_short.ensures)))
+
+pub returns-clause-settled : goal.returns-clause-settled
+returns-clause-settled g c =
+    let peers = c.close_all.new.peers.all in
+    still_settled g.D.Reception.connected g.D.Door.called g.D.Door.left g.D.Reception.is_settled g.met.D.Reception.keeps_settled
+    (sessions_of peers) (sessions_of peers) c.close_all.new.door c.keep_short.new.door
     (tends_aside g.D.Reception.connected g.D.Door.called g.D.Door.left peers _ c.close_all.new.door c.keep_short.new.door c.keep_short.ensures)
+    c.close_all.ensures.settled

@@ -1,13 +1,27 @@
-use Rattle.xa_reactor.specs.Tending.{sessions_of}
-use Rattle.xa_reactor.proofs.Doing.{tends_thrice, tends_twice}
+use Rattle.xa_reactor.specs.Tending.{Table, sessions_of}
+use Rattle.xa_reactor.proofs.Doing.{posting_tended, posting_thrice, tends_twice}
+use Rattle.xa_reactor.proofs.Settled.{still_settled}
 use Rattle.xa_reactor.proofs.tending.Loop.serve_round.Goals as goal
 
-pub returns : goal.returns
-returns g c =
-    tends_thrice g.D.Reception.connected g.D.Door.called g.D.Door.left (sessions_of c.args.peers.now.all) (sessions_of c.notice_all-noticed.new.peers.all)
-    (sessions_of c.look.new.peers.all) (sessions_of c.take_in.new.peers.all)
-    c.args.door.now c.notice_all-noticed.new.door c.look.new.door c.take_in.new.door
-    c.notice_all-noticed.ensures
-    (tends_twice g.D.Reception.connected g.D.Door.called g.D.Door.left (sessions_of c.notice_all-noticed.new.peers.all) (sessions_of c.give_turns-gathered.new.peers.all)
-    (sessions_of c.look.new.peers.all) c.notice_all-noticed.new.door c.give_turns-gathered.new.door c.look.new.door c.give_turns-gathered.ensures c.look.ensures)
-    c.take_in.ensures
+pub returns-clause-tends : goal.returns-clause-tends
+returns-clause-tends g c =
+    let before : Table = sessions_of c.args.peers.now.all in
+    let noticed : Table = sessions_of c.notice_all-noticed.new.peers.all in
+    let given : Table = sessions_of c.give_turns-gathered.new.peers.all in
+    let after : Table = sessions_of c.take_in.new.peers.all in
+    posting_thrice g.D.Reception.posted g.D.Reception.connected g.D.Door.called g.D.Door.left before noticed given after
+    c.args.door.now c.notice_all-noticed.new.door c.give_turns-gathered.new.door c.take_in.new.door
+    (posting_tended g.D.Reception.posted g.D.Reception.connected g.D.Door.called g.D.Door.left before noticed
+    c.args.door.now c.notice_all-noticed.new.door c.notice_all-noticed.ensures)
+    c.give_turns-gathered.ensures.tends
+    (posting_tended g.D.Reception.posted g.D.Reception.connected g.D.Door.called g.D.Door.left given after c.give_turns-gathered.new.door c.take_in.new.door
+    (tends_twice g.D.Reception.connected g.D.Door.called g.D.Door.left given (sessions_of c.look.new.peers.all) after
+    c.give_turns-gathered.new.door c.look.new.door c.take_in.new.door c.look.ensures c.take_in.ensures))
+
+pub returns-clause-settled : goal.returns-clause-settled
+returns-clause-settled g c was =
+    let still = still_settled g.D.Reception.connected g.D.Door.called g.D.Door.left g.D.Reception.is_settled g.met.D.Reception.keeps_settled in
+    still _ _ c.look.new.door c.take_in.new.door c.take_in.ensures
+    (still _ _ c.give_turns-gathered.new.door c.look.new.door c.look.ensures
+    (c.give_turns-gathered.ensures.settled
+    (still _ _ c.args.door.now c.notice_all-noticed.new.door c.notice_all-noticed.ensures was)))

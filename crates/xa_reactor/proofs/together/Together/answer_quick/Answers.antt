@@ -7,9 +7,9 @@ use Rattle.xa_reactor.proofs.together.Together.answer_quick.Goals as goal
 
 pub returns-clause-lent : goal.returns-clause-lent
 returns-clause-lent g c =
-    let table : Table = sessions_of c.give_replies.new.peers.all in
+    let table : Table = sessions_of c.give_quick.new.peers.all in
     record {
-      quick = All-same (IsLent table) _ [] c.give_replies.ensures.none (All-nil (IsLent table));
-      waiting = lent_still (sessions_of c.args.peers.now.all) table c.args.self.now.waiting.items c.give_replies.ensures.same c.requires.waiting;
-      room = omega (arith, c.give_replies.ensures.room.0, c.give_replies.ensures.room.1, ap length c.give_replies.ensures.none);
+      quick = All-same (IsLent table) _ [] c.give_quick.ensures.none (All-nil (IsLent table));
+      waiting = lent_still (sessions_of c.args.peers.now.all) table c.args.self.now.waiting.items c.give_quick.ensures.same c.requires.waiting;
+      room = omega (arith, c.give_quick.ensures.room.0, c.give_quick.ensures.room.1, ap length c.give_quick.ensures.none);
     }

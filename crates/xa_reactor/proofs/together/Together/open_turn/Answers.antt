@@ -1,13 +1,24 @@
-use Rattle.std.proofs.Common.{◌≡◌, ◌∙◌, ap, arith, subst, sym}
+use Rattle.std.proofs.Common.{◌≡◌, ◌∙◌, ◌⊎◌, ap, arith, subst, sym}
 use Rattle.xa_reactor.specs.Asking.{IsLent}
-use Rattle.xa_reactor.specs.Tending.{Table, sessions_of}
+use Rattle.xa_reactor.specs.Tending.{Table, Tends, sessions_of}
 use Rattle.xa_reactor.specs.declared.ask.Ask.{Ask}
 use Rattle.xa_reactor.proofs.Asking.{lent_more, lent_still}
+use Rattle.xa_reactor.proofs.Doing.{posting_posted, posting_tended}
 use Rattle.xa_reactor.proofs.together.Together.open_turn.Goals as goal
 
 -- an ask that was lent in the turn is lent in the table behind it, which holds the sessions that there were
 lent_one : (old turned new : Table) (ask : Ask) → new ≡ turned → turned ≡ old → IsLent turned ask → (new ≡ old) × IsLent new ask
 lent_one old turned new ask same is one = (same ∙ is, subst (λ (t : Table). IsLent t ask) (sym same) one)
+
+pub returns-then-may_wait-clause-tends : goal.returns-then-may_wait-clause-tends
+returns-then-may_wait-clause-tends g c =
+    let ask = c.in-Asks.ask in
+    let opened = c.in-Asks.ensures.opens in
+    let next = ap sessions_of c.next.ensures in
+    posting_posted g.D.Reception.posted g.D.Reception.connected g.D.Door.called g.D.Door.left (sessions_of c.args.peers.now.all) (sessions_of c.open_turn.new.self.all)
+    c.args.door.now c.post.new.self ask.key ask.session (ap (λ (t : Table). t ask.key) (sym next) ∙ opened.0.0)
+    (subst (λ d. (c.post.new.self ≡ d) ⊎ g.D.Reception.posted ask.session d c.post.new.self) opened.1 c.post.ensures)
+    (sym (c.open_turn.ensures.same ∙ next))
 
 pub returns-then-may_wait-clause-lent : goal.returns-then-may_wait-clause-lent
 returns-then-may_wait-clause-lent g c =
@@ -26,6 +37,15 @@ returns-else-may_wait-clause-lent g c =
       waiting = lent_still _ _ _ lent.0 c.requires.waiting;
       room = omega arith;
     }
+
+pub returns-in-Over-clause-tends : goal.returns-in-Over-clause-tends
+returns-in-Over-clause-tends g c =
+    let before : Table = sessions_of c.args.peers.now.all in
+    let after : Table = sessions_of c.open_turn.new.self.all in
+    let next = ap sessions_of c.next.ensures in
+    posting_tended g.D.Reception.posted g.D.Reception.connected g.D.Door.called g.D.Door.left before after c.args.door.now c.open_turn.new.door
+    (subst (λ (t : Table). Tends g.D.Reception.connected g.D.Door.called g.D.Door.left before c.args.door.now t c.open_turn.new.door) (sym (c.open_turn.ensures.same ∙ next))
+    (subst (λ (t : Table). Tends g.D.Reception.connected g.D.Door.called g.D.Door.left t c.args.door.now t c.open_turn.new.door) next c.in-Over.ensures.opens))
 
 pub returns-in-Over-clause-lent : goal.returns-in-Over-clause-lent
 returns-in-Over-clause-lent g c =

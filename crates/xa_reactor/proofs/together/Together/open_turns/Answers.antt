@@ -1,19 +1,19 @@
 use Rattle.std.proofs.Common.{refl}
 use Rattle.xa_reactor.specs.Tending.{Table, sessions_of}
-use Rattle.xa_reactor.proofs.Doing.{tends_none, tends_twice}
+use Rattle.xa_reactor.proofs.Doing.{posting_none, posting_twice}
 use Rattle.xa_reactor.proofs.together.Together.open_turns.Goals as goal
 
 pub loop-init : goal.loop-init
 loop-init g c =
     let table : Table = sessions_of c.args.peers.now.all in
     record {
-      tends = tends_none g.D.Reception.connected g.D.Door.called g.D.Door.left table table c.args.door.now refl;
+      tends = posting_none g.D.Reception.posted g.D.Reception.connected g.D.Door.called g.D.Door.left table table c.args.door.now refl;
       lent = c.reserve.ensures table c.requires;
     }
 
 pub loop-preserved : goal.loop-preserved
 loop-preserved g c = record {
-  tends = tends_twice g.D.Reception.connected g.D.Door.called g.D.Door.left (sessions_of c.args.peers.now.all) (sessions_of c.loop.peers.all) (sessions_of c.open_turn.new.peers.all)
+  tends = posting_twice g.D.Reception.posted g.D.Reception.connected g.D.Door.called g.D.Door.left (sessions_of c.args.peers.now.all) (sessions_of c.loop.peers.all) (sessions_of c.open_turn.new.peers.all)
       c.args.door.now c.loop.door c.open_turn.new.door c.loop.invariant.tends c.open_turn.ensures.tends;
   lent = c.open_turn.ensures.lent;
 }

@@ -1,14 +1,20 @@
-use Rattle.std.proofs.Common.{◌≡◌, ◌<◌, ℕ, length, arith, subst}
+use Rattle.std.proofs.Common.{◌≡◌, ◌<◌, ℕ, List, length, refl, ap, arith, subst}
 use Rattle.std.specs.List.{AllWithin}
 use Rattle.std.proofs.lemmas.List.Elements.{All-from_all_within, All-get_or, AllWithin-more_set, AllWithin-none}
 use Rattle.xa_reactor.specs.Asking.{IsAnswered}
+use Rattle.xa_reactor.specs.declared.ask.Ask.{Ask}
 use Rattle.xa_server.specs.Loops.{Called}
 use Rattle.xa_server.specs.Rounds.{IsWithin}
 use Rattle.xa_server.proofs.Rounds.{left_within, tells_more, tells_none}
 use Rattle.xa_server.proofs.post.Post.answer_left.Goals as goal
 
 pub loop-ask-init : goal.loop-ask-init
-loop-ask-init g c = record { some = tells_none (Called g.M.GroupCommits.manages g.S.Start.start g.S.Start.base) _ _; none = AllWithin-none IsAnswered _ 0 }
+loop-ask-init g c = record {
+  some = tells_none (Called g.M.GroupCommits.manages g.S.Start.start g.S.Start.base) _ _;
+  same = λ none. refl;
+  none = AllWithin-none IsAnswered _ 0;
+  settled = λ owes. owes;
+}
 
 pub answer-requires : goal.answer-requires
 answer-requires g c =
@@ -22,7 +28,9 @@ loop-ask-preserved g c =
     record {
       some = tells_more (Called g.M.GroupCommits.manages g.S.Start.start g.S.Start.base) c.args.asks.now c.loop-ask.asks _ _ _ c.loop-ask.ask-index _ c.answer.new.ask
           c.loop-ask.invariant.some lt c.answer.ensures.told;
+      same = λ none. absurd (omega (arith, ap (λ (xs : List Ask). length xs) none));
       none = AllWithin-more_set c.loop-ask.asks c.loop-ask.ask-index c.answer.new.ask lt IsAnswered c.loop-ask.invariant.none c.answer.ensures.gone;
+      settled = λ owes. c.answer.ensures.settled (c.loop-ask.invariant.settled owes);
     }
 
 pub returns-clause-none : goal.returns-clause-none

@@ -6,5 +6,5 @@ use Rattle.xa_server_tests.proofs.tests.posted.posted_calls_share_an_append.Give
 abbrev pub ghosts-shares_both-S-Start : goal.ghosts-shares_both-S-Start
 ghosts-shares_both-S-Start g a = record { start = (manages_of mem_disks).stands a.manager; base = (manages_of mem_disks).failures a.manager }
 
-abbrev pub ghosts-shares_both-L-Ledger : goal.ghosts-shares_both-L-Ledger
-ghosts-shares_both-L-Ledger g a = record { name = a.blank.name; parts = a.blank.parts }
+abbrev pub ghosts-shares_both-B-Book : goal.ghosts-shares_both-B-Book
+ghosts-shares_both-B-Book g a = record { table = a.history }

@@ -6,5 +6,5 @@ use Rattle.xa_server_tests.proofs.tests.sequencers.a_sequencer_is_shared.Given a
 abbrev pub ghosts-counts_both-S-Start : goal.ghosts-counts_both-S-Start
 ghosts-counts_both-S-Start g a = record { start = (manages_of mem_disks).stands a.manager; base = (manages_of mem_disks).failures a.manager }
 
-abbrev pub ghosts-counts_both-L-Ledger : goal.ghosts-counts_both-L-Ledger
-ghosts-counts_both-L-Ledger g a = record { name = a.blank.name; parts = a.blank.parts }
+abbrev pub ghosts-counts_both-B-Book : goal.ghosts-counts_both-B-Book
+ghosts-counts_both-B-Book g a = record { table = a.history }

@@ -1,0 +1,5 @@
+pub mod Booking
+pub mod Calling
+pub mod Groups
+pub mod Letters
+pub mod Trayed

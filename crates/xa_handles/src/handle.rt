@@ -1,0 +1,345 @@
+ghost use Rattle.std.specs.Prelude.{ℕ, ◌≡◌, ◌⊎◌, ◌+◌, ◌<◌, [], is_none, IfOk};
+ghost use Rattle.xa_assoc.specs.Refusals.{is_memory};
+ghost use Rattle.xa_frame.specs.Limits.{IsReply, IsRequest};
+ghost use Rattle.xa_handles.specs.Accounts.{Ends, Posts, asking, next_ask, told_of};
+ghost use Rattle.xa_handles.specs.Mail.{IsCall};
+ghost use Rattle.xa_handles.specs.Shared.{CalledBy, ConnectedBy, DidCall, IsTold};
+ghost use Rattle.xa_model.specs.declared.event.Event.TheVariants as Event;
+ghost use Rattle.xa_sequencer.specs.Associates.{AssociatedBy, EndedBy};
+ghost use Rattle.xa_tokens.specs.{Account.Owes, Receipts.IsInOrder};
+
+use crate::asker::Asker;
+use crate::held::Held;
+use crate::letter::{Content, Letter};
+use crate::shared::SharedSequencer;
+use std::alloc::{AllocError, Global};
+use std::fmt;
+use std::sync::Wait;
+use xa_assoc::ConnectFault;
+use xa_desk::Door;
+use xa_frame::{Reply, Request, Status};
+use xa_model::Event;
+use xa_room::{Start, take};
+use xa_sequencer::GroupCommits;
+use xa_tokens::{Answered, Ask, Book, Posted, Share};
+
+/// For how many letters a tray has room from the start, if there is memory.
+const ROOM: usize = 64;
+
+/// A thread's handle of a sequencer that it shares with others: a door, with the account of what was asked at it.
+#[derive(Drop)]
+pub struct Handle<'a, M: GroupCommits, S: Start, B: Book, R> {
+    rt: &'a R,
+    sequencer: &'a SharedSequencer<M, S, B>,
+    pub asker: Asker<'a, B>,
+    tray: usize,
+    /// For how many letters its tray has room: no more are posted at a time.
+    room: usize,
+    /// How many of the calls that it posted are to be answered yet.
+    owed: usize,
+    alloc: Global,
+    pub ghost owes: { Owes asker owed },
+}
+
+impl<'a, M: GroupCommits, S: Start, B: Book, R: Wait> Handle<'a, M, S, B, R> {
+    /// With a share by which nothing was asked yet.
+    ///
+    /// # Errors
+    /// Out of memory.
+    pub fn new(
+        rt: &'a R,
+        sequencer: &'a SharedSequencer<M, S, B>,
+        share: Share<B>,
+        alloc: Global,
+    ) -> Result<Handle<'a, M, S, B, R>, AllocError>
+        requires some { 0 < share.parts }
+        requires told { share.told ≡ [] }
+        requires owes { Owes share 0 }
+        ensures asker { IfOk result (λ handle. handle.asker ≡ share) }
+        ensures owes { IfOk result (λ handle. Owes handle.asker 0) }
+    {
+        let mut held = sequencer.hold(rt);
+        let tray = held.locked.add_tray()?;
+        let has_room = held.locked.reserve(tray, ROOM);
+        Ok(Handle {
+            rt,
+            sequencer,
+            asker: Asker::new(&sequencer.tokens, share),
+            tray,
+            room: if has_room { ROOM } else { 0 },
+            owed: 0,
+            alloc,
+        })
+    }
+
+    /// Connects a session.
+    pub fn connect(&mut self) -> Result<u64, ConnectFault>
+        ensures { ConnectedBy M.manages S.start S.base self.old.asker result self.new.asker }
+    {
+        let sequencer = self.sequencer;
+        sequencer
+            .take_settled(self.rt)
+            .connect(&sequencer.tokens, &mut self.asker)
+    }
+
+    /// Takes the lock for several calls, with nothing of other threads in between. Whoever else asks waits until it is
+    /// released: so does this handle, if it is asked otherwise.
+    pub fn hold(&self) -> Held<'a, M, S, B> {
+        let sequencer = self.sequencer;
+        sequencer.hold(self.rt)
+    }
+
+    /// Answers a request of a session, by the lock that was taken. Gives that back, unless the request had to wait until
+    /// the pending group was finished.
+    pub fn call_held(
+        &mut self,
+        held: Held<'a, M, S, B>,
+        session: u64,
+        request: Request,
+    ) -> (Reply, Option<Held<'a, M, S, B>>)
+        requires { IsRequest request }
+        ensures called { CalledBy M.manages S.start S.base session self.old.asker request result.0 self.new.asker }
+        ensures limits { IsReply result.0 }
+    {
+        let posted = ask(&mut self.asker, session, request);
+        carry_out(self.rt, self.sequencer, &mut self.asker, held, posted)
+    }
+
+    /// Posts a copy of a call: whichever thread has the lock may answer it, as one of a group that shares an append. It
+    /// comes back as a letter, answered or not, with this place. Where there is no memory it isn't posted.
+    pub fn post(&mut self, place: usize, session: u64, request: &Request)
+        requires { IsRequest request.now }
+        ensures { (self.new ≡ self.old) ⊎ Posts self.old.asker (Event.Call session request.now) self.new.asker }
+    {
+        if self.owed >= self.room {
+            return;
+        }
+        let Ok(request) = request.copied(self.alloc) else {
+            return;
+        };
+        let mut mailbox = take(self.rt, &self.sequencer.mailbox);
+        if mailbox.reserve(1).is_err() {
+            return;
+        }
+        let posted = ask(&mut self.asker, session, request);
+        mailbox.push_reserved(Some(Letter::new(self.tray, place, Content::Posted(posted))));
+        self.owed += 1;
+    }
+
+    /// How many of the calls that it posted are to be answered yet.
+    pub fn owed(&self) -> usize
+        ensures { Owes self.now.asker result }
+    {
+        self.owed
+    }
+
+    /// Makes room for so many letters of its own at a time, if there is memory.
+    pub fn make_room(&mut self, held: &mut Held<'_, M, S, B>, letters: usize)
+        ensures { self.new.asker ≡ self.old.asker }
+    {
+        if letters > self.room && held.locked.reserve(self.tray, letters) {
+            self.room = letters;
+        }
+    }
+
+    /// Whether no group is pending.
+    pub fn is_settled(&self, held: &Held<'_, M, S, B>) -> bool
+        ensures { result ≡ is_none (M.pending held.now.at.now) }
+    {
+        held.locked.is_settled()
+    }
+
+    /// Answers the calls that threads have posted, those that may share one append: with the lock that was taken their
+    /// records are written, and their answers given once they are synced; for the sync it is let go. Gives the lock, taken
+    /// again. Of a call that gets no answer nothing has been done: its letter comes back as it was.
+    pub fn answer_posted(&self, held: Held<'a, M, S, B>) -> Held<'a, M, S, B> {
+        let mut held = held;
+        if !held.locked.is_settled() {
+            return held;
+        }
+        held.locked
+            .take_mail(&mut take(self.rt, &self.sequencer.mailbox));
+        match held.locked.begin_mail() {
+            Some(syncer) => self.sequencer.sync(self.rt, held, syncer),
+            None => held,
+        }
+    }
+
+    /// Takes the next letter that came back to this handle.
+    pub fn next_letter(&self, held: &mut Held<'_, M, S, B>) -> Option<Letter<M, S, B>> {
+        held.locked.take_letter(self.tray)
+    }
+
+    /// Takes the answer to a call that was posted.
+    pub fn take_answer(&mut self, answered: Answered<B>) -> Reply
+        requires { (n : ℕ) × Owes self.old.asker (n + 1) }
+        ensures reply { result ≡ answered.reply }
+        ensures told { (self.new.asker ≡ told_of self.old.asker answered) × IsInOrder answered }
+    {
+        let (receipt, told) = answered.into_parts();
+        self.asker.take(told, receipt.reply.place);
+        self.owed -= 1;
+        receipt.reply
+    }
+
+    /// Answers a call that was posted and came back as it was, by the lock that was taken. Gives that back, unless the
+    /// call had to wait until the pending group was finished.
+    pub fn call_back(
+        &mut self,
+        held: Held<'a, M, S, B>,
+        posted: Posted<B>,
+    ) -> (Reply, Option<Held<'a, M, S, B>>)
+        requires owes { (n : ℕ) × Owes self.old.asker (n + 1) }
+        requires call { IsCall posted.event }
+        ensures did { DidCall M.manages S.start S.base posted result.0 }
+        ensures ends { Ends (is_memory result.0.detail) self.old.asker posted result.0 self.new.asker }
+        ensures limits { IsReply result.0 }
+    {
+        self.owed -= 1;
+        carry_out(self.rt, self.sequencer, &mut self.asker, held, posted)
+    }
+
+    /// Whether another thread waits to hold the lock.
+    pub fn is_wanted(&self) -> bool {
+        self.sequencer.is_wanted()
+    }
+
+    /// Whether no thread has the lock, and none syncs.
+    pub fn is_free(&self) -> bool {
+        self.sequencer.is_free()
+    }
+
+    /// After how many groups that were answered a call has its answer that is posted now.
+    pub fn due(&self) -> u64 {
+        self.sequencer.due()
+    }
+
+    /// Whether so many groups were answered.
+    pub fn is_due(&self, groups: u64) -> bool {
+        self.sequencer.is_due(groups)
+    }
+
+    /// Lets others run, after it was done so often in one wait: after many times it sleeps while a group is pending.
+    pub fn rest(&self, tries: u32) {
+        self.sequencer.rest(self.rt, tries);
+    }
+
+    /// How the manager is doing. It is no event, and the account stays.
+    pub fn status(&self) -> Status
+        ensures { IsTold M.manages S.start S.base result }
+    {
+        self.sequencer.take_settled(self.rt).status()
+    }
+
+    /// The share.
+    pub fn into_share(self) -> Share<B>
+        ensures { result ≡ self.entry.asker }
+    {
+        let Handle { asker, .. } = self;
+        asker.into_share()
+    }
+
+    /// Whether a session has an association of its own.
+    pub fn has_association(&self, session: u64) -> bool
+        ensures { AssociatedBy M.manages S.start S.base session result }
+    {
+        self.sequencer
+            .take_settled(self.rt)
+            .has_association(session)
+    }
+
+    /// Where the log's next record begins, while the manager is up.
+    pub fn log_end(&self) -> u64
+        ensures { EndedBy M.manages S.start S.base result }
+    {
+        self.sequencer.take_settled(self.rt).log_end()
+    }
+}
+
+impl<M: GroupCommits, S: Start, B: Book, R: Wait> Door for Handle<'_, M, S, B, R> {
+    ghost use Rattle.std.specs.Prelude.{Bool};
+    ghost use Rattle.xa_handles.specs.Shared.{AskedBy, LeftBy};
+
+    ghost called = { λ session a question reply b.
+        AskedBy M.manages S.start S.base session a.asker question reply b.asker };
+
+    ghost left = { λ session a b. (was : Bool) × LeftBy M.manages S.start S.base session a.asker was b.asker };
+
+    fn call(&mut self, session: u64, request: Request) -> Reply {
+        let posted = ask(&mut self.asker, session, request);
+        call_settled(self.rt, self.sequencer, &mut self.asker, posted)
+    }
+
+    fn status(&self) -> Status {
+        self.status()
+    }
+
+    fn hangup(&mut self, session: u64) {
+        let sequencer = self.sequencer;
+        let _was_connected = sequencer
+            .take_settled(self.rt)
+            .hangup(&sequencer.tokens, &mut self.asker, session);
+    }
+}
+
+// Asks for a call of a session.
+fn ask<B: Book>(asker: &mut Asker<'_, B>, session: u64, request: Request) -> Posted<B>
+    ensures posted { result ≡ next_ask asker.old (Event.Call session request) }
+    ensures asks { asker.new ≡ asking asker.old (next_ask asker.old (Event.Call session request)) }
+{
+    let event = Event::Call(session, request);
+    let after = asker.last();
+    let ticket = asker.ask(&event);
+    Posted::new(Ask { event, after }, ticket)
+}
+
+// Carries a call out, by the lock that was taken, which is given back, or once no group is pending.
+fn carry_out<'a, M: GroupCommits, S: Start, B: Book, R: Wait>(
+    rt: &R,
+    sequencer: &'a SharedSequencer<M, S, B>,
+    asker: &mut Asker<'_, B>,
+    held: Held<'a, M, S, B>,
+    posted: Posted<B>,
+) -> (Reply, Option<Held<'a, M, S, B>>)
+    requires { IsCall posted.event }
+    ensures did { DidCall M.manages S.start S.base posted result.0 }
+    ensures ends { Ends (is_memory result.0.detail) asker.old posted result.0 asker.new }
+    ensures limits { IsReply result.0 }
+{
+    let mut held = held;
+    match held.locked.call(&sequencer.tokens, asker, posted) {
+        Ok(reply) => (reply, Some(held)),
+        Err(posted) => {
+            drop(held);
+            (call_settled(rt, sequencer, asker, posted), None)
+        }
+    }
+}
+
+// Carries a call out, once no group is pending.
+fn call_settled<M: GroupCommits, S: Start, B: Book, R: Wait>(
+    rt: &R,
+    sequencer: &SharedSequencer<M, S, B>,
+    asker: &mut Asker<'_, B>,
+    posted: Posted<B>,
+) -> Reply
+    requires { IsCall posted.event }
+    ensures did { DidCall M.manages S.start S.base posted result }
+    ensures ends { Ends (is_memory result.detail) asker.old posted result asker.new }
+    ensures limits { IsReply result }
+{
+    let Ok(reply) = sequencer
+        .take_settled(rt)
+        .call(&sequencer.tokens, asker, posted)
+    else {
+        unreachable!()
+    };
+    reply
+}
+
+/// Shows the name alone, so that it never waits for the lock.
+impl<M: GroupCommits, S: Start, B: Book, R> fmt::Debug for Handle<'_, M, S, B, R> {
+    fn fmt<W: fmt::Write>(&self, f: &mut fmt::Formatter<W>) -> fmt::Result {
+        f.debug_struct("Handle").finish_non_exhaustive()
+    }
+}

@@ -1,0 +1,35 @@
+use crate::locked::Locked;
+use std::fmt;
+use std::marker::Model;
+use std::sync::MutexGuard;
+use xa_room::Start;
+use xa_sequencer::GroupCommits;
+use xa_tokens::Book;
+
+/// The lock of a sequencer that many threads share, while one of them has it: several calls under one hold of it. To a
+/// contract it is what lies under it.
+#[derive(Drop)]
+pub struct Held<'a, M: GroupCommits, S: Start, B: Book> {
+    pub(crate) locked: MutexGuard<'a, Locked<M, S, B>>,
+}
+
+impl<'a, M: GroupCommits, S: Start, B: Book> Model for Held<'a, M, S, B> {
+    ghost use Rattle.xa_handles.specs.Standing.{Standing};
+
+    ghost Value = { Standing M };
+
+    ghost view = { λ h. h.locked.value };
+}
+
+impl<'a, M: GroupCommits, S: Start, B: Book> Held<'a, M, S, B> {
+    pub(crate) fn new(locked: MutexGuard<'a, Locked<M, S, B>>) -> Held<'a, M, S, B> {
+        Held { locked }
+    }
+}
+
+/// Shows the name alone.
+impl<M: GroupCommits, S: Start, B: Book> fmt::Debug for Held<'_, M, S, B> {
+    fn fmt<W: fmt::Write>(&self, f: &mut fmt::Formatter<W>) -> fmt::Result {
+        f.debug_struct("Held").finish_non_exhaustive()
+    }
+}

@@ -1,0 +1,329 @@
+ghost use Rattle.std.specs.Prelude.{◌≡◌, ◌≢◌, ◌⊎◌, ◌<◌, [], None, is_none, length, IfErr, IfOk, MatchBool, MatchOption, OnErr, OnOk};
+ghost use Rattle.xa_assoc.specs.Refusals.{is_memory};
+ghost use Rattle.xa_frame.specs.Limits.{IsReply};
+ghost use Rattle.xa_handles.specs.Accounts.{Ends};
+ghost use Rattle.xa_handles.specs.Mail.{IsCall, put_at};
+ghost use Rattle.xa_handles.specs.Shared.{ConnectedBy, DidCall, IsTold, LeftBy};
+ghost use Rattle.xa_handles.specs.Standing.{HasBook, KeepsMail, LeavesMail, TellsMail};
+ghost use Rattle.xa_sequencer.specs.Associates.{AssociatedBy, EndedBy};
+ghost use Rattle.xa_sequencer.specs.Stands.{Stands};
+
+use crate::asker::Asker;
+use crate::letter::Letter;
+use crate::mail::{answer_all, copy_calls, put_all};
+use crate::noting::{end, note};
+use crate::trays::Trays;
+use std::alloc::{AllocError, Global};
+use std::marker::Model;
+use std::mem;
+use xa_assoc::ConnectFault;
+use xa_codes::XA_OK;
+use xa_disk::{SyncAnswer, Syncer};
+use xa_frame::{Reply, Status};
+use xa_manager::{Asked, connect_reply};
+use xa_model::Event;
+use xa_room::{Start, is_memory, placed};
+use xa_sequencer::{GroupCommits, Sequencer};
+use xa_tokens::{Ask, Book, Keeper, Posted, Tokens};
+
+/// What lies under the lock: a sequencer, the keeper of its history, and the letters that were taken out of the mailbox.
+#[derive(Drop)]
+pub(crate) struct Locked<M: GroupCommits, S: Start, B: Book> {
+    sequencer: Sequencer<M, S>,
+    keeper: Keeper<B>,
+    /// While a group is pending, those of its calls, in their order.
+    letters: Vec<Option<Letter<M, S, B>>>,
+    trays: Trays<M, S, B>,
+    /// Lent to the sequencer while a group is pending.
+    calls: Vec<Asked>,
+    alloc: Global,
+}
+
+impl<M: GroupCommits, S: Start, B: Book> Model for Locked<M, S, B> {
+    ghost use Rattle.xa_handles.specs.Mail.{FitPending};
+    ghost use Rattle.xa_handles.specs.Standing.{HasBook, Standing};
+
+    ghost Value = { Standing M };
+
+    ghost view = { λ l. record { at = l.sequencer; history = l.keeper; letters = l.letters.items; trays = l.trays } };
+
+    ghost invariant = { λ l. HasBook M.manages S.start S.base l.sequencer l.keeper
+        × FitPending (M.pending l.sequencer.now) l.letters.items };
+}
+
+impl<M: GroupCommits, S: Start, B: Book> Locked<M, S, B> {
+    pub(crate) fn new(
+        alloc: Global,
+        sequencer: Sequencer<M, S>,
+        keeper: Keeper<B>,
+    ) -> Locked<M, S, B>
+        requires empty { keeper ≡ [] }
+        requires stands { Stands M.manages S.start S.base sequencer [] }
+        requires settled { M.pending sequencer.now ≡ None }
+        ensures { result ≡ record { at = sequencer; history = []; letters = []; trays = [] } }
+    {
+        Locked {
+            sequencer,
+            keeper,
+            letters: Vec::new(alloc),
+            trays: Trays::new(alloc),
+            calls: Vec::new(alloc),
+            alloc,
+        }
+    }
+
+    /// The sequencer, and the keeper of its history.
+    pub(crate) fn into_parts(self) -> (Sequencer<M, S>, Keeper<B>)
+        ensures is { (result.0 ≡ self.at) × (result.1 ≡ self.history) }
+        ensures book { HasBook M.manages S.start S.base result.0 result.1 }
+    {
+        let Locked {
+            sequencer,
+            keeper,
+            ..
+        } = self;
+        (sequencer, keeper)
+    }
+
+    /// Whether no group is pending.
+    pub(crate) fn is_settled(&self) -> bool
+        ensures { result ≡ is_none (M.pending self.now.at.now) }
+    {
+        self.sequencer.is_settled()
+    }
+
+    /// Connects a session.
+    pub(crate) fn connect(
+        &mut self,
+        tokens: &Tokens<B>,
+        asker: &mut Asker<'_, B>,
+    ) -> Result<u64, ConnectFault>
+        requires settled { M.pending self.old.at.now ≡ None }
+        ensures connected { ConnectedBy M.manages S.start S.base asker.old result asker.new }
+        ensures mail { LeavesMail self.old self.new }
+    {
+        let Locked {
+            sequencer,
+            keeper,
+            ..
+        } = self;
+        sequencer.promises();
+        let session = sequencer.connect();
+        let reply = connect_reply(session);
+        if is_memory(&reply) {
+            return session;
+        }
+        let reply = placed(reply, sequencer.count());
+        note(tokens, keeper, asker, &Event::Connect, &reply);
+        session
+    }
+
+    /// Carries a call out.
+    ///
+    /// # Errors
+    /// Gives it back, where it is to wait until the pending group is finished.
+    pub(crate) fn call(
+        &mut self,
+        tokens: &Tokens<B>,
+        asker: &mut Asker<'_, B>,
+        posted: Posted<B>,
+    ) -> Result<Reply, Posted<B>>
+        requires call { IsCall posted.event }
+        ensures did { IfOk result (λ reply. DidCall M.manages S.start S.base posted reply) }
+        ensures ends { IfOk result (λ reply. Ends (is_memory reply.detail) asker.old posted reply asker.new) }
+        ensures limits { IfOk result IsReply }
+        ensures back { IfErr result (λ given. (given ≡ posted) × (asker.new ≡ asker.old)) }
+        ensures answers { OnErr result (M.pending self.old.at.now ≢ None) }
+        ensures mail { LeavesMail self.old self.new }
+    {
+        let Locked {
+            sequencer,
+            keeper,
+            ..
+        } = self;
+        sequencer.promises();
+        let (Ask { event, after }, ticket) = posted.into_parts();
+        let Event::Call(session, request) = event else {
+            unreachable!()
+        };
+        let reply = match sequencer.call(session, request) {
+            Ok(reply) => reply,
+            Err(request) => {
+                let event = Event::Call(session, request);
+                return Err(Posted::new(Ask { event, after }, ticket));
+            }
+        };
+        end(tokens, keeper, asker, ticket, &reply);
+        Ok(reply)
+    }
+
+    /// Hangs a session up. Whether it was connected.
+    pub(crate) fn hangup(
+        &mut self,
+        tokens: &Tokens<B>,
+        asker: &mut Asker<'_, B>,
+        session: u64,
+    ) -> bool
+        requires settled { M.pending self.old.at.now ≡ None }
+        ensures left { LeftBy M.manages S.start S.base session asker.old result asker.new }
+        ensures mail { LeavesMail self.old self.new }
+    {
+        let Locked {
+            sequencer,
+            keeper,
+            ..
+        } = self;
+        sequencer.promises();
+        if !sequencer.hangup(session) {
+            return false;
+        }
+        let reply = placed(Reply::plain(XA_OK), sequencer.count());
+        note(tokens, keeper, asker, &Event::Hangup(session), &reply);
+        true
+    }
+
+    /// A tray for the letters of a thread.
+    pub(crate) fn add_tray(&mut self) -> Result<usize, AllocError>
+        ensures { KeepsMail self.old self.new }
+    {
+        self.trays.add(self.alloc)
+    }
+
+    /// Makes room for so many letters in a tray. Whether there was memory for it.
+    pub(crate) fn reserve(&mut self, tray: usize, letters: usize) -> bool
+        ensures { self.new ≡ self.old }
+    {
+        self.trays.reserve(tray, letters)
+    }
+
+    /// Takes the letters out of the mailbox, unless some that were taken before couldn't be put into their trays.
+    pub(crate) fn take_mail(&mut self, mailbox: &mut Vec<Option<Letter<M, S, B>>>)
+        requires { M.pending self.old.at.now ≡ None }
+        ensures rest { (self.new.at ≡ self.old.at) × (self.new.history ≡ self.old.history) × (self.new.trays ≡ self.old.trays) }
+        ensures letters { ((self.new.letters ≡ mailbox.old.items) × (mailbox.new.items ≡ self.old.letters))
+            ⊎ ((self.new.letters ≡ self.old.letters) × (mailbox.new ≡ mailbox.old)) }
+    {
+        if self.letters.is_empty() {
+            mem::swap(&mut self.letters, mailbox);
+        }
+    }
+
+    /// Writes the records of the letters' calls, those that may share one append: then they are the pending group. Gives
+    /// what makes its sync. Where none was written the letters are back in their trays, and nothing has been done.
+    pub(crate) fn begin_mail(&mut self) -> Option<Syncer>
+        requires { M.pending self.old.at.now ≡ None }
+        ensures { KeepsMail self.old self.new }
+    {
+        if self.letters.is_empty() {
+            return None;
+        }
+        if self.begin_group() {
+            return Some(self.sequencer.syncer());
+        }
+        self.hand_out();
+        None
+    }
+
+    // Whether the letters' calls are the pending group.
+    fn begin_group(&mut self) -> bool
+        requires { M.pending self.old.at.now ≡ None }
+        ensures settled { MatchBool result (Unit {0}) (M.pending self.new.at.now ≡ None) }
+        ensures mail { LeavesMail self.old self.new }
+        ensures history { self.new.history ≡ self.old.history }
+    {
+        if !copy_calls(&self.letters, &mut self.calls, self.alloc) {
+            return false;
+        }
+        let calls = mem::replace(&mut self.calls, Vec::new(self.alloc));
+        let Err(back) = self.sequencer.begin_group(calls) else {
+            return true;
+        };
+        self.calls = back;
+        false
+    }
+
+    /// Answers the calls of the pending group, by their sync's answer. The letters are back in their trays: of a call that
+    /// wasn't answered nothing has been done.
+    ///
+    /// # Errors
+    /// Out of memory: gives the answer back, and the group is still pending. So it does where no group is pending, which
+    /// never is while somebody has an answer.
+    pub(crate) fn finish_mail(
+        &mut self,
+        tokens: &Tokens<B>,
+        answer: SyncAnswer,
+    ) -> Result<(), SyncAnswer>
+        ensures told { OnOk result (TellsMail self.old self.new) }
+        ensures still { OnErr result (LeavesMail self.old self.new × (self.new.history ≡ self.old.history)) }
+    {
+        if self.sequencer.is_settled() {
+            return Err(answer);
+        }
+        self.finish_group(tokens, answer)?;
+        self.hand_out();
+        Ok(())
+    }
+
+    // Answers the calls of the pending group, each by its letter.
+    fn finish_group(&mut self, tokens: &Tokens<B>, answer: SyncAnswer) -> Result<(), SyncAnswer>
+        requires { M.pending self.old.at.now ≢ None }
+        ensures settled { OnOk result (M.pending self.new.at.now ≡ None) }
+        ensures told { OnOk result (TellsMail self.old self.new) }
+        ensures still { OnErr result (LeavesMail self.old self.new × (self.new.history ≡ self.old.history)) }
+    {
+        let Locked {
+            sequencer,
+            keeper,
+            letters,
+            calls,
+            ..
+        } = self;
+        sequencer.promises();
+        let (replies, back) = sequencer.finish_group(answer)?;
+        answer_all(tokens, keeper, letters, &back, replies);
+        *calls = back;
+        Ok(())
+    }
+
+    // Puts the letters into their trays, as long as there is memory.
+    fn hand_out(&mut self)
+        requires { M.pending self.old.at.now ≡ None }
+        ensures mail { KeepsMail self.old self.new }
+    {
+        let Locked { letters, trays, .. } = self;
+        put_all(letters, trays);
+    }
+
+    /// Takes the letter on top of a tray.
+    pub(crate) fn take_letter(&mut self, tray: usize) -> Option<Letter<M, S, B>>
+        ensures taken { MatchOption result (self.new.trays ≡ self.old.trays)
+            (λ l. (tray < length self.new.trays) × (self.old.trays ≡ put_at self.new.trays tray l)) }
+        ensures rest { (self.new.at ≡ self.old.at) × (self.new.history ≡ self.old.history) × (self.new.letters ≡ self.old.letters) }
+    {
+        self.trays.take(tray)
+    }
+
+    pub(crate) fn status(&self) -> Status
+        requires { M.pending self.now.at.now ≡ None }
+        ensures { IsTold M.manages S.start S.base result }
+    {
+        self.sequencer.promises();
+        self.sequencer.status()
+    }
+
+    pub(crate) fn has_association(&self, session: u64) -> bool
+        requires { M.pending self.now.at.now ≡ None }
+        ensures { AssociatedBy M.manages S.start S.base session result }
+    {
+        self.sequencer.promises();
+        self.sequencer.has_association(session)
+    }
+
+    pub(crate) fn log_end(&self) -> u64
+        requires { M.pending self.now.at.now ≡ None }
+        ensures { EndedBy M.manages S.start S.base result }
+    {
+        self.sequencer.promises();
+        self.sequencer.log_end()
+    }
+}

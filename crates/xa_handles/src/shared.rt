@@ -1,0 +1,193 @@
+ghost use Rattle.std.specs.Prelude.{◌≡◌, ◌-◌, ◌<◌, [], None};
+ghost use Rattle.xa_handles.specs.Shared.{IsWhole};
+ghost use Rattle.xa_sequencer.specs.Stands.{Stands};
+ghost use Rattle.xa_tokens.specs.Account.{Owes, account, merged};
+ghost use Rattle.xa_tokens.specs.View.{all_parts};
+
+use crate::held::Held;
+use crate::letter::Letter;
+use crate::locked::Locked;
+use std::alloc::Global;
+use std::fmt;
+use std::sync::atomic::{AtomicU64, Ordering};
+use std::sync::{Condvar, Mutex, MutexGuard, Wait};
+use std::thread::yield_now;
+use std::time::Duration;
+use xa_disk::Syncer;
+use xa_room::{Start, take};
+use xa_sequencer::{GroupCommits, Sequencer};
+use xa_tokens::{Book, Opened, Share, Tokens};
+
+/// How often a thread that waits for the pending group lets others run before it sleeps.
+const MOST_TRIES: u32 = 10_000;
+
+/// How long it sleeps at most, in milliseconds.
+const REST: u64 = 100;
+
+/// A sequencer behind a lock, which many threads share. What it carries out was asked for by a share, once, and is told
+/// to that share or another, once: the shares together have the history.
+#[derive(Drop)]
+pub struct SharedSequencer<M: GroupCommits, S: Start, B: Book> {
+    pub(crate) tokens: Tokens<B>,
+    lock: Mutex<Locked<M, S, B>>,
+    /// Calls that wait for whichever thread has the lock.
+    pub(crate) mailbox: Mutex<Vec<Option<Letter<M, S, B>>>>,
+    /// How many threads wait for the lock to hold it.
+    waiting: AtomicU64,
+    /// 1 while one of them makes the sync of the pending group.
+    syncing: AtomicU64,
+    /// Notified of each group that was answered.
+    answered: Condvar,
+}
+
+impl<M: GroupCommits, S: Start, B: Book> SharedSequencer<M, S, B> {
+    /// Of a sequencer with an empty history, which is opened. The share has every part.
+    pub fn new(
+        alloc: Global,
+        sequencer: Sequencer<M, S>,
+        opened: Opened,
+    ) -> (SharedSequencer<M, S, B>, Share<B>)
+        requires name { opened ≡ B.table }
+        requires empty { Stands M.manages S.start S.base sequencer [] }
+        requires settled { M.pending sequencer.now ≡ None }
+        ensures { result.1 ≡ account all_parts [] [] [] }
+    {
+        let (tokens, keeper, share) = opened.named::<B>();
+        let shared = SharedSequencer {
+            tokens,
+            lock: Mutex::new(Locked::new(alloc, sequencer, keeper)),
+            mailbox: Mutex::new(Vec::new(alloc)),
+            waiting: AtomicU64::new(0),
+            syncing: AtomicU64::new(0),
+            answered: Condvar::new(),
+        };
+        (shared, share)
+    }
+
+    /// A share of one part, by which nothing was asked.
+    pub fn split(&self, share: &mut Share<B>) -> Share<B>
+        requires { 1 < share.old.parts }
+        ensures one { result ≡ account 1 [] [] [] }
+        ensures rest { share.new ≡ record share.old { parts = share.old.parts - 1 } }
+    {
+        self.tokens.split(share)
+    }
+
+    /// Both shares as one.
+    pub fn merge(&self, share: &mut Share<B>, other: Share<B>)
+        ensures { share.new ≡ merged share.old other }
+    {
+        self.tokens.merge(share, other);
+    }
+
+    /// Takes the lock for several calls.
+    pub(crate) fn hold<R: Wait>(&self, rt: &R) -> Held<'_, M, S, B> {
+        self.waiting.fetch_add(1, Ordering::SeqCst);
+        let locked = take(rt, &self.lock);
+        self.waiting.fetch_sub(1, Ordering::SeqCst);
+        Held::new(locked)
+    }
+
+    /// Whether a thread waits to hold the lock.
+    pub(crate) fn is_wanted(&self) -> bool {
+        self.waiting.load(Ordering::SeqCst) > 0
+    }
+
+    /// Whether no thread has the lock, and none syncs.
+    pub(crate) fn is_free(&self) -> bool {
+        !self.is_syncing() && self.lock.try_lock().is_some()
+    }
+
+    // Whether a thread makes the sync of the pending group.
+    fn is_syncing(&self) -> bool {
+        self.syncing.load(Ordering::SeqCst) != 0
+    }
+
+    /// After how many groups that were answered a call has its answer that is posted now: a pending group is without it.
+    pub(crate) fn due(&self) -> u64 {
+        let groups = self.answered.notifications();
+        groups.saturating_add(1 + u64::from(self.is_syncing()))
+    }
+
+    /// Whether so many groups were answered.
+    pub(crate) fn is_due(&self, groups: u64) -> bool {
+        self.answered.notifications() >= groups
+    }
+
+    /// Lets others run. While the sync of a group is made, a thread that has done so many times sleeps until the group is
+    /// answered, but not for long.
+    pub(crate) fn rest<R: Wait>(&self, rt: &R, tries: u32) {
+        // read first: where the group is answered in between, it doesn't sleep
+        let groups = self.answered.notifications();
+        if tries >= MOST_TRIES && self.is_syncing() {
+            self.answered.sleep(rt, groups, Duration::from_millis(REST));
+        } else {
+            yield_now();
+        }
+    }
+
+    /// Takes the lock when no group is pending.
+    pub(crate) fn take_settled<R: Wait>(&self, rt: &R) -> MutexGuard<'_, Locked<M, S, B>>
+        ensures { M.pending result.value.at.now ≡ None }
+    {
+        let mut tries = 0u32;
+        for _ in rt.forever() {
+            let locked = take(rt, &self.lock);
+            if locked.is_settled() {
+                return locked;
+            }
+            drop(locked);
+            self.rest(rt, tries);
+            tries = tries.saturating_add(1);
+        }
+        unreachable!()
+    }
+
+    /// Makes the sync of the pending group, for which the lock that was taken is let go, and finishes the group. Gives the
+    /// lock, taken again. Where there is no memory for the answers it waits until there is.
+    pub(crate) fn sync<'a, R: Wait>(
+        &'a self,
+        rt: &R,
+        held: Held<'a, M, S, B>,
+        syncer: Syncer,
+    ) -> Held<'a, M, S, B> {
+        self.syncing.store(1, Ordering::SeqCst);
+        drop(held);
+        let mut answer = syncer.sync();
+        let mut tries = 0u32;
+        for _ in rt.forever() {
+            let mut held = self.hold(rt);
+            match held.locked.finish_mail(&self.tokens, answer) {
+                Ok(()) => {
+                    self.syncing.store(0, Ordering::SeqCst);
+                    self.answered.notify_all();
+                    return held;
+                }
+                Err(given) => answer = given,
+            }
+            drop(held);
+            self.rest(rt, tries);
+            tries = tries.saturating_add(1);
+        }
+        unreachable!()
+    }
+
+    /// The sequencer. Its history is what the share of all parts was told, each entry once, since that owes nothing.
+    pub fn into_sequencer(self, all: Share<B>) -> Sequencer<M, S>
+        requires parts { all.parts ≡ all_parts }
+        requires owes { Owes all 0 }
+        ensures { IsWhole M.manages S.start S.base result all }
+    {
+        let SharedSequencer { tokens, lock, .. } = self;
+        let (sequencer, keeper) = lock.into_inner().into_parts();
+        tokens.audit(keeper, all);
+        sequencer
+    }
+}
+
+/// Shows the name alone, so that it never waits for the lock.
+impl<M: GroupCommits, S: Start, B: Book> fmt::Debug for SharedSequencer<M, S, B> {
+    fn fmt<W: fmt::Write>(&self, f: &mut fmt::Formatter<W>) -> fmt::Result {
+        f.debug_struct("SharedSequencer").finish_non_exhaustive()
+    }
+}
