@@ -5,9 +5,9 @@ use Rattle.xa_frame.specs.declared.reply.Reply.{Reply}
 use Rattle.xa_handles.specs.Standing.{HasBook, shown}
 use Rattle.xa_model.specs.State.{State}
 use Rattle.xa_model.specs.declared.event.Event.{Event}
-use Rattle.xa_room.specs.Book.{receipt_of}
-use Rattle.xa_room.specs.declared.entry.Entry.{Entry}
-use Rattle.xa_room.specs.declared.manages.Manages.{Ghosts}
+use Rattle.xa_history.specs.Book.{receipt_of}
+use Rattle.xa_history.specs.declared.entry.Entry.{Entry}
+use Rattle.xa_history.specs.declared.manages.Manages.{Ghosts}
 use Rattle.xa_sequencer.specs.Numbers.{Adds}
 use Rattle.xa_sequencer.specs.Stands.{GoesOn, HasHistory, Numbered, Stands}
 use Rattle.xa_tokens.specs.declared.ask.Ask.{Ask}

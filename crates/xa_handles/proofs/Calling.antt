@@ -17,8 +17,8 @@ use Rattle.xa_model.specs.Answer.{plain}
 use Rattle.xa_model.specs.State.{State}
 use Rattle.xa_model.specs.declared.event.Event.{Event}
 use Rattle.xa_model.specs.declared.event.Event.TheVariants.{Connect, Hangup, Call}
-use Rattle.xa_room.specs.Book.{placed}
-use Rattle.xa_room.specs.declared.manages.Manages.{Ghosts}
+use Rattle.xa_history.specs.Book.{placed}
+use Rattle.xa_history.specs.declared.manages.Manages.{Ghosts}
 use Rattle.xa_sequencer.specs.Numbers.{Adds, Called, Connected, Leaves, Left}
 use Rattle.xa_sequencer.specs.Stands.{HasHistory, Numbered}
 use Rattle.xa_tokens.specs.declared.ask.Ask.{Ask}

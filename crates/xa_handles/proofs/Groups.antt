@@ -7,10 +7,10 @@ use Rattle.xa_manager.specs.declared.together.Asked.{Asked}
 use Rattle.xa_model.specs.State.{State}
 use Rattle.xa_model.specs.declared.outcome.Outcome.{Outcome}
 use Rattle.xa_model.specs.declared.outcome.Outcome.TheVariants.{Joined}
-use Rattle.xa_room.specs.Book.{receipt_of}
-use Rattle.xa_room.specs.Together.{IsToldOf}
-use Rattle.xa_room.specs.declared.entry.Entry.{Entry}
-use Rattle.xa_room.specs.declared.manages.Manages.{Ghosts}
+use Rattle.xa_history.specs.Book.{receipt_of}
+use Rattle.xa_history.specs.Together.{IsToldOf}
+use Rattle.xa_history.specs.declared.entry.Entry.{Entry}
+use Rattle.xa_history.specs.declared.manages.Manages.{Ghosts}
 use Rattle.xa_sequencer.specs.Stands.{GoesOn, HasHistory, Numbered}
 use Rattle.xa_sequencer.specs.Together.{ArePlaced, CalledTogether, entries_for, entry_for}
 

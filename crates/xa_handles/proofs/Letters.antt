@@ -11,7 +11,7 @@ use Rattle.xa_handles.specs.Standing.{shown}
 use Rattle.xa_handles.specs.Telling.{AnswersAll, AnswersAt, IsOpen, shown_reply}
 use Rattle.xa_manager.specs.Once.{AreOnce}
 use Rattle.xa_manager.specs.declared.together.Asked.{Asked}
-use Rattle.xa_room.specs.Together.{event_at}
+use Rattle.xa_history.specs.Together.{event_at}
 use Rattle.xa_sequencer.specs.Together.{ArePlaced}
 use Rattle.xa_tokens.specs.declared.receipt.Receipt.{Receipt}
 use Rattle.xa_tokens.specs.Receipts.{receipt_of}

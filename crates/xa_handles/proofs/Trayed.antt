@@ -13,7 +13,7 @@ module _ {V : Type 0} (f : V → List Mailed) where
   put (t ∷ ts) (suc k) v d l lt is = ap (λ (xs : List (List Mailed)). f t ∷ xs) (put ts k v d l (omega (arith, lt)) is)
 
   -- with the same letters
-  pub same : (trays : List V) (k : ℕ) (v d : V) → k < length trays → f v ≡ f (get_or trays k d) → map f (set trays k v) ≡ map f trays
+  same : (trays : List V) (k : ℕ) (v d : V) → k < length trays → f v ≡ f (get_or trays k d) → map f (set trays k v) ≡ map f trays
   same [] k v d lt is = absurd (omega (arith, lt))
   same (t ∷ ts) zero v d lt is = ap (λ (x : List Mailed). x ∷ map f ts) is
   same (t ∷ ts) (suc k) v d lt is = ap (λ (xs : List (List Mailed)). f t ∷ xs) (same ts k v d (omega (arith, lt)) is)

@@ -8,7 +8,7 @@ use Rattle.xa_handles.specs.Mail.{IsCall, Mailed}
 use Rattle.xa_handles.specs.Shared.{DidAmong}
 use Rattle.xa_model.specs.State.{State}
 use Rattle.xa_model.specs.declared.event.Event.TheVariants.{Call}
-use Rattle.xa_room.specs.declared.manages.Manages.{Ghosts}
+use Rattle.xa_history.specs.declared.manages.Manages.{Ghosts}
 use Rattle.xa_tokens.specs.declared.ask.Ask.{Ask}
 
 -- a sequencer that stood for a history answered this ask with this reply, as one of a group

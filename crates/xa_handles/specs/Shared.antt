@@ -16,9 +16,9 @@ use Rattle.xa_manager.specs.declared.together.Asked.{Asked}
 use Rattle.xa_model.specs.Answer.{plain}
 use Rattle.xa_model.specs.State.{State}
 use Rattle.xa_model.specs.declared.event.Event.TheVariants.{Connect, Hangup, Call}
-use Rattle.xa_room.specs.Book.{placed}
-use Rattle.xa_room.specs.Status.{Tells}
-use Rattle.xa_room.specs.declared.manages.Manages.{Ghosts}
+use Rattle.xa_history.specs.Book.{placed}
+use Rattle.xa_history.specs.Status.{Tells}
+use Rattle.xa_history.specs.declared.manages.Manages.{Ghosts}
 use Rattle.xa_sequencer.specs.Numbers.{Called, Connected, Left}
 use Rattle.xa_sequencer.specs.Stands.{HasHistory, Numbered}
 use Rattle.xa_sequencer.specs.Together.{CalledTogether}

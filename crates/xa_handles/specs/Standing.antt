@@ -2,10 +2,10 @@
 use Rattle.std.specs.Prelude.{ℕ, ◌≡◌, ◌+◌, List, ◌++◌, map, Option, sum_by}
 use Rattle.xa_handles.specs.Mail.{Mailed, ask_weight, slot_weight, told_weight}
 use Rattle.xa_model.specs.State.{State}
-use Rattle.xa_room.specs.Book.{receipt_of}
-use Rattle.xa_room.specs.declared.entry.Entry.{Entry}
-use Rattle.xa_room.specs.declared.manages.Manages.{Ghosts}
-use Rattle.xa_room.specs.declared.receipt.Receipt as room
+use Rattle.xa_history.specs.Book.{receipt_of}
+use Rattle.xa_history.specs.declared.entry.Entry.{Entry}
+use Rattle.xa_history.specs.declared.manages.Manages.{Ghosts}
+use Rattle.xa_history.specs.declared.receipt.Receipt as entry
 use Rattle.xa_sequencer.specs.Stands.{Numbered, Stands}
 use Rattle.xa_tokens.specs.declared.ask.Ask.{Ask}
 use Rattle.xa_tokens.specs.declared.receipt.Receipt.{Receipt}
@@ -18,8 +18,8 @@ pub record Standing (M : Type 0) : Type 0 where
   pub letters : List (Option Mailed)
   pub trays : List (List Mailed)
 
--- a receipt as a room's
-abbrev pub shown : Receipt → room.Receipt
+-- a receipt as an entry's
+abbrev pub shown : Receipt → entry.Receipt
 shown r = record { place = r.reply.place; event = r.ask.event; reply = r.reply }
 
 -- The sequencer stands for a history whose entries are these: what was asked was carried out, and nothing else was.

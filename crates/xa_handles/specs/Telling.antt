@@ -6,9 +6,9 @@ use Rattle.xa_handles.specs.Posted.{WasAnswered}
 use Rattle.xa_handles.specs.Standing.{shown}
 use Rattle.xa_manager.specs.declared.together.Asked.{Asked}
 use Rattle.xa_model.specs.State.{State}
-use Rattle.xa_room.specs.Together.{event_at}
-use Rattle.xa_room.specs.declared.manages.Manages.{Ghosts}
-use Rattle.xa_room.specs.declared.receipt.Receipt as room
+use Rattle.xa_history.specs.Together.{event_at}
+use Rattle.xa_history.specs.declared.manages.Manages.{Ghosts}
+use Rattle.xa_history.specs.declared.receipt.Receipt as entry
 use Rattle.xa_tokens.specs.declared.ask.Ask.{Ask}
 use Rattle.xa_tokens.specs.declared.receipt.Receipt.{Receipt}
 use Rattle.xa_tokens.specs.Receipts.{ask_of, receipt_of}
@@ -31,8 +31,8 @@ pub record AnswersAt (calls : List Asked) (r : ℕ × Reply) (history : List Rec
   pub history_is : history' ≡ history ++ receipt_of one.letter.ask r.1 ∷ []
   pub letters_are : letters' ≡ slice_set letters r.0 (Some (record one.letter { reply = Some r.1 }))
 
--- what a room's receipt of a reply is
-abbrev pub shown_reply : List Asked → ℕ × Reply → room.Receipt
+-- what an entry's receipt of a reply is
+abbrev pub shown_reply : List Asked → ℕ × Reply → entry.Receipt
 shown_reply calls r = record { place = r.1.place; event = event_at calls r.0; reply = r.1 }
 
 -- Those of all replies were answered: they are the history's next entries, in the order of the replies, and each of these

@@ -18,13 +18,13 @@ use std::sync::Wait;
 use xa_assoc::ConnectFault;
 use xa_desk::Door;
 use xa_frame::{Reply, Request, Status};
+use xa_history::{Start, take};
 use xa_model::Event;
-use xa_room::{Start, take};
 use xa_sequencer::GroupCommits;
 use xa_tokens::{Answered, Ask, Book, Posted, Share};
 
-/// For how many letters a tray has room from the start, if there is memory.
-const ROOM: usize = 64;
+/// How many letters a handle has out at most, for which its tray has room: as many as sessions may be connected.
+const ROOM: usize = 1_024;
 
 /// A thread's handle of a sequencer that it shares with others: a door, with the account of what was asked at it.
 #[derive(Drop)]
@@ -33,8 +33,6 @@ pub struct Handle<'a, M: GroupCommits, S: Start, B: Book, R> {
     sequencer: &'a SharedSequencer<M, S, B>,
     pub asker: Asker<'a, B>,
     tray: usize,
-    /// For how many letters its tray has room: no more are posted at a time.
-    room: usize,
     /// How many of the calls that it posted are to be answered yet.
     owed: usize,
     alloc: Global,
@@ -58,15 +56,12 @@ impl<'a, M: GroupCommits, S: Start, B: Book, R: Wait> Handle<'a, M, S, B, R> {
         ensures asker { IfOk result (λ handle. handle.asker ≡ share) }
         ensures owes { IfOk result (λ handle. Owes handle.asker 0) }
     {
-        let mut held = sequencer.hold(rt);
-        let tray = held.locked.add_tray()?;
-        let has_room = held.locked.reserve(tray, ROOM);
+        let tray = sequencer.hold(rt).locked.add_tray(ROOM)?;
         Ok(Handle {
             rt,
             sequencer,
             asker: Asker::new(&sequencer.tokens, share),
             tray,
-            room: if has_room { ROOM } else { 0 },
             owed: 0,
             alloc,
         })
@@ -106,12 +101,13 @@ impl<'a, M: GroupCommits, S: Start, B: Book, R: Wait> Handle<'a, M, S, B, R> {
     }
 
     /// Posts a copy of a call: whichever thread has the lock may answer it, as one of a group that shares an append. It
-    /// comes back as a letter, answered or not, with this place. Where there is no memory it isn't posted.
+    /// comes back as a letter, answered or not, with this place. Where there is no memory, or too much is out already, it
+    /// isn't posted.
     pub fn post(&mut self, place: usize, session: u64, request: &Request)
         requires { IsRequest request.now }
         ensures { (self.new ≡ self.old) ⊎ Posts self.old.asker (Event.Call session request.now) self.new.asker }
     {
-        if self.owed >= self.room {
+        if self.owed >= ROOM {
             return;
         }
         let Ok(request) = request.copied(self.alloc) else {
@@ -131,15 +127,6 @@ impl<'a, M: GroupCommits, S: Start, B: Book, R: Wait> Handle<'a, M, S, B, R> {
         ensures { Owes self.now.asker result }
     {
         self.owed
-    }
-
-    /// Makes room for so many letters of its own at a time, if there is memory.
-    pub fn make_room(&mut self, held: &mut Held<'_, M, S, B>, letters: usize)
-        ensures { self.new.asker ≡ self.old.asker }
-    {
-        if letters > self.room && held.locked.reserve(self.tray, letters) {
-            self.room = letters;
-        }
     }
 
     /// Whether no group is pending.

@@ -2,7 +2,7 @@ use crate::locked::Locked;
 use std::fmt;
 use std::marker::Model;
 use std::sync::MutexGuard;
-use xa_room::Start;
+use xa_history::Start;
 use xa_sequencer::GroupCommits;
 use xa_tokens::Book;
 

@@ -5,8 +5,8 @@ ghost use Rattle.xa_model.specs.declared.event.Event.TheVariants as Event;
 
 use std::marker::{Model, PhantomData};
 use xa_frame::{Reply, Request};
+use xa_history::Start;
 use xa_model::Event;
-use xa_room::Start;
 use xa_sequencer::GroupCommits;
 use xa_tokens::{Answered, Ask, Book, Keeper, Posted, Receipt, Tokens};
 

@@ -20,9 +20,9 @@ use xa_assoc::ConnectFault;
 use xa_codes::XA_OK;
 use xa_disk::{SyncAnswer, Syncer};
 use xa_frame::{Reply, Status};
+use xa_history::{Start, is_memory, placed};
 use xa_manager::{Asked, connect_reply};
 use xa_model::Event;
-use xa_room::{Start, is_memory, placed};
 use xa_sequencer::{GroupCommits, Sequencer};
 use xa_tokens::{Ask, Book, Keeper, Posted, Tokens};
 
@@ -182,18 +182,11 @@ impl<M: GroupCommits, S: Start, B: Book> Locked<M, S, B> {
         true
     }
 
-    /// A tray for the letters of a thread.
-    pub(crate) fn add_tray(&mut self) -> Result<usize, AllocError>
+    /// A tray for the letters of a thread, with room for so many.
+    pub(crate) fn add_tray(&mut self, letters: usize) -> Result<usize, AllocError>
         ensures { KeepsMail self.old self.new }
     {
-        self.trays.add(self.alloc)
-    }
-
-    /// Makes room for so many letters in a tray. Whether there was memory for it.
-    pub(crate) fn reserve(&mut self, tray: usize, letters: usize) -> bool
-        ensures { self.new ≡ self.old }
-    {
-        self.trays.reserve(tray, letters)
+        self.trays.add(self.alloc, letters)
     }
 
     /// Takes the letters out of the mailbox, unless some that were taken before couldn't be put into their trays.

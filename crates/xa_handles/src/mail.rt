@@ -11,9 +11,9 @@ use crate::letter::Letter;
 use crate::trays::Trays;
 use std::alloc::Global;
 use xa_frame::Reply;
+use xa_history::Start;
 use xa_manager::Asked;
 use xa_model::Event;
-use xa_room::Start;
 use xa_sequencer::GroupCommits;
 use xa_tokens::{Book, Keeper, Tokens};
 

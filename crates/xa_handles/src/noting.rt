@@ -6,8 +6,8 @@ ghost use Rattle.xa_tokens.specs.Receipts.{receipt_of};
 
 use crate::asker::Asker;
 use xa_frame::Reply;
+use xa_history::is_memory;
 use xa_model::Event;
-use xa_room::is_memory;
 use xa_tokens::{Book, Keeper, Ticket, Tokens};
 
 /// An event that is asked for was carried out, with this reply, of which the asker is told at once.

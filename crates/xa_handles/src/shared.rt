@@ -14,7 +14,7 @@ use std::sync::{Condvar, Mutex, MutexGuard, Wait};
 use std::thread::yield_now;
 use std::time::Duration;
 use xa_disk::Syncer;
-use xa_room::{Start, take};
+use xa_history::{Start, take};
 use xa_sequencer::{GroupCommits, Sequencer};
 use xa_tokens::{Book, Opened, Share, Tokens};
 

@@ -4,7 +4,7 @@ ghost use Rattle.xa_handles.specs.Mail.{put_at};
 use crate::letter::Letter;
 use std::alloc::{AllocError, Global};
 use std::marker::Model;
-use xa_room::Start;
+use xa_history::Start;
 use xa_sequencer::GroupCommits;
 use xa_tokens::Book;
 
@@ -32,23 +32,15 @@ impl<M: GroupCommits, S: Start, B: Book> Trays<M, S, B> {
         }
     }
 
-    /// One more. Its number.
-    pub(crate) fn add(&mut self, alloc: Global) -> Result<usize, AllocError>
-        ensures { MatchResult result (λ tray. (tray ≡ length self.old) × (self.new ≡ self.old ++ [] ∷ [])) (λ _. self.new ≡ self.old) }
+    /// One more, with room for so many letters. Its number.
+    pub(crate) fn add(&mut self, alloc: Global, letters: usize) -> Result<usize, AllocError>
+        ensures { MatchResult result (λ number. (number ≡ length self.old) × (self.new ≡ self.old ++ [] ∷ [])) (λ _. self.new ≡ self.old) }
     {
-        let tray = self.all.len();
-        self.all.push(Vec::new(alloc))?;
-        Ok(tray)
-    }
-
-    /// Makes room for so many letters in a tray, besides those that lie there. Whether there was memory for it.
-    pub(crate) fn reserve(&mut self, tray: usize, letters: usize) -> bool
-        ensures { self.new ≡ self.old }
-    {
-        if tray >= self.all.len() {
-            return false;
-        }
-        reserve_in(&mut self.all[tray], letters)
+        let number = self.all.len();
+        let mut tray = Vec::new(alloc);
+        tray.reserve(letters)?;
+        self.all.push(tray)?;
+        Ok(number)
     }
 
     /// Puts a letter into its tray, on top.
@@ -91,15 +83,6 @@ fn push_to<M: GroupCommits, S: Start, B: Book>(
     }
     tray.push_reserved(letter);
     Ok(())
-}
-
-fn reserve_in<M: GroupCommits, S: Start, B: Book>(
-    tray: &mut Vec<Letter<M, S, B>>,
-    letters: usize,
-) -> bool
-    ensures { tray.new.items ≡ tray.old.items }
-{
-    tray.reserve(letters).is_ok()
 }
 
 fn pop_from<M: GroupCommits, S: Start, B: Book>(

@@ -5,12 +5,12 @@ use Rattle.std.proofs.lemmas.Bool.{eqb-true, eqb-false}
 use Rattle.std.proofs.lemmas.List.{get_or-set_other}
 use Rattle.std.proofs.lemmas.Grind.{get_or-set_at}
 use Rattle.std.proofs.lemmas.Option.{get_or_from_slice_get, slice_get-get_or}
-use Rattle.xa_room.specs.declared.entry.Entry.{Entry}
-use Rattle.xa_room.specs.declared.receipt.Receipt.{Receipt}
+use Rattle.xa_history.specs.declared.entry.Entry.{Entry}
+use Rattle.xa_history.specs.declared.receipt.Receipt.{Receipt}
 use Rattle.xa_room.specs.declared.auditing.AuditFault.{AuditFault}
 use Rattle.xa_room.specs.declared.auditing.AuditFault.TheVariants.{Repeats, Differs}
 use Rattle.xa_room.specs.Audit.{HasFault, IsEntry, IsOutside, IsSound, Judges, is_met}
-use Rattle.xa_room.specs.Book.{receipt_of}
+use Rattle.xa_history.specs.Book.{receipt_of}
 use Rattle.xa_room.specs.HasMet.{HasMet}
 
 front : (rs : List Receipt) (i : ℕ) (r : Receipt) → i < length rs → r ≡ get_or rs i r → drop i rs ≡ r ∷ drop (i + 1) rs

@@ -1,4 +1,2 @@
+pub mod Adding
 pub mod Judging
-pub mod Longer
-pub mod Managing
-pub mod Together

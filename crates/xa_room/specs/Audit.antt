@@ -1,11 +1,11 @@
 -- What an audit answers.
 use Rattle.std.specs.Prelude.{◌≡◌, ◌≢◌, ℕ, ◌+◌, ◌-◌, ◌<◌, ◌⊎◌, Bool, true, false, ◌==◌, List, [], ◌∷◌, length, Some, slice_get, Result, Ok, Err}
 use Rattle.std.specs.List.{list_any}
-use Rattle.xa_room.specs.declared.entry.Entry.{Entry}
-use Rattle.xa_room.specs.declared.receipt.Receipt.{Receipt}
+use Rattle.xa_history.specs.declared.entry.Entry.{Entry}
+use Rattle.xa_history.specs.declared.receipt.Receipt.{Receipt}
 use Rattle.xa_room.specs.declared.auditing.AuditFault.{AuditFault}
 use Rattle.xa_room.specs.declared.auditing.AuditFault.TheVariants.{Count, Place, Repeats, Differs}
-use Rattle.xa_room.specs.Book.{receipt_of}
+use Rattle.xa_history.specs.Book.{receipt_of}
 
 abbrev pub is_met : List ℕ → ℕ → Bool
 is_met met place = list_any (λ q. q == place) met

@@ -1,8 +1,8 @@
 -- A session that has no connection.
 use Rattle.std.specs.Prelude.{ℕ, ◌≡◌, false}
 use Rattle.xa_model.specs.State.{State}
-use Rattle.xa_room.specs.declared.manages.Manages.{Ghosts}
-use Rattle.xa_room.specs.Upholds.{IsLegal}
+use Rattle.xa_history.specs.declared.manages.Manages.{Ghosts}
+use Rattle.xa_history.specs.Upholds.{IsLegal}
 use Rattle.xa_room.specs.Told.{Told}
 
 -- There is a room whose manager has no such session, with a book that is a legal history from each starting state.

@@ -1,11 +1,6 @@
-pub mod Manages
-pub mod Together
-pub mod Book
 pub mod Told
-pub mod Upholds
 pub mod Gone
 pub mod Status
-pub mod Promises
 pub mod Share
 pub mod Audit
 pub mod HasMet

@@ -1,7 +1,7 @@
 -- What a contract sees of a share, and what a call does to it.
 use Rattle.std.specs.Prelude.{ℕ, ◌≡◌, ◌+◌, ◌≤◌}
 use Rattle.xa_model.specs.declared.event.Event.{Event}
-use Rattle.xa_room.specs.declared.receipt.Receipt.{Receipt}
+use Rattle.xa_history.specs.declared.receipt.Receipt.{Receipt}
 
 -- parts of the ledger, and how many events were recorded by it
 pub record Held : Type 0 where

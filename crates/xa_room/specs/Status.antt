@@ -1,15 +1,11 @@
--- How a manager with a history is doing.
-use Rattle.std.specs.Prelude.{ℕ, ◌≡◌, List, length}
+-- How a room is doing, as its desk tells it.
+use Rattle.std.specs.Prelude.{List, length}
 use Rattle.xa_frame.specs.declared.status.Status.{Status}
-use Rattle.xa_manager.specs.Status.{status_behind}
 use Rattle.xa_model.specs.State.{State}
-use Rattle.xa_room.specs.declared.entry.Entry.{Entry}
-use Rattle.xa_room.specs.declared.manages.Manages.{Ghosts}
-use Rattle.xa_room.specs.Upholds.{IsLegal}
-
--- by whichever state the manager stands for, and how many entries its history has
-abbrev pub Tells : {M : Type 0} → Ghosts M → M → ℕ → Status → Type 0
-Tells m now calls status = (s : State) → m.stands now s → status ≡ status_behind s (m.versions now) calls
+use Rattle.xa_history.specs.declared.entry.Entry.{Entry}
+use Rattle.xa_history.specs.declared.manages.Manages.{Ghosts}
+use Rattle.xa_history.specs.Status.{Tells}
+use Rattle.xa_history.specs.Upholds.{IsLegal}
 
 -- There is a room with a legal history, and it is told of its manager and its entries. As of an event, which one is not
 -- said: a proof over any manager can take none but the one that was asked.

@@ -4,15 +4,12 @@ ghost use Rattle.xa_room.specs.Audit.{Audits, HasFault, IsSound, Judges};
 ghost use Rattle.xa_room.specs.HasMet.{HasMet};
 
 use crate::comparing::is_receipt_of;
-use crate::entry::Entry;
-use crate::manages::Manages;
-use crate::receipt::Receipt;
 use crate::room::Room;
 use crate::share::Share;
-use crate::start::Start;
 use std::alloc::{AllocError, Global};
 use std::sync::ledger::Ledger;
 use thiserror::Error;
+use xa_history::{Entry, Manages, Receipt, Start};
 
 /// What an audit finds at fault first.
 #[derive(Clone, Copy, Debug, PartialEq, Eq, Error)]

@@ -1,9 +1,8 @@
 ghost use Rattle.std.specs.Prelude.{◌≡◌, ◌↔◌, IsTrue};
-ghost use Rattle.xa_room.specs.Book.{receipt_of};
+ghost use Rattle.xa_history.specs.Book.{receipt_of};
 
-use crate::entry::Entry;
-use crate::receipt::Receipt;
 use xa_frame::{Body, KnownBranch, Reply, Request};
+use xa_history::{Entry, Receipt};
 use xa_model::Event;
 use xa_xid::Xid;
 

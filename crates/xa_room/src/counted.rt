@@ -1,8 +1,7 @@
-use crate::manages::Manages;
 use crate::room::Room;
-use crate::start::Start;
 use std::marker::Model;
 use std::sync::ledger::{Book, Ledger};
+use xa_history::{Manages, Start};
 
 /// What lies under the lock: a room, and the ledger's book, whose total is the number of the room's entries.
 #[derive(Drop)]

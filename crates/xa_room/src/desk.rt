@@ -2,22 +2,20 @@ ghost use Rattle.std.specs.Prelude.{◌≡◌, ℕ, ◌+◌, ◌<◌, ◌^◌, l
 ghost use Rattle.xa_frame.specs.Limits.{IsRequest, IsReply};
 ghost use Rattle.xa_manager.specs.Answered.{connect_reply, wanted_memory};
 ghost use Rattle.xa_model.specs.declared.event.Event.{Event};
-ghost use Rattle.xa_room.specs.{Book.placed, Gone.WasGone, Share.Records, Status.IsTold};
+ghost use Rattle.xa_history.specs.Book.{placed};
+ghost use Rattle.xa_room.specs.{Gone.WasGone, Share.Records, Status.IsTold};
 
 use crate::call::Call;
 use crate::counted::Counted;
-use crate::manages::Manages;
-use crate::receipt::Receipt;
 use crate::room::Room;
 use crate::share::{Share, bound, raise};
-use crate::start::Start;
-use crate::taking::take;
 use std::alloc::Global;
 use std::fmt;
 use std::sync::ledger::{Blank, Book, Ledger};
 use std::sync::{Mutex, Wait};
 use xa_assoc::ConnectFault;
 use xa_frame::{Reply, Request, Status};
+use xa_history::{Manages, Receipt, Start, take};
 
 /// A room behind the one lock, which many threads share. Each call is one call of the room. It is recorded by the
 /// caller's share, whose count so tells how many of the entries are the caller's.

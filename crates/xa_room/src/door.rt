@@ -1,10 +1,9 @@
 ghost use Rattle.std.specs.Prelude.{◌≡◌};
 
-use crate::manages::Manages;
 use crate::room::Room;
-use crate::start::Start;
 use xa_desk::Door;
 use xa_frame::{Reply, Request, Status};
+use xa_history::{Manages, Start};
 
 /// A connection's questions go to the room, and its hang-up. The receipts are let go: the entries stay.
 impl<M: Manages, S: Start> Door for Room<M, S> {

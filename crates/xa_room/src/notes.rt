@@ -1,10 +1,10 @@
 ghost use Rattle.std.specs.Prelude.{◌≡◌, ℕ, ◌+◌, ◌<◌, ◌≤◌, [], ◌∷◌, ◌++◌, length, true, vec_len, vec_capacity};
-ghost use Rattle.xa_room.specs.{Book.entry_of, Book.receipt_of, Spare.HasRoom};
+ghost use Rattle.xa_history.specs.Book.{entry_of, receipt_of};
+ghost use Rattle.xa_room.specs.Spare.{HasRoom};
 
-use crate::entry::Entry;
-use crate::receipt::Receipt;
 use crate::spare::Spare;
 use xa_frame::Reply;
+use xa_history::{Entry, Receipt};
 use xa_model::{Event, Outcome};
 
 /// Makes room for so many entries more. Whether there was memory for them.

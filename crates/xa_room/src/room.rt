@@ -3,25 +3,22 @@ ghost use Rattle.xa_assoc.specs.Refusals.{is_memory};
 ghost use Rattle.xa_frame.specs.Limits.{IsRequest, IsReply};
 ghost use Rattle.xa_manager.specs.Answered.{connect_reply, wanted_memory};
 ghost use Rattle.xa_model.specs.{State.State, Events.HaveHappened, Events.IsAsked};
-ghost use Rattle.xa_room.specs.Book.{AreNumbered, placed, plain_entries};
+ghost use Rattle.xa_history.specs.Book.{AreNumbered, placed, plain_entries};
 ghost use Rattle.xa_room.specs.Gone.{WasGone};
-ghost use Rattle.xa_room.specs.Upholds.{IsLegal, IsCounted, Adds, Leaves};
-ghost use Rattle.xa_room.specs.{Promises.Promises, Status.Tells};
+ghost use Rattle.xa_history.specs.Upholds.{IsLegal, IsCounted};
+ghost use Rattle.xa_room.specs.Told.{Adds, Leaves};
+ghost use Rattle.xa_history.specs.{Promises.Promises, Status.Tells};
 
 use crate::call::Call;
-use crate::entry::Entry;
-use crate::manages::Manages;
 use crate::notes::{make_ready, make_room, note};
-use crate::receipt::Receipt;
-use crate::replies::{is_memory, placed};
 use crate::spare::Spare;
-use crate::start::Start;
 use std::alloc::{AllocError, Global};
 use std::fmt;
 use std::marker::{Model, PhantomData};
 use xa_assoc::ConnectFault;
 use xa_codes::XA_OK;
 use xa_frame::{Reply, Request, Status};
+use xa_history::{Entry, Manages, Receipt, Start, is_memory, placed};
 use xa_manager::{connect_reply, memory_reply, reached_promises};
 use xa_model::Event;
 
@@ -43,7 +40,8 @@ pub struct Room<M: Manages, S: Start> {
 
 impl<M: Manages, S: Start> Model for Room<M, S> {
     ghost use Rattle.std.specs.Prelude.{vec_capacity};
-    ghost use Rattle.xa_room.specs.{Upholds.Upholds, Told.Told};
+    ghost use Rattle.xa_history.specs.Upholds.{Upholds};
+    ghost use Rattle.xa_room.specs.Told.{Told};
 
     ghost Value = { Told M };
 

@@ -1,10 +1,10 @@
 ghost use Rattle.std.specs.Prelude.{◌≡◌, ℕ, ◌+◌, ◌<◌, ◌≤◌, ◌^◌, IfSome, MatchOption};
 
-use crate::receipt::Receipt;
 use std::fmt;
 use std::marker::Model;
 use std::sync::ledger;
 use std::sync::ledger::{Book, Ledger};
+use xa_history::Receipt;
 
 /// Some parts of a ledger, and the number of events that were recorded by it. Contracts see both.
 #[derive(Drop)]

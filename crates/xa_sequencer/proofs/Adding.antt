@@ -12,12 +12,12 @@ use Rattle.xa_model.specs.State.{State}
 use Rattle.xa_model.specs.Events.{IsEvent}
 use Rattle.xa_model.specs.declared.event.Event.{Event}
 use Rattle.xa_model.specs.declared.event.Event.TheVariants.{Connect, Hangup}
-use Rattle.xa_room.proofs.Longer.{connect_place, kept_noted, not_memory, one_more}
-use Rattle.xa_room.specs.Book.{entry_of, placed, plain_entries, unplaced}
-use Rattle.xa_room.specs.Manages.{Stays, StepsTo}
-use Rattle.xa_room.specs.Upholds.{Upholds}
-use Rattle.xa_room.specs.declared.entry.Entry.{Entry}
-use Rattle.xa_room.specs.declared.manages.Manages.{Ghosts}
+use Rattle.xa_history.proofs.Longer.{connect_place, kept_noted, not_memory, one_more}
+use Rattle.xa_history.specs.Book.{entry_of, placed, plain_entries, unplaced}
+use Rattle.xa_history.specs.Manages.{Stays, StepsTo}
+use Rattle.xa_history.specs.Upholds.{Upholds}
+use Rattle.xa_history.specs.declared.entry.Entry.{Entry}
+use Rattle.xa_history.specs.declared.manages.Manages.{Ghosts}
 use Rattle.xa_sequencer.specs.GroupCommits.{ActsAs}
 use Rattle.xa_sequencer.specs.Numbers.{Adds, Leaves}
 use Rattle.xa_sequencer.specs.Stands.{AllPromise, GoesOn, GoesOnTwice, HasHistory, Numbered, Stands, most_numbers}

@@ -16,12 +16,12 @@ use Rattle.xa_model.specs.declared.event.Event.{Event}
 use Rattle.xa_model.specs.declared.outcome.Appending.{Appending}
 use Rattle.xa_model.specs.declared.outcome.Outcome.{Outcome}
 use Rattle.xa_model.specs.declared.outcome.Outcome.TheVariants.{Appended, Joined}
-use Rattle.xa_room.specs.Book.{AreNumbered, HasNoBoot, placed, plain_entries}
-use Rattle.xa_room.specs.Together as room
-use Rattle.xa_room.specs.Together.{ActsTogether, AreUnplaced, IsToldOf, event_at, events_of, told_entries, told_entry}
-use Rattle.xa_room.specs.Upholds.{Upholds}
-use Rattle.xa_room.specs.declared.entry.Entry.{Entry}
-use Rattle.xa_room.specs.declared.manages.Manages.{Ghosts}
+use Rattle.xa_history.specs.Book.{AreNumbered, HasNoBoot, placed, plain_entries}
+use Rattle.xa_history.specs.Together as manager
+use Rattle.xa_history.specs.Together.{ActsTogether, AreUnplaced, IsToldOf, event_at, events_of, told_entries, told_entry}
+use Rattle.xa_history.specs.Upholds.{Upholds}
+use Rattle.xa_history.specs.declared.entry.Entry.{Entry}
+use Rattle.xa_history.specs.declared.manages.Manages.{Ghosts}
 use Rattle.xa_sequencer.specs.GroupCommits.{AnswersAs, ArePending, KeepsPending, pending_count}
 use Rattle.xa_sequencer.specs.Stands.{GoesOn, HasHistory, Numbered, Stands, most_numbers}
 use Rattle.xa_sequencer.specs.Together.{AddsTogether, ArePlaced, CalledTogether, Rests, entries_for, entry_for, placed_from}
@@ -230,7 +230,7 @@ module _ {M : Type 0} (m : Ghosts M) (start : State → Type 0) (base : ℕ × �
   }
 
   -- no call was answered
-  pub rests : (old new : Numbered M) → room.Rests m.stands m.failures old.now new.now → new.count ≡ old.count
+  pub rests : (old new : Numbered M) → manager.Rests m.stands m.failures old.now new.now → new.count ≡ old.count
       → m.sessions new.now ≡ m.sessions old.now → Rests m start base old new
   rests old new kept same sessions = record {
     count = same;

@@ -2,8 +2,8 @@
 use Rattle.std.proofs.Common.{◌≡◌, ℕ, ◌+◌, ◌≤◌, List, Option, None, Some, sym, ap, subst, arith}
 use Rattle.xa_manager.specs.declared.together.Asked.{Asked}
 use Rattle.xa_model.specs.State.{State}
-use Rattle.xa_room.specs.declared.entry.Entry.{Entry}
-use Rattle.xa_room.specs.declared.manages.Manages.{Ghosts}
+use Rattle.xa_history.specs.declared.entry.Entry.{Entry}
+use Rattle.xa_history.specs.declared.manages.Manages.{Ghosts}
 use Rattle.xa_sequencer.specs.GroupCommits.{ArePending, KeepsPending, pending_count}
 use Rattle.xa_sequencer.specs.Stands.{GoesOn, HasHistory, Numbered, most_numbers}
 use Rattle.xa_sequencer.proofs.Adding.{has_more}

@@ -31,8 +31,8 @@ use Rattle.xa_model.specs.declared.event.Event.{Event}
 use Rattle.xa_model.specs.declared.outcome.Appending.{Appending}
 use Rattle.xa_model.specs.declared.outcome.Appending.TheVariants.{Kept, Refused, Lost}
 use Rattle.xa_model.specs.declared.outcome.Outcome.TheVariants.{Appended, Quiet}
-use Rattle.xa_room.proofs.Managing.{acted}
-use Rattle.xa_room.proofs.Together.{all_told, all_unplaced, group_lost, group_told}
+use Rattle.xa_history.proofs.Managing.{acted}
+use Rattle.xa_history.proofs.Together.{all_told, all_unplaced, group_lost, group_told}
 use Rattle.xa_sequencer.specs.GroupCommits.{ActsAs, AnswersAs, RestsAs}
 use Rattle.xa_sequencer.specs.declared.group_manager.GroupManager.{GroupManager}
 use Rattle.xa_sequencer.specs.GroupManager.{before_write, calls_in, counted_before, manages_of}

@@ -3,7 +3,7 @@ use Rattle.std.specs.Prelude.{ℕ, ◌≡◌, Bool}
 use Rattle.std.specs.List.{list_any}
 use Rattle.xa_model.specs.Associations.{is_of_session}
 use Rattle.xa_model.specs.State.{State, Up}
-use Rattle.xa_room.specs.declared.manages.Manages.{Ghosts}
+use Rattle.xa_history.specs.declared.manages.Manages.{Ghosts}
 use Rattle.xa_sequencer.specs.Stands.{HasHistory, Numbered}
 
 -- it is so in each state that the manager stands for

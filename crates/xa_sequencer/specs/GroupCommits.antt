@@ -5,9 +5,9 @@ use Rattle.xa_frame.specs.declared.reply.Reply.{Reply}
 use Rattle.xa_manager.specs.declared.together.Asked.{Asked}
 use Rattle.xa_model.specs.Events.{IsAsked}
 use Rattle.xa_model.specs.declared.event.Event.{Event}
-use Rattle.xa_room.specs.Manages.{Acts}
-use Rattle.xa_room.specs.Together as room
-use Rattle.xa_room.specs.declared.manages.Manages.{Ghosts}
+use Rattle.xa_history.specs.Manages.{Acts}
+use Rattle.xa_history.specs.Together as manager
+use Rattle.xa_history.specs.declared.manages.Manages.{Ghosts}
 use Rattle.xa_sequencer.specs.Stands.{most_numbers}
 
 -- an event, as a room's manager does it
@@ -17,11 +17,11 @@ ActsAs m old event reply new = Acts m.stands m.trusts m.told m.has_called m.cras
 -- calls that are answered together
 abbrev pub AnswersAs : {M : Type 0} → Ghosts M → M → List Asked → List (ℕ × Reply) → M → Type 0
 AnswersAs m old calls replies new =
-    room.AnswersTogether m.stands m.has_called m.crashes_together m.failures old calls replies new
+    manager.AnswersTogether m.stands m.has_called m.crashes_together m.failures old calls replies new
 
 -- no call
 abbrev pub RestsAs : {M : Type 0} → Ghosts M → M → M → Type 0
-RestsAs m old new = room.Rests m.stands m.failures old new
+RestsAs m old new = manager.Rests m.stands m.failures old new
 
 -- how many calls are pending
 abbrev pub pending_count : Option (List Asked) → ℕ

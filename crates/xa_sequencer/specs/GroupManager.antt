@@ -22,8 +22,8 @@ use Rattle.xa_model.specs.State.{State}
 use Rattle.xa_model.specs.declared.event.Event.{Event}
 use Rattle.xa_model.specs.declared.outcome.Outcome.{Outcome}
 use Rattle.xa_model.specs.declared.outcome.Outcome.TheVariants.{Quiet}
-use Rattle.xa_room.specs.Together.{CrashesTogether, lost_entries}
-use Rattle.xa_room.specs.declared.manages.Manages.{Ghosts}
+use Rattle.xa_history.specs.Together.{CrashesTogether, lost_entries}
+use Rattle.xa_history.specs.declared.manages.Manages.{Ghosts}
 use Rattle.xa_sequencer.specs.declared.group_manager.GroupManager.{GroupManager}
 
 -- with none pending

@@ -13,10 +13,10 @@ use Rattle.xa_model.specs.Answer.{plain}
 use Rattle.xa_model.specs.State.{State}
 use Rattle.xa_model.specs.declared.event.Event.{Event}
 use Rattle.xa_model.specs.declared.event.Event.TheVariants.{Connect, Hangup, Call}
-use Rattle.xa_room.specs.Book.{entry_of, placed, unplaced}
-use Rattle.xa_room.specs.Manages.{Stays, StepsTo, Calls, Counts}
-use Rattle.xa_room.specs.Status.{Tells}
-use Rattle.xa_room.specs.declared.manages.Manages.{Ghosts}
+use Rattle.xa_history.specs.Book.{entry_of, placed, unplaced}
+use Rattle.xa_history.specs.Manages.{Stays, StepsTo, Calls, Counts}
+use Rattle.xa_history.specs.Status.{Tells}
+use Rattle.xa_history.specs.declared.manages.Manages.{Ghosts}
 use Rattle.xa_sequencer.specs.Stands.{GoesOn, Numbered, most_numbers}
 
 -- The event is one entry more, with its outcome as the manager tells it, and with the reply, which has the next number.

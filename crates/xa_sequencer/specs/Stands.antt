@@ -1,10 +1,10 @@
 -- Which histories a sequencer stands for. None of them is kept: what it has is its manager, and their length.
 use Rattle.std.specs.Prelude.{ℕ, ◌≡◌, ◌-◌, ◌^◌, List, ◌++◌, length}
 use Rattle.xa_model.specs.State.{State}
-use Rattle.xa_room.specs.declared.entry.Entry.{Entry}
-use Rattle.xa_room.specs.declared.manages.Manages.{Ghosts}
-use Rattle.xa_room.specs.Promises.{Promises}
-use Rattle.xa_room.specs.Upholds.{Upholds}
+use Rattle.xa_history.specs.declared.entry.Entry.{Entry}
+use Rattle.xa_history.specs.declared.manages.Manages.{Ghosts}
+use Rattle.xa_history.specs.Promises.{Promises}
+use Rattle.xa_history.specs.Upholds.{Upholds}
 
 -- what a contract sees of a sequencer: its manager as it is now, and how many events it has numbered
 pub record Numbered (M : Type 0) : Type 0 where

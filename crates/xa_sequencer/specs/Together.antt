@@ -9,11 +9,11 @@ use Rattle.xa_model.specs.State.{State}
 use Rattle.xa_model.specs.declared.outcome.Appending.{Appending}
 use Rattle.xa_model.specs.declared.outcome.Outcome.{Outcome}
 use Rattle.xa_model.specs.declared.outcome.Outcome.TheVariants.{Appended, Joined}
-use Rattle.xa_room.specs.Book.{entry_of, placed, plain_entries}
-use Rattle.xa_room.specs.Manages.{Stays}
-use Rattle.xa_room.specs.Together.{IsToldOf, event_at, events_of}
-use Rattle.xa_room.specs.declared.entry.Entry.{Entry}
-use Rattle.xa_room.specs.declared.manages.Manages.{Ghosts}
+use Rattle.xa_history.specs.Book.{entry_of, placed, plain_entries}
+use Rattle.xa_history.specs.Manages.{Stays}
+use Rattle.xa_history.specs.Together.{IsToldOf, event_at, events_of}
+use Rattle.xa_history.specs.declared.entry.Entry.{Entry}
+use Rattle.xa_history.specs.declared.manages.Manages.{Ghosts}
 use Rattle.xa_sequencer.specs.Stands.{GoesOn, Numbered}
 
 -- the entry of a call with its reply, which has its place

@@ -5,9 +5,9 @@ use xa_frame::{Reply, Request, Status};
 use xa_manager::Asked;
 
 /// What a sequencer asks of a manager that commits groups: of one group the sync may be left to whoever has its syncer, and
-/// meanwhile the manager answers sessions' work on other branches. What it is as a manager is said as `xa_room::Manages`
-/// says it: each event is a step of the sequential resource manager, from whichever state the manager stood for; with a
-/// group pending these are the states before the group.
+/// meanwhile the manager answers sessions' work on other branches. What it is as a manager is said as
+/// `xa_history::Manages` says it: each event is a step of the sequential resource manager, from whichever state the
+/// manager stood for; with a group pending these are the states before the group.
 pub trait GroupCommits {
     ghost use Rattle.std.specs.Prelude.{◌≡◌, ◌≢◌, ◌+◌, true, is_none, List, Option, None, Some, MatchResult, IfErr, IfOk, OnErr, OnOk, pos};
     ghost use Rattle.std.specs.List.{AllByRecursion};
@@ -15,7 +15,7 @@ pub trait GroupCommits {
     ghost use Rattle.xa_frame.specs.Limits.{IsReply};
     ghost use Rattle.xa_model.specs.{declared.event.Event.Event, Answer.plain, Events.IsAsked, State.State};
     ghost use Rattle.xa_manager.specs.{Answered.connect_reply, Once.AreOnce, Status.status_of, declared.together.Asked.Asked};
-    ghost use Rattle.xa_room.specs.declared.manages.Manages.{Ghosts};
+    ghost use Rattle.xa_history.specs.declared.manages.Manages.{Ghosts};
     ghost use Rattle.xa_sequencer.specs.Associates.{IsAssociated, IsLogEnd};
     ghost use Rattle.xa_sequencer.specs.GroupCommits.{ActsAs, AnswersAs, RestsAs, pending_count};
 

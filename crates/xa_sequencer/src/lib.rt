@@ -7,8 +7,8 @@
 //! - `together`: calls that are asked together, as a group; `numbers`: whether there are numbers left
 //! - `laws`: `goes_on_twice`, that histories go on with the entries of one event and of another
 //!
-//! A room of `xa_room` asks the same of a manager, and keeps each entry. Threads share a sequencer by the handles of
-//! `xa_handles`.
+//! What an event promises, and of which history, is said in `xa_history`. A room of `xa_room` asks the same of a manager,
+//! and keeps each entry. Threads share a sequencer by the handles of `xa_handles`.
 #![tactic(auto)]
 
 mod group_commits;

@@ -3,7 +3,7 @@ ghost use Rattle.std.specs.List.{AllByRecursion};
 ghost use Rattle.xa_frame.specs.Limits.{IsRequest, IsReply};
 ghost use Rattle.xa_manager.specs.Once.{AreOnce};
 ghost use Rattle.xa_model.specs.State.{State};
-ghost use Rattle.xa_room.specs.{Status.Tells, Together.IsToldOf};
+ghost use Rattle.xa_history.specs.{Status.Tells, Together.IsToldOf};
 ghost use Rattle.xa_sequencer.specs.Numbers.{Called, Connected, Left};
 ghost use Rattle.xa_sequencer.specs.Stands.{AllPromise, HasHistory, Stands};
 ghost use Rattle.xa_sequencer.specs.Together.{CalledTogether, Rests};
@@ -16,8 +16,8 @@ use std::marker::{Model, PhantomData};
 use xa_assoc::ConnectFault;
 use xa_disk::{SyncAnswer, Syncer};
 use xa_frame::{Reply, Request, Status};
+use xa_history::{Start, is_memory, placed};
 use xa_manager::{Asked, connect_reply, memory_reply, reached_promises};
-use xa_room::{Start, is_memory, placed};
 
 /// A manager whose events are numbered, from 1 on. To a contract it is the manager as it is now, and the count.
 ///

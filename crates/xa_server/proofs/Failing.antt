@@ -3,14 +3,14 @@ use Rattle.std.proofs.Common.{ℕ, zero, suc, ◌≡◌, ◌<◌, ◌⊎◌, Lis
 use Rattle.xa_disk.specs.declared.disk.Disk as disk
 use Rattle.xa_disk.specs.declared.file_fault.FileFault.{FileFault}
 use Rattle.xa_server.specs.declared.listens.Listens as listens
-use Rattle.xa_server.specs.declared.engine.TheConstants.{MOST_LOOPS}
 use Rattle.xa_server.specs.declared.fault.ServerFault.{ServerFault}
 use Rattle.xa_server.specs.declared.fault.ServerFault.TheVariants as serving
-use Rattle.xa_server.specs.declared.serving.TheConstants.{MOST_WORKERS}
 use Rattle.xa_server.specs.Faults.{serving_fault}
 use Rattle.xa_server.specs.Served.{AreFiles, AreLoops, HasFailedBy, NoLoops, NoWorkers, Place, Refuses, WasReady, never}
 use Rattle.xa_server.specs.declared.serve_fault.ServeFault.{ServeFault}
 use Rattle.xa_server.specs.declared.serve_fault.ServeFault.TheVariants as fault
+use Rattle.xa_service.specs.declared.loop_service.TheConstants.{MOST_LOOPS}
+use Rattle.xa_service.specs.declared.service.TheConstants.{MOST_WORKERS}
 
 -- it failed on the files at a path
 pub failed_on_files : {D R : Type 0} (disks : disk.Ghosts D) (opened : D → List ℕ → Type 0)

@@ -13,7 +13,7 @@ use Rattle.xa_handles.specs.declared.letter.Content.{Content}
 use Rattle.xa_handles.specs.declared.letter.Content.TheVariants.{Answered, Posted}
 use Rattle.xa_model.specs.State.{State}
 use Rattle.xa_model.specs.declared.event.Event.TheVariants.{Call}
-use Rattle.xa_room.specs.declared.manages.Manages.{Ghosts}
+use Rattle.xa_history.specs.declared.manages.Manages.{Ghosts}
 use Rattle.xa_tokens.specs.Account.{Account, Owes}
 use Rattle.xa_tokens.specs.Receipts.{IsInOrder}
 use Rattle.xa_tokens.specs.declared.ask.Ask.{Ask}

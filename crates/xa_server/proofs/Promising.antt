@@ -4,7 +4,7 @@ use Rattle.xa_manager.specs.declared.manager.Manager.{Manager}
 use Rattle.xa_manager.specs.Managed.{ManagerStandsFor}
 use Rattle.xa_manager.proofs.Promised as promised
 use Rattle.xa_model.specs.State.{State}
-use Rattle.xa_room.specs.declared.manages.Manages.{Ghosts}
+use Rattle.xa_history.specs.declared.manages.Manages.{Ghosts}
 use Rattle.xa_server.specs.Loops.{LoopedPromises}
 use Rattle.xa_server.specs.Serves.{ServedPromises}
 

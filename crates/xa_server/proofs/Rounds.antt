@@ -12,7 +12,7 @@ use Rattle.xa_reactor.specs.declared.ask.Ask.{Ask}
 use Rattle.xa_reactor.specs.Asking.{HasRequest, IsAnswered, Tells, TellsAll, TellsEach, TellsOne, TellsSome}
 use Rattle.xa_reactor.proofs.Asking.{all_left_true}
 use Rattle.xa_model.specs.State.{State}
-use Rattle.xa_room.specs.declared.manages.Manages.{Ghosts}
+use Rattle.xa_history.specs.declared.manages.Manages.{Ghosts}
 use Rattle.xa_server.specs.Loops.{Called}
 use Rattle.xa_server.specs.Rounds.{IsWithin, TakesBack, TellsAtMost}
 use Rattle.xa_tokens.specs.Account.{Account}

@@ -18,7 +18,7 @@ use Rattle.xa_reactor.specs.declared.loops.Ended.{Ended}
 use Rattle.xa_reactor.specs.Tending.{Does, DoesOrPosts, HaveTended, Table, nobody}
 use Rattle.xa_reactor.proofs.Doing.{does_keep}
 use Rattle.xa_reactor.proofs.Parts.{has_tended_by}
-use Rattle.xa_room.specs.declared.manages.Manages.{Ghosts}
+use Rattle.xa_history.specs.declared.manages.Manages.{Ghosts}
 use Rattle.xa_server.specs.Loops.{AllLoop, Called, Connected, HasLooped, IsFresh, Left, Posted}
 use Rattle.xa_tokens.specs.Account.{Account, Owes}
 use Rattle.xa_tokens.specs.declared.ask.Ask.{Ask}

@@ -17,11 +17,11 @@ use Rattle.xa_manager.specs.Opening.{HasBegun}
 use Rattle.xa_model.specs.State.{State}
 use Rattle.xa_model.specs.declared.event.Event.TheVariants.{Call}
 use Rattle.xa_reactor.specs.Tending.{HasTended}
-use Rattle.xa_room.specs.Book.{receipt_of}
-use Rattle.xa_room.specs.declared.entry.Entry.{Entry}
-use Rattle.xa_room.specs.declared.manages.Manages.{Ghosts}
-use Rattle.xa_room.specs.Upholds.{IsLegal, IsCounted}
-use Rattle.xa_room.specs.Promises.{Promises}
+use Rattle.xa_history.specs.Book.{receipt_of}
+use Rattle.xa_history.specs.declared.entry.Entry.{Entry}
+use Rattle.xa_history.specs.declared.manages.Manages.{Ghosts}
+use Rattle.xa_history.specs.Upholds.{IsLegal, IsCounted}
+use Rattle.xa_history.specs.Promises.{Promises}
 use Rattle.xa_sequencer.specs.GroupManager.{alone, manages_of}
 use Rattle.xa_server.specs.declared.engine.Looped.{Looped}
 use Rattle.xa_server.specs.Serves.{KeepsServed}

@@ -6,7 +6,7 @@ use Rattle.xa_frame.specs.declared.reply.Reply.{Reply}
 use Rattle.xa_model.specs.State.{State}
 use Rattle.xa_reactor.specs.Asking.{Tells, TellsSome}
 use Rattle.xa_reactor.specs.declared.ask.Ask.{Ask}
-use Rattle.xa_room.specs.declared.manages.Manages.{Ghosts}
+use Rattle.xa_history.specs.declared.manages.Manages.{Ghosts}
 use Rattle.xa_server.specs.Loops.{Called}
 use Rattle.xa_tokens.specs.Account.{Account}
 

@@ -17,23 +17,23 @@ use Rattle.xa_model.specs.Invariants.Loggable.{IsRecoverable}
 use Rattle.xa_model.specs.State.{State}
 use Rattle.xa_model.specs.Step.{step}
 use Rattle.xa_model.specs.Turn.{Reopened}
-use Rattle.xa_room.specs.declared.manages.Manages as room
+use Rattle.xa_history.specs.declared.manages.Manages as manages
 use Rattle.xa_sequencer.specs.GroupManager.{alone, manages_of}
-use Rattle.xa_server.specs.declared.at.At.{At}
-use Rattle.xa_server.specs.declared.at.At.TheVariants.{Port, Socket}
-use Rattle.xa_server.specs.declared.at.Listening.{Listening}
-use Rattle.xa_server.specs.declared.at.Listening.TheVariants.{Tcp, Unix}
+use Rattle.xa_server.specs.declared.listening.Listening.{Listening}
+use Rattle.xa_server.specs.declared.listening.Listening.TheVariants.{Tcp, Unix}
 use Rattle.xa_server.specs.declared.audited.Audited.{Audited}
 use Rattle.xa_server.specs.declared.engine.Looped.{Looped}
-use Rattle.xa_server.specs.declared.engine.TheConstants.{MOST_LOOPS}
 use Rattle.xa_server.specs.declared.listens.Listens as listens
-use Rattle.xa_server.specs.declared.looping.LoopService.{LoopService}
-use Rattle.xa_server.specs.declared.service.Service.{Service}
-use Rattle.xa_server.specs.declared.serving.TheConstants.{MOST_WORKERS}
 use Rattle.xa_server.specs.Loops.{ServesByLoops}
 use Rattle.xa_server.specs.Serves.{Serves}
 use Rattle.xa_server.specs.declared.serve_fault.ServeFault.{ServeFault}
 use Rattle.xa_server.specs.declared.serve_fault.ServeFault.TheVariants as fault
+use Rattle.xa_service.specs.declared.at.At.{At}
+use Rattle.xa_service.specs.declared.at.At.TheVariants.{Port, Socket}
+use Rattle.xa_service.specs.declared.loop_service.LoopService.{LoopService}
+use Rattle.xa_service.specs.declared.loop_service.TheConstants.{MOST_LOOPS}
+use Rattle.xa_service.specs.declared.service.Service.{Service}
+use Rattle.xa_service.specs.declared.service.TheConstants.{MOST_WORKERS}
 
 -- The manager is what these two disks were opened to: one that begins with what their records come to; a new one, where
 -- both were empty; and one that stands for the opening of each state that they stood for. The first holds of any disks,
@@ -112,7 +112,7 @@ pub record IsReady {D R : Type 0} (disks : disk.Ghosts D) (opened : D → List �
 
 -- All was ready, and the manager's sessions were served by so many workers, from each state that it stood for. The
 -- audit of their history found this.
-pub record HasServed {D R : Type 0} (L : Type 0) (disks : disk.Ghosts D) (m : room.Ghosts (Manager D))
+pub record HasServed {D R : Type 0} (L : Type 0) (disks : disk.Ghosts D) (m : manages.Ghosts (Manager D))
     (opened : D → List ℕ → Type 0) (net : listens.Ghosts R) (service : Service) (is_whole : Bool) : Type 0 where
   pub listener : Listening
   pub manager : Manager D

@@ -7,13 +7,13 @@ use Rattle.xa_manager.specs.Promises.{IsOpening, IsReached, ListsPrepared, Lists
 use Rattle.xa_model.specs.OneCopy.{HasOneCopy}
 use Rattle.xa_model.specs.State.{State}
 use Rattle.xa_room.specs.declared.auditing.AuditFault.{AuditFault}
-use Rattle.xa_room.specs.declared.entry.Entry.{Entry}
-use Rattle.xa_room.specs.declared.manages.Manages.{Ghosts}
+use Rattle.xa_history.specs.declared.entry.Entry.{Entry}
+use Rattle.xa_history.specs.declared.manages.Manages.{Ghosts}
 use Rattle.xa_room.specs.Audit.{Audits}
-use Rattle.xa_room.specs.Book.{HasNoBoot, plain_entries}
+use Rattle.xa_history.specs.Book.{HasNoBoot, plain_entries}
 use Rattle.xa_room.specs.Gone.{WasGone}
-use Rattle.xa_room.specs.Upholds.{IsLegal, IsCounted}
-use Rattle.xa_room.specs.Promises.{Promises}
+use Rattle.xa_history.specs.Upholds.{IsLegal, IsCounted}
+use Rattle.xa_history.specs.Promises.{Promises}
 use Rattle.xa_server.specs.declared.audited.Audited.{Audited}
 use Rattle.xa_workers.specs.declared.report.Report.{Report}
 use Rattle.xa_workers.specs.Connections.{Runs}

@@ -10,7 +10,7 @@ use Rattle.xa_manager.specs.Answered.{connect_reply}
 use Rattle.xa_model.specs.State.{State}
 use Rattle.xa_model.specs.declared.event.Event.TheVariants.{Connect, Hangup}
 use Rattle.xa_reactor.specs.Reception.{KeepsSettled}
-use Rattle.xa_room.specs.declared.manages.Manages.{Ghosts}
+use Rattle.xa_history.specs.declared.manages.Manages.{Ghosts}
 use Rattle.xa_server.specs.Loops.{Called, Connected, Left}
 use Rattle.xa_tokens.specs.Account.{Account, Owes}
 

@@ -2,7 +2,7 @@ ghost use Rattle.std.specs.Prelude.{◌≡◌, ◌↔◌, ◌+◌, ◌<◌, ◌�
 ghost use Rattle.xa_model.specs.State.{State};
 ghost use Rattle.std.specs.List.{AllByRecursion};
 ghost use Rattle.xa_server.specs.Loops.{AllLoop, IsFresh, ServesByLoops, told_by};
-ghost use Rattle.xa_server.specs.declared.engine.TheConstants.{MOST_LOOPS};
+ghost use Rattle.xa_service.specs.declared.loop_service.TheConstants.{MOST_LOOPS};
 ghost use Rattle.xa_tokens.specs.Account.{Account, Owes};
 ghost use Rattle.xa_tokens.specs.Receipts.{AreSame};
 
@@ -15,13 +15,11 @@ use std::rt::Clock;
 use std::sync::Wait;
 use std::thread::Threads;
 use xa_handles::SharedSequencer;
+use xa_history::Start;
 use xa_reactor::{Ended, Listener, LoopFault, Settings, Watch, run_loops};
-use xa_room::Start;
 use xa_sequencer::{GroupCommits, Sequencer};
+use xa_service::MOST_LOOPS;
 use xa_tokens::{Book, Opened, Share};
-
-/// The most loops.
-pub const MOST_LOOPS: u64 = 16;
 
 /// What loops tell of what they served.
 #[derive(Clone, Copy, Debug, PartialEq, Eq)]

@@ -2,11 +2,10 @@ ghost use Rattle.std.specs.Prelude.{◌≡◌};
 ghost use Rattle.xa_server.specs.declared.fault.ServerFault.TheVariants.{Memory};
 ghost use Rattle.xa_server.specs.Faults.{loop_fault};
 
-use crate::engine::MOST_LOOPS;
-use crate::serving::MOST_WORKERS;
 use std::alloc::AllocError;
 use thiserror::Error;
 use xa_reactor::LoopFault;
+use xa_service::{MOST_LOOPS, MOST_WORKERS};
 use xa_workers::WorkFault;
 
 /// Why nothing is told of what was served.

@@ -3,8 +3,8 @@ ghost use Rattle.xa_server.specs.{Loops.LoopedPromises, Serves.ServedPromises};
 
 use std::sync::ledger::Ledger;
 use xa_disk::Disk;
+use xa_history::Manages;
 use xa_manager::Manager;
-use xa_room::Manages;
 
 /// What was served of a manager that was opened on a log is a legal history of an opening state. Its committed
 /// branches are one copy, and what was answered as prepared is listed until its completion is asked for. After a

@@ -1,24 +1,25 @@
 //! A server: each connection of a listener is a session of one manager.
 //!
-//! - `service`: `serve`, which opens a manager over two files and serves a port, by its `Service`; `MOST_SERVED`
-//! - `at`: `At`, where a server listens; `listens`: `Listens`, what listens on the ports of a machine and at its paths
+//! - `service`: `serve`, which opens a manager over two files and serves a port, by a `Service`
+//! - `listening`: what listens where a server is to; `listens`: `Listens`, what listens on the ports of a machine and at
+//!   its paths
 //! - `serving`: `serve_manager`, which has workers serve a manager's sessions at one desk, and then audits the desk's
-//!   history; `MOST_WORKERS`
-//! - `looping`: `serve_loops`, which does the same by event loops, by its `LoopService`
+//!   history
+//! - `looping`: `serve_loops`, which does the same by event loops, by a `LoopService`
 //! - `engine`: `loop_manager`, which has event loops serve a manager's sessions, each at its `post`, by a handle of the
 //!   sequencer that they share: what they were told is the history, each entry once; `logging`: which calls may move the
-//!   log's end; `Looped`, what they tell; `MOST_LOOPS`
+//!   log's end; `Looped`, what they tell
 //! - `audited`: `Audited`, what it tells of the history; `audited_lines`, the lines that show it
 //! - `serve_fault`: `ServeFault`, why nothing was served; `log_file`: `LogFile`, a file that it names; `fault`:
 //!   `ServerFault`, why nothing is told of it
 //! - `laws`: `served_promises`, `looped_promises`, what is promised of what was served
 #![tactic(auto)]
 
-mod at;
 mod audited;
 mod engine;
 mod fault;
 mod laws;
+mod listening;
 mod listens;
 mod log_file;
 mod logging;
@@ -28,14 +29,13 @@ mod serve_fault;
 mod service;
 mod serving;
 
-pub use at::At;
 pub use audited::{Audited, audited_lines};
-pub use engine::{Looped, MOST_LOOPS, loop_manager};
+pub use engine::{Looped, loop_manager};
 pub use fault::ServerFault;
 pub use laws::{looped_promises, served_promises};
 pub use listens::Listens;
 pub use log_file::LogFile;
-pub use looping::{LoopService, serve_loops};
+pub use looping::serve_loops;
 pub use serve_fault::ServeFault;
-pub use service::{MOST_SERVED, Service, serve};
-pub use serving::{MOST_WORKERS, serve_manager};
+pub use service::serve;
+pub use serving::serve_manager;

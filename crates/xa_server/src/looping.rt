@@ -2,8 +2,8 @@
 ghost use Rattle.std.specs.Prelude.{◌≡◌, ◌&&◌, IfErr, IfOk, not};
 ghost use Rattle.xa_server.specs.Served.{AreLoops, HasLooped, LoopsHaveFailed};
 
-use crate::at::{At, Listening};
 use crate::engine::loop_manager;
+use crate::listening::Listening;
 use crate::listens::Listens;
 use crate::serve_fault::ServeFault;
 use crate::service::make_ready;
@@ -16,29 +16,7 @@ use std::thread::{Threads, available_parallelism};
 use xa_disk::{Disk, Opens};
 use xa_reactor::{Listener, Settings};
 use xa_sequencer::GroupManager;
-
-/// What is to be served by loops.
-#[derive(Clone, Copy, Debug, Drop)]
-pub struct LoopService<'a> {
-    /// Of the log's first file. The second one's has `.2` after it.
-    pub path: &'a str,
-    pub name: &'a str,
-    pub at: At<'a>,
-    /// How many bytes each of the log's two files may have.
-    pub log_bytes: u64,
-    /// 1 to `MOST_LOOPS`, or 0 for as many as the machine has cores, at most 4.
-    pub loops: u64,
-    /// After how many connections it ends, 0 for never.
-    pub connections: u64,
-    /// For how many seconds a connection may bring no byte inside a frame, 0 for ever.
-    pub frame_seconds: u64,
-    /// For how many seconds a connection whose session has no association may be quiet, 0 for ever.
-    pub idle_seconds: u64,
-    /// Above which end of the log it is trimmed, in bytes, 0 for never. Above half of `log_bytes` a quarter of that counts.
-    pub trim_bytes: u64,
-    /// Whether it ends when the manager has gone down.
-    pub ends_when_down: bool,
-}
+use xa_service::{At, LoopService};
 
 /// Opens the log's two files, listens, and opens the manager; then it serves by loops, until they end. Whether the manager
 /// is up then, or a server that is down was not to end.

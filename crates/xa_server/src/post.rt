@@ -10,8 +10,9 @@ use xa_assoc::ConnectFault;
 use xa_desk::Door;
 use xa_frame::{Reply, Request, Status};
 use xa_handles::{Content, Handle, Held, Letter, SharedSequencer};
+use xa_history::Start;
 use xa_reactor::{Ask, Reception, Watch};
-use xa_room::{Start, Uptime};
+use xa_room::Uptime;
 use xa_sequencer::GroupCommits;
 use xa_tokens::{Book, Share};
 

@@ -7,8 +7,8 @@ ghost use Rattle.xa_server.specs.Faults.{file_fault};
 ghost use Rattle.xa_server.specs.Served.{AreFiles, HasFailed, HasFailedBy, HasOpened, HasServed, IsFileFault};
 ghost use Rattle.xa_server.specs.Served.{IsReady, Refuses, never, second_path, where_of};
 
-use crate::at::{At, Listening, listen};
 use crate::audited::audited_lines;
+use crate::listening::{Listening, listen};
 use crate::listens::Listens;
 use crate::log_file::LogFile;
 use crate::serve_fault::ServeFault;
@@ -19,27 +19,10 @@ use std::rt::Clock;
 use std::sync::Wait;
 use std::thread::Threads;
 use xa_disk::{Disk, FileFault, Opens};
+use xa_history::Manages;
 use xa_log::{Missing, OpenFault, missing_file};
 use xa_manager::{Manager, ManagerFault, Settings};
-use xa_room::Manages;
-
-/// The most connections until a server ends.
-pub const MOST_SERVED: u64 = 1_000_000;
-
-/// What is to be served.
-#[derive(Clone, Copy, Debug, Drop)]
-pub struct Service<'a> {
-    /// Of the log's first file. The second one's has `.2` behind it.
-    pub path: &'a str,
-    pub name: &'a str,
-    pub port: u16,
-    /// How many bytes each of the log's two files may have.
-    pub log_bytes: u64,
-    /// 1 to `MOST_WORKERS`.
-    pub workers: u64,
-    /// 1 to `MOST_SERVED`.
-    pub connections: u64,
-}
+use xa_service::{At, Service};
 
 /// Opens the log's two files, listens, and opens the manager; then it serves so many connections, and audits the
 /// history. Whether the audit found it whole.

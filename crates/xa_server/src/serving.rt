@@ -2,7 +2,8 @@ ghost use Rattle.std.specs.Prelude.{◌≡◌, ◌↔◌, ◌+◌, ◌<◌, ◌�
 ghost use Rattle.std.specs.declared.marker.Brand.{Brand};
 ghost use Rattle.xa_model.specs.State.{State};
 ghost use Rattle.xa_room.specs.Gone.{WasGone};
-ghost use Rattle.xa_server.specs.{declared.serving.TheConstants.MOST_WORKERS, Serves.Serves, Serves.Tells};
+ghost use Rattle.xa_server.specs.Serves.{Serves, Tells};
+ghost use Rattle.xa_service.specs.declared.service.TheConstants.{MOST_WORKERS};
 ghost use Rattle.xa_workers.specs.Connections.{Runs};
 
 use crate::audited::Audited;
@@ -14,11 +15,10 @@ use std::rt::Clock;
 use std::sync::Wait;
 use std::sync::ledger::{Blank, Book, Ledger};
 use std::thread::Threads;
-use xa_room::{AuditFault, Desk, Manages, Room, Start, agree, audit};
+use xa_history::{Manages, Start};
+use xa_room::{AuditFault, Desk, Room, agree, audit};
+use xa_service::MOST_WORKERS;
 use xa_workers::{OpenGate, Report, run_workers};
-
-/// The most workers, and the parts of the ledger of which each takes some.
-pub const MOST_WORKERS: u64 = 64;
 
 /// Serves the sessions of a manager: by so many workers, 1 to `MOST_WORKERS`, until so many connections were taken. A
 /// worker serves one connection at a time. Then it tells how many entries the history has, how many of their receipts
@@ -39,6 +39,7 @@ pub fn serve_manager<M: Manages + Send + Drop, R: AllocGlobal + Clock + Threads 
     ensures workers { IsErrOf result (ServerFault.Workers workers) ↔ ((workers ≡ 0) ⊎ (MOST_WORKERS < workers)) }
     ensures fault { IfErr result (λ fault. (fault ≡ ServerFault.Memory) ⊎ (fault ≡ ServerFault.Workers workers)) }
 {
+    // the parts of the ledger, of which each worker takes some
     let blank = Blank::new(MOST_WORKERS);
     serve_by::<M, Brand, Brand, R>(rt, listener, manager, blank, workers, connections)
 }

@@ -8,8 +8,9 @@ use std::sync::ledger::{Blank, Ledger};
 use xa_codes::{Bytes, TMNOFLAGS};
 use xa_disk::MemDisk;
 use xa_frame::Request;
+use xa_history::{Manages, Receipt, Start};
 use xa_manager::{Manager, Settings};
-use xa_room::{AuditFault, Desk, Manages, Receipt, Room, Share, Start, audit};
+use xa_room::{AuditFault, Desk, Room, Share, audit};
 use xa_rows::LOG_BYTES;
 use xa_workers::Report;
 

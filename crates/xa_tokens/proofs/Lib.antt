@@ -2,4 +2,3 @@ pub mod Sums
 pub mod Keeps
 pub mod Audited
 pub mod Allowed
-pub mod Grouped

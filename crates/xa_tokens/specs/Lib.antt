@@ -1,5 +1,4 @@
 pub mod Account
-pub mod Group
 pub mod Receipts
 pub mod Rule
 pub mod Steps

@@ -12,7 +12,7 @@
 //!   and gave up
 //! - `ticket`: `Ticket`, the right to carry an ask out, once; `told`: `Told`, one entry of the history, nobody else's
 //! - `posted`: `Posted`, an ask with its ticket, and `answered`: `Answered`, a receipt with its token, as threads leave
-//!   them for one another; `group`: answers to posted asks that were carried out together
+//!   them for one another
 //! - `view`: what a token knows, and the rule of all tokens; `steps`: what becomes of that; `moves`: these steps, each a
 //!   load
 //!
@@ -23,7 +23,6 @@
 mod answered;
 mod ask;
 mod book;
-mod group;
 mod keeper;
 mod moves;
 mod opened;

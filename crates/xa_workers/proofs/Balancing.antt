@@ -6,7 +6,7 @@ use Rattle.xa_frame.specs.declared.request.Request.{Request}
 use Rattle.xa_frame.specs.declared.reply.Reply.{Reply}
 use Rattle.xa_model.specs.declared.event.Event.{Event}
 use Rattle.xa_room.specs.Share.{Held}
-use Rattle.xa_room.specs.declared.receipt.Receipt.{Receipt}
+use Rattle.xa_history.specs.declared.receipt.Receipt.{Receipt}
 use Rattle.xa_workers.specs.declared.report.Report.{Report}
 use Rattle.xa_workers.specs.Reports.{Takes, Rests, Calls, Connects, HangsUp, Balances}
 

@@ -14,9 +14,9 @@ use Rattle.xa_model.specs.declared.event.Event.TheVariants.{Connect, Hangup, Cal
 use Rattle.xa_model.specs.State.{State}
 use Rattle.xa_room.specs.Share.{Held, Records}
 use Rattle.xa_room.specs.Status.{IsTold}
-use Rattle.xa_room.specs.declared.manages.Manages.{Ghosts}
-use Rattle.xa_room.specs.Book.{placed}
-use Rattle.xa_room.specs.declared.receipt.Receipt.{Receipt}
+use Rattle.xa_history.specs.declared.manages.Manages.{Ghosts}
+use Rattle.xa_history.specs.Book.{placed}
+use Rattle.xa_history.specs.declared.receipt.Receipt.{Receipt}
 use Rattle.xa_workers.specs.declared.report.Report.{Report}
 
 -- how many events it tells of: their receipts, and those that found no memory

@@ -1,7 +1,7 @@
 ghost use Rattle.std.specs.Prelude.{◌≡◌, ◌+◌, vec_len};
 ghost use Rattle.xa_workers.specs.Reports.{KeepsAll};
 
-use xa_room::Receipt;
+use xa_history::Receipt;
 
 /// Appends the others, or says how many there are where there is no memory.
 pub(crate) fn keep_all(receipts: &mut Vec<Receipt>, others: Vec<Receipt>) -> u64

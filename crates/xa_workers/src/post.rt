@@ -8,7 +8,8 @@ use std::sync::ledger::Ledger;
 use xa_assoc::ConnectFault;
 use xa_desk::Door;
 use xa_frame::{Reply, Request, Status};
-use xa_room::{Desk, Manages, Share, Start, Uptime};
+use xa_history::{Manages, Start};
+use xa_room::{Desk, Share, Uptime};
 
 /// A worker's post at a desk: a door whose calls pass a gate and are the desk's, with a report of what was recorded.
 pub struct Post<'a, M: Manages, S: Start, L: Ledger, G, R> {

@@ -5,7 +5,8 @@ use std::alloc::Global;
 use std::fmt;
 use std::sync::Wait;
 use std::sync::ledger::Ledger;
-use xa_room::{Desk, Manages, Receipt, Share, Start};
+use xa_history::{Manages, Receipt, Start};
+use xa_room::{Desk, Share};
 
 /// What was recorded by a share since its report began: the receipts of its connects, calls and hang-ups in their
 /// order, and how many receipts more found no memory to be kept.

@@ -13,7 +13,8 @@ use std::rt::Clock;
 use std::sync::ledger::Ledger;
 use std::sync::{Mutex, Wait};
 use xa_desk::serve;
-use xa_room::{Desk, Manages, Share, Start};
+use xa_history::{Manages, Start};
+use xa_room::{Desk, Share};
 
 /// Serves a connection for each number that it takes, until none is left. Each session that it connected it hung up,
 /// unless it was gone.

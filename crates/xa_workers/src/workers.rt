@@ -15,7 +15,8 @@ use std::sync::ledger::Ledger;
 use std::sync::{Mutex, Wait};
 use std::thread::{Threads, map_vec};
 use thiserror::Error;
-use xa_room::{Desk, Manages, Share, Start};
+use xa_history::{Manages, Start};
+use xa_room::{Desk, Share};
 
 /// Why there is no report.
 #[derive(Clone, Copy, Debug, PartialEq, Eq, Error)]

@@ -6,25 +6,17 @@
 //! - `tick` tells a server what the clock says, again and again
 //! - `scan` prints the records of a log
 //!
-//! `words` reads the command line, by `line` and its `arguments`, as `asked`; `command` hands that on, to `xa_commands` and
-//! to `xa_server`, and says what it came to (`ran`).
+//! `xa_words` reads the command line, and does what it asks for, but that it serves; that `xa_server` does.
 #![tactic(auto)]
 
-mod arguments;
-mod asked;
-mod command;
-mod line;
-mod ran;
-mod words;
-
-use ran::Ran;
 use std::process::ExitCode;
 use xa_commands::served;
 use xa_server::{serve, serve_loops};
+use xa_words::{Ran, given_words, run};
 
 fn main(rt: HostRuntime) -> ExitCode {
-    let words = command::words(&rt);
-    match command::run(&rt, &words) {
+    let words = given_words(&rt);
+    match run(&rt, &words) {
         Ran::Ended(status) => status,
         Ran::Serves(service) => served(&rt, &serve(&rt, &service)),
         Ran::Loops(service) => served(&rt, &serve_loops(&rt, &service)),

@@ -6,8 +6,9 @@ use std::io;
 use std::io::{Read, Write};
 use std::sync::ledger::Ledger;
 use xa_desk::{Served, serve, serve_upto};
+use xa_history::{Entry, Manages, Start};
 use xa_model::Event;
-use xa_room::{Desk, Entry, Manages, Room, Share, Start};
+use xa_room::{Desk, Room, Share};
 
 // Connections to a room that break.
 

@@ -14,8 +14,9 @@ use xa_desk::Door;
 use xa_disk::MemDisk;
 use xa_fields::Key;
 use xa_frame::{Body, Reply, Request};
+use xa_history::{Manages, Receipt, Start};
 use xa_manager::Manager;
-use xa_room::{Desk, Manages, Receipt, Room, Share, Start, audit};
+use xa_room::{Desk, Room, Share, audit};
 use xa_workers::{Gate, OpenGate, Post, Report, split_all};
 use xa_xid::Xid;
 

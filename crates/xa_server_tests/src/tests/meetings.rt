@@ -10,9 +10,9 @@ use std::thread;
 use std::thread::{Threads, join};
 use xa_codes::XA_OK;
 use xa_frame::{Body, Reply, encode_reply};
+use xa_history::Receipt;
 use xa_limits::MOST_VALUE;
 use xa_model::Event;
-use xa_room::Receipt;
 use xa_workers::{Gate, OpenGate};
 
 /// How often a call that is kept back looks whether another came through.

@@ -7,8 +7,8 @@ use std::alloc::Global;
 use std::marker::Brand;
 use xa_codes::XA_OK;
 use xa_disk::{Disk, MemDisk};
+use xa_history::Start;
 use xa_manager::Asked;
-use xa_room::Start;
 use xa_sequencer::{GroupCommits, GroupManager, Sequencer};
 
 /// Before the group.

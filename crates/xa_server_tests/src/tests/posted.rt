@@ -10,7 +10,7 @@ use xa_codes::XA_OK;
 use xa_disk::MemDisk;
 use xa_frame::Request;
 use xa_handles::{Content, Handle, Held, SharedSequencer};
-use xa_room::Start;
+use xa_history::Start;
 use xa_script::{Line, read_line};
 use xa_sequencer::{GroupCommits, GroupManager, Sequencer};
 use xa_tokens::{Book, Opened};

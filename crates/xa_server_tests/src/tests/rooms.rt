@@ -9,8 +9,9 @@ use xa_codes::{Code, Detail, XA_OK, XAER_PROTO};
 use xa_desk::Door;
 use xa_fields::Key;
 use xa_frame::{Body, Reply, Request};
+use xa_history::{Manages, Receipt, Start};
 use xa_model::Event;
-use xa_room::{AuditFault, Desk, Manages, Receipt, Room, Share, Start, agree};
+use xa_room::{AuditFault, Desk, Room, Share, agree};
 
 // Adds a receipt, if there is one.
 fn keeps(receipts: &mut Vec<Receipt>, receipt: Option<Receipt>) -> bool {

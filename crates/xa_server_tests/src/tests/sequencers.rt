@@ -14,7 +14,7 @@ use xa_disk::MemDisk;
 use xa_fields::Key;
 use xa_frame::Request;
 use xa_handles::{Handle, SharedSequencer};
-use xa_room::Start;
+use xa_history::Start;
 use xa_sequencer::{GroupCommits, GroupManager, Sequencer};
 use xa_tokens::{Book, Opened, Share};
 

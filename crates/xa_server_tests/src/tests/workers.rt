@@ -11,8 +11,8 @@ use std::sync::Wait;
 use std::sync::ledger::{Blank, Ledger};
 use std::thread::{Threads, join};
 use xa_disk::MemDisk;
+use xa_history::{Manages, Receipt, Start};
 use xa_manager::Manager;
-use xa_room::{Manages, Receipt, Start};
 use xa_workers::{Gate, Report, WorkFault, run_workers};
 
 // Workers at a desk of their own, and clients whose calls they answer.

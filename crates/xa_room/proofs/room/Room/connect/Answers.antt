@@ -2,12 +2,12 @@ use Rattle.std.proofs.Common.{◌≡◌, ◌∙◌, false, refl, sym, ap, subst,
 use Rattle.xa_frame.specs.declared.reply.Reply.{Reply}
 use Rattle.xa_assoc.specs.Refusals.{is_memory}
 use Rattle.xa_model.specs.declared.event.Event.TheVariants.{Connect}
-use Rattle.xa_room.specs.declared.receipt.Receipt.{Receipt}
-use Rattle.xa_room.specs.Book.{placed}
-use Rattle.xa_room.specs.Manages.{Acts}
-use Rattle.xa_room.specs.Told.{Told}
-use Rattle.xa_room.specs.Upholds.{Adds}
-use Rattle.xa_room.proofs.Longer.{kept_noted, adds_noted, connect_place, one_more}
+use Rattle.xa_history.specs.declared.receipt.Receipt.{Receipt}
+use Rattle.xa_history.specs.Book.{placed}
+use Rattle.xa_history.specs.Manages.{Acts}
+use Rattle.xa_room.specs.Told.{Adds, Told}
+use Rattle.xa_history.proofs.Longer.{kept_noted, connect_place, one_more}
+use Rattle.xa_room.proofs.Adding.{adds_noted}
 use Rattle.xa_room.proofs.room.Room.connect.Goals as goal
 
 pub invariant_of-self-2 : goal.invariant_of-self-2

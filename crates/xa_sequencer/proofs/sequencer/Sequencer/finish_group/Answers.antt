@@ -2,7 +2,7 @@ use Rattle.std.proofs.Common.{◌+◌, ◌++◌, ℕ, List, length, take, drop, 
 use Rattle.std.specs.List.{AllByRecursion}
 use Rattle.xa_frame.specs.declared.reply.Reply.{Reply}
 use Rattle.xa_manager.specs.Once.{AreOnce}
-use Rattle.xa_room.specs.Together.{IsToldOf}
+use Rattle.xa_history.specs.Together.{IsToldOf}
 use Rattle.xa_sequencer.specs.Stands.{Numbered}
 use Rattle.xa_sequencer.specs.Together.{CalledTogether}
 use Rattle.xa_sequencer.proofs.Grouping.{all_told, called_together, has_history, have_numbers, placed_once, placed_told, placed_whole}

@@ -1,0 +1,31 @@
+ghost use Rattle.std.specs.Prelude.{IfOk, OnErr};
+ghost use Rattle.xa_server.specs.Served.{IsListening, IsRefusedAt, where_of};
+
+use crate::listens::Listens;
+use std::io;
+use std::net::TcpListener;
+use std::os::unix::net::UnixListener;
+use xa_service::At;
+
+/// What listens where a server is to.
+#[derive(Debug, Drop)]
+pub(crate) enum Listening {
+    Tcp(TcpListener),
+    Unix(UnixListener),
+}
+
+pub(crate) fn listen<R: Listens>(rt: &R, at: At<'_>) -> io::Result<Listening>
+    ensures listens { IfOk result (λ listener. IsListening R.Listens listener (where_of at.entry)) }
+    ensures refused { OnErr result (IsRefusedAt R.Listens (where_of at.entry)) }
+{
+    match at {
+        At::Port { address, port } => match rt.listen(address, port) {
+            Ok(listener) => Ok(Listening::Tcp(listener)),
+            Err(error) => Err(error),
+        },
+        At::Socket(path) => match rt.listen_at(path) {
+            Ok(listener) => Ok(Listening::Unix(listener)),
+            Err(error) => Err(error),
+        },
+    }
+}

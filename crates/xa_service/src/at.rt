@@ -1,0 +1,8 @@
+/// Where a server listens.
+#[derive(Clone, Copy, Debug, Drop)]
+pub enum At<'a> {
+    /// At an address on a port.
+    Port { address: &'a str, port: u16 },
+    /// At a path, by a Unix socket of its owner's alone.
+    Socket(&'a str),
+}

@@ -1,0 +1,124 @@
+-- What the words of a command ask for.
+use Rattle.std.specs.Prelude.{◌≡◌, ◌≢◌, ◌⊎◌, ℕ, Bool, true, false, List, [], Option, Some, None, codes, if◌then◌else◌, unwrap_or}
+use Rattle.std.specs.Option.{option_map_or}
+use Rattle.std.specs.Str.Parse.{digits_value, without_leading_plus}
+use Rattle.clap.specs.ValueTests.{is_unsigned_in}
+use Rattle.clap.specs.Walk.{Row, Text, first_of, one_of}
+use Rattle.xa_limits.specs.declared.TheConstants.{MOST_LOG}
+use Rattle.xa_script.specs.declared.style.Style.{Style}
+use Rattle.xa_script.specs.declared.style.Style.TheVariants.{Codes, Names}
+use Rattle.xa_commands.specs.declared.server.Reach.{Reach}
+use Rattle.xa_commands.specs.declared.server.Reach.TheVariants as reach
+use Rattle.xa_service.specs.declared.at.At.{At}
+use Rattle.xa_service.specs.declared.at.At.TheVariants as at
+use Rattle.xa_service.specs.declared.service.TheConstants.{MOST_SERVED}
+use Rattle.xa_words.specs.declared.asked.Asked.{Asked}
+use Rattle.xa_words.specs.declared.asked.Asked.TheVariants.{Play, Scan, Serve, Loop, Talk, Tick, Nowhere}
+
+-- the text of an argument, or the one that stands for none
+abbrev pub text_in : List Row → Text → Text → Text
+text_in rows id absent = unwrap_or (first_of id rows) absent
+
+-- the number that a text spells, where it is at most `most`, or the one that stands for none
+abbrev pub number_or : ℕ → ℕ → Text → ℕ
+number_or most absent text =
+    if is_unsigned_in 0 most text then digits_value 10 (without_leading_plus text) else absent
+
+-- the greatest numbers of 16 and of 64 bits
+abbrev pub most_16 : ℕ
+most_16 = 65535
+
+abbrev pub most_64 : ℕ
+most_64 = 18446744073709551615
+
+-- the number of an argument, or the one that stands for none
+abbrev pub number_in : List Row → Text → ℕ → ℕ → ℕ
+number_in rows id most absent = option_map_or (number_or most absent) (one_of id rows) absent
+
+-- a flag is set
+pub record IsFlag (text : Option Text) (style : Style) : Type 0 where
+  pub absent : text ≡ None → style ≡ Codes
+  pub set : text ≡ Some (codes "true") → style ≡ Names
+  pub unset : text ≡ Some (codes "false") → style ≡ Codes
+
+pub record IsSet (text : Option Text) (flag : Bool) : Type 0 where
+  pub absent : text ≡ None → flag ≡ false
+  pub set : text ≡ Some (codes "true") → flag ≡ true
+  pub unset : text ≡ Some (codes "false") → flag ≡ false
+
+-- the command is one of the five
+abbrev pub IsCommand : Text → Type 0
+IsCommand command =
+    (command ≡ codes "play")
+    ⊎ ((command ≡ codes "scan")
+    ⊎ ((command ≡ codes "serve") ⊎ ((command ≡ codes "talk") ⊎ (command ≡ codes "tick"))))
+
+-- no path is given, and this port is, which is 0 where none is
+abbrev pub IsPort : List Row → ℕ → Type 0
+IsPort rows port = (first_of (codes "socket") rows ≡ None) × (port ≡ number_in rows (codes "port") most_16 0)
+
+-- how a server is to be reached: at the path, where one is given, else on the port; None where neither is
+abbrev pub IsReachIn : List Row → Option Reach → Type 0
+IsReachIn rows (Some (reach.Socket path)) = first_of (codes "socket") rows ≡ Some path.now
+IsReachIn rows (Some (reach.Port port)) = IsPort rows port × (port ≢ 0)
+IsReachIn rows None = IsPort rows 0
+
+-- where it is to listen, likewise
+abbrev pub IsAtIn : List Row → Option At → Type 0
+IsAtIn rows (Some (at.Socket path)) = first_of (codes "socket") rows ≡ Some path.now
+IsAtIn rows (Some (at.Port address port)) =
+    IsPort rows port × (port ≢ 0) × (address.now ≡ text_in rows (codes "listen") (codes "127.0.0.1"))
+IsAtIn rows None = IsPort rows 0
+
+-- a command that needs a port or a path was given neither; with workers there is a port alone
+abbrev pub IsNowhere : Text → List Row → Type 0
+IsNowhere command rows =
+    ((command ≡ codes "serve") × (number_in rows (codes "workers") most_64 0 ≢ 0)
+    × (number_in rows (codes "port") most_16 0 ≡ 0))
+    ⊎ ((((command ≡ codes "serve") × (number_in rows (codes "workers") most_64 0 ≡ 0))
+    ⊎ ((command ≡ codes "talk") ⊎ (command ≡ codes "tick")))
+    × IsPort rows 0)
+
+-- each field of what a command asks for is that of its own argument
+abbrev pub AsksBy : Text → List Row → Asked → Type 0
+AsksBy command rows (Play name log_bytes) =
+    (command ≡ codes "play") × (name.now ≡ text_in rows (codes "name") (codes "xarm"))
+    × (log_bytes ≡ number_in rows (codes "log-bytes") most_64 MOST_LOG)
+AsksBy command rows (Scan path) = (command ≡ codes "scan") × (path.now ≡ text_in rows (codes "path") [])
+AsksBy command rows (Talk reach style) =
+    (command ≡ codes "talk") × IsReachIn rows (Some reach)
+    × IsFlag (one_of (codes "names") rows) style
+AsksBy command rows (Tick reach every) =
+    (command ≡ codes "tick") × IsReachIn rows (Some reach)
+    × (every ≡ number_in rows (codes "every") most_64 1)
+-- by workers, where their number is given
+AsksBy command rows (Serve service) =
+    (command ≡ codes "serve")
+    × (number_in rows (codes "workers") most_64 0 ≢ 0)
+    × (service.path.now ≡ text_in rows (codes "log") [])
+    × (service.name.now ≡ text_in rows (codes "name") [])
+    × (service.port ≡ number_in rows (codes "port") most_16 0)
+    × (service.port ≢ 0)
+    × (service.log_bytes ≡ number_in rows (codes "log-bytes") most_64 MOST_LOG)
+    × (service.workers ≡ number_in rows (codes "workers") most_64 0)
+    × (service.connections ≡ number_in rows (codes "connections") most_64 MOST_SERVED)
+-- else by loops
+AsksBy command rows (Loop service) =
+    (command ≡ codes "serve")
+    × (number_in rows (codes "workers") most_64 0 ≡ 0)
+    × (service.path.now ≡ text_in rows (codes "log") [])
+    × (service.name.now ≡ text_in rows (codes "name") [])
+    × IsAtIn rows (Some service.at)
+    × (service.log_bytes ≡ number_in rows (codes "log-bytes") most_64 MOST_LOG)
+    × (service.loops ≡ number_in rows (codes "loops") most_64 0)
+    × (service.connections ≡ number_in rows (codes "connections") most_64 0)
+    × (service.frame_seconds ≡ number_in rows (codes "frame-seconds") most_64 30)
+    × (service.idle_seconds ≡ number_in rows (codes "idle-seconds") most_64 0)
+    × (service.trim_bytes ≡ number_in rows (codes "trim") most_64 67108864)
+    × IsSet (one_of (codes "exit-when-down") rows) service.ends_when_down
+AsksBy command rows Nowhere = IsNowhere command rows
+
+-- the same of the command that the words name, and its matches
+abbrev pub AsksOf : Option (Text × List Row) → Asked → Type 0
+AsksOf None asked = ⊥
+AsksOf (Some found) asked = AsksBy found.0 found.1 asked

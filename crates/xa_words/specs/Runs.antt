@@ -1,0 +1,85 @@
+-- What is done of a command line.
+use Rattle.std.specs.Prelude.{◌≡◌, ◌≢◌, ◌⊎◌, ℕ, List, [], Option, Result, Ok, Err, IsErrOf}
+use Rattle.std.specs.declared.io.ErrorKind.{ErrorKind as IoKind}
+use Rattle.std.specs.declared.io.ErrorKind.TheVariants as io
+use Rattle.std.specs.Process.{exit_status}
+use Rattle.clap.specs.Faults.{fault_of}
+use Rattle.clap.specs.Kinds.{Kinds, IsAmong}
+use Rattle.clap.specs.Simple.{subcommand_of}
+use Rattle.clap.specs.Walk.{Text}
+use Rattle.clap.specs.declared.error.kind.ErrorKind.{ErrorKind}
+use Rattle.clap.specs.declared.error.kind.ErrorKind.TheVariants.{OutOfMemory, DisplayHelp, DisplayVersion}
+use Rattle.xa_commands.specs.Done.{HasPlayed, HasTalked, HasTicked, Scanned}
+use Rattle.xa_commands.specs.declared.scanning_fault.ScanningFault.{ScanningFault}
+use Rattle.xa_disk.specs.declared.file_fault.FileFault.{FileFault}
+use Rattle.xa_manager.specs.Opening.{IsBadSetting}
+use Rattle.xa_play.specs.declared.fault.PlayFault.{PlayFault}
+use Rattle.xa_play.specs.declared.fault.PlayFault.TheVariants as play
+use Rattle.xa_talk.specs.declared.fault.TalkFault.{TalkFault}
+use Rattle.xa_talk.specs.declared.tick_fault.TickFault.{TickFault}
+use Rattle.xa_words.specs.Asks.{AsksOf}
+use Rattle.xa_words.specs.Line.{xarm}
+use Rattle.xa_words.specs.declared.asked.Asked.{Asked}
+use Rattle.xa_words.specs.declared.asked.Asked.TheVariants.{Play, Scan, Serve, Loop, Talk, Tick, Nowhere}
+use Rattle.xa_words.specs.declared.ran.Ran.{Ran}
+use Rattle.xa_words.specs.declared.ran.Ran.TheVariants.{Ended, Serves, Loops}
+
+-- the status of an end: 0 where all is done, else 1
+abbrev pub status_of : {X E : Type 0} → Result X E → ℕ
+status_of (Ok x) = 0
+status_of (Err e) = 1
+
+-- The status where words are refused for a reason of this kind: 1 where memory ran out; of help and of the version, which
+-- were asked for, 0, or 1 where they couldn't be printed; else 2.
+abbrev pub IsRefusal : ErrorKind → ℕ → Type 0
+IsRefusal OutOfMemory status = status ≡ 1
+IsRefusal DisplayHelp status = (status ≡ 0) ⊎ (status ≡ 1)
+IsRefusal DisplayVersion status = (status ≡ 0) ⊎ (status ≡ 1)
+IsRefusal kind status = status ≡ 2
+
+-- a script was played under this name, with files of this size
+pub record IsPlayed {I X : Type 0} (remaining : I → Option Text) (name : Text) (log_bytes : ℕ) (end : Result X PlayFault)
+    : Type 0 where
+  pub setting : IsErrOf end play.Setting → IsBadSetting name log_bytes
+  pub bad : IsBadSetting name log_bytes → IsErrOf end play.Setting ⊎ IsErrOf end play.Memory
+  pub played : IsErrOf end play.Memory ⊎ HasPlayed remaining name log_bytes end
+
+-- by what the runtime's readers, disks, connections and clocks are
+module _ {I D C : Type 0} (T : Type 0) (remaining : I → Option Text) (honest : Type 0) (seen : D → Text)
+    (opened : D → Text → Type 0) (refused : Text → FileFault → Type 0) (sent left : C → Option Text) where
+  -- The command that was asked for was done, and that end's status is told; a server is handed on.
+  abbrev pub HasDone : Asked → Ran → Type 0
+  HasDone (Play name log_bytes) (Ended code) =
+      (end : Result (Unit {0}) PlayFault) × IsPlayed remaining name.now log_bytes end × (exit_status code ≡ status_of end)
+  HasDone (Scan path) (Ended code) =
+      (end : Result (Unit {0}) ScanningFault) × Scanned honest seen opened refused path.now end
+      × (exit_status code ≡ status_of end)
+  HasDone (Talk reach style) (Ended code) =
+      (end : Result (Unit {0}) TalkFault) × HasTalked style remaining sent left end × (exit_status code ≡ status_of end)
+  HasDone (Tick reach every) (Ended code) =
+      (end : Result (Unit {0}) TickFault) × HasTicked T sent left end × (exit_status code ≡ status_of end)
+  HasDone Nowhere (Ended code) = exit_status code ≡ 2
+  HasDone (Serve service) (Serves served) = served ≡ service
+  HasDone (Loop service) (Loops served) = served ≡ service
+  HasDone _ _ = ⊥
+
+  -- The words were refused for one of these reasons, or for want of memory.
+  abbrev pub HasRefused : Kinds → Ran → Type 0
+  HasRefused kinds (Ended code) =
+      (kind : ErrorKind) × ((kind ≡ OutOfMemory) ⊎ IsAmong kind kinds) × IsRefusal kind (exit_status code)
+  HasRefused kinds _ = ⊥
+
+  -- what the words ask for was done, or they were refused
+  abbrev pub HasRun : List Text → Ran → Type 0
+  HasRun words ran =
+      ((asked : Asked) × (fault_of xarm words ≡ []) × AsksOf (subcommand_of xarm words) asked × HasDone asked ran)
+      ⊎ HasRefused (fault_of xarm words) ran
+
+-- the words couldn't be had: there was no memory, or one is no text
+pub record IsUnreadStatus (kind : IoKind) (status : ℕ) : Type 0 where
+  pub memory : kind ≡ io.OutOfMemory → status ≡ 1
+  pub no_text : kind ≢ io.OutOfMemory → status ≡ 2
+
+abbrev pub IsUnread : IoKind → Ran → Type 0
+IsUnread kind (Ended code) = IsUnreadStatus kind (exit_status code)
+IsUnread kind _ = ⊥

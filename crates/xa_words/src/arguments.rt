@@ -1,0 +1,234 @@
+//! The arguments of the commands. The help names limits in texts of its own, and `.ci/commands` compares these with
+//! the constants: a text that is made of a number would have to live as long as the words, since `clap` lends both alike.
+ghost use Rattle.xa_words.specs.Line.{HasRule, connections_rule, every_rule, exit_when_down_rule};
+ghost use Rattle.xa_words.specs.Line.{frame_seconds_rule, idle_seconds_rule, listen_rule, log_bytes_rule};
+ghost use Rattle.xa_words.specs.Line.{log_rule, loops_rule, name_rule, names_rule, path_rule, play_name_rule};
+ghost use Rattle.xa_words.specs.Line.{port_rule, serve_log_bytes_rule, socket_rule, trim_rule, workers_rule};
+
+use clap::builder::ValueParser;
+use clap::{Arg, ArgAction};
+use std::alloc::Global;
+use xa_limits::{LEAST_LOG, MOST_LOG};
+use xa_service::{MOST_LOOPS, MOST_SERVED, MOST_WORKERS};
+use xa_talk::MOST_EVERY;
+
+/// The greatest number that a word may spell: `clap` reads numbers of 63 bits.
+const MOST_NUMBER: u64 = 9_223_372_036_854_775_807;
+
+/// The most seconds that a connection may be quiet inside a frame, where that has an end.
+const MOST_FRAME_SECONDS: u64 = 3_600;
+
+/// The most seconds that a connection may be quiet whose session has no association, where that has an end: a day.
+const MOST_IDLE_SECONDS: u64 = 86_400;
+
+pub fn play_name<'a>(alloc: Global) -> Arg<'a>
+    ensures { HasRule play_name_rule result }
+{
+    Arg::new(alloc, "name")
+        .long("name")
+        .value_name("NAME")
+        .help("The name under which sessions open the resource manager: 0 to 255 bytes")
+        .action(ArgAction::Set)
+        .default_value("xarm")
+}
+
+pub fn log_bytes<'a>(alloc: Global) -> Arg<'a>
+    ensures { HasRule log_bytes_rule result }
+{
+    Arg::new(alloc, "log-bytes")
+        .long("log-bytes")
+        .value_name("N")
+        .help("The maximum size of each of the two log files, in bytes: 64 to 1073741824")
+        .value_parser(ValueParser::unsigned(0, MOST_NUMBER))
+        .action(ArgAction::Set)
+        .default_value("1073741824")
+}
+
+pub fn path<'a>(alloc: Global) -> Arg<'a>
+    ensures { HasRule path_rule result }
+{
+    Arg::new(alloc, "path")
+        .value_name("PATH")
+        .help(
+            "One of the log's two files, of at most 1073741824 bytes. It is opened read-only, and refused while a server has it open",
+        )
+        .required(true)
+        .action(ArgAction::Set)
+}
+
+pub fn names<'a>(alloc: Global) -> Arg<'a>
+    ensures { HasRule names_rule result }
+{
+    Arg::new(alloc, "names")
+        .long("names")
+        .help("Prints the name of each code after its number, as in 104 XA_RBOTHER LogFull")
+        .action(ArgAction::SetTrue)
+}
+
+pub fn log<'a>(alloc: Global) -> Arg<'a>
+    ensures { HasRule log_rule result }
+{
+    Arg::new(alloc, "log")
+        .long("log")
+        .value_name("PATH")
+        .help("The log's first file; the second one is PATH.2. Missing files are created")
+        .required(true)
+        .action(ArgAction::Set)
+}
+
+pub fn serve_log_bytes<'a>(alloc: Global) -> Arg<'a>
+    ensures { HasRule serve_log_bytes_rule result }
+{
+    Arg::new(alloc, "log-bytes")
+        .long("log-bytes")
+        .value_name("N")
+        .help("The maximum size of each of the two log files, in bytes: 64 to 1073741824")
+        .value_parser(ValueParser::unsigned(LEAST_LOG, MOST_LOG))
+        .action(ArgAction::Set)
+        .default_value("1073741824")
+}
+
+pub fn name<'a>(alloc: Global) -> Arg<'a>
+    ensures { HasRule name_rule result }
+{
+    Arg::new(alloc, "name")
+        .long("name")
+        .value_name("NAME")
+        .help("The name under which sessions open the resource manager: 0 to 255 bytes")
+        .required(true)
+        .action(ArgAction::Set)
+}
+
+pub fn loops<'a>(alloc: Global) -> Arg<'a>
+    ensures { HasRule loops_rule result }
+{
+    Arg::new(alloc, "loops")
+        .long("loops")
+        .value_name("N")
+        .help("The number of event-loop threads: 1 to 16. If not given, one per core, at most 4")
+        .value_parser(ValueParser::unsigned(1, MOST_LOOPS))
+        .action(ArgAction::Set)
+}
+
+pub fn workers<'a>(alloc: Global) -> Arg<'a>
+    ensures { HasRule workers_rule result }
+{
+    Arg::new(alloc, "workers")
+        .long("workers")
+        .value_name("N")
+        .help(
+            "Serves so many connections at a time by worker threads with an audit, instead of event loops: 1 to 64. The options after --connections are then ignored",
+        )
+        .value_parser(ValueParser::unsigned(1, MOST_WORKERS))
+        .action(ArgAction::Set)
+}
+
+pub fn connections<'a>(alloc: Global) -> Arg<'a>
+    ensures { HasRule connections_rule result }
+{
+    Arg::new(alloc, "connections")
+        .long("connections")
+        .value_name("C")
+        .help(
+            "The number of connections after which the server exits: 1 to 1000000. If not given, no limit; 1000000 with --workers",
+        )
+        .value_parser(ValueParser::unsigned(1, MOST_SERVED))
+        .action(ArgAction::Set)
+}
+
+pub fn listen<'a>(alloc: Global) -> Arg<'a>
+    ensures { HasRule listen_rule result }
+{
+    Arg::new(alloc, "listen")
+        .long("listen")
+        .value_name("ADDR")
+        .help(
+            "The address to listen on. There is no authentication: whoever reaches it can do anything",
+        )
+        .action(ArgAction::Set)
+        .default_value("127.0.0.1")
+}
+
+pub fn frame_seconds<'a>(alloc: Global) -> Arg<'a>
+    ensures { HasRule frame_seconds_rule result }
+{
+    Arg::new(alloc, "frame-seconds")
+        .long("frame-seconds")
+        .value_name("S")
+        .help(
+            "Closes a connection that has stopped inside a frame for so many seconds: 0 (never) to 3600",
+        )
+        .value_parser(ValueParser::unsigned(0, MOST_FRAME_SECONDS))
+        .action(ArgAction::Set)
+        .default_value("30")
+}
+
+pub fn idle_seconds<'a>(alloc: Global) -> Arg<'a>
+    ensures { HasRule idle_seconds_rule result }
+{
+    Arg::new(alloc, "idle-seconds")
+        .long("idle-seconds")
+        .value_name("S")
+        .help(
+            "Closes a connection that has been quiet for so many seconds, if its session has no active or suspended association: 0 (never) to 86400",
+        )
+        .value_parser(ValueParser::unsigned(0, MOST_IDLE_SECONDS))
+        .action(ArgAction::Set)
+        .default_value("0")
+}
+
+pub fn trim<'a>(alloc: Global) -> Arg<'a>
+    ensures { HasRule trim_rule result }
+{
+    Arg::new(alloc, "trim")
+        .long("trim")
+        .value_name("BYTES")
+        .help(
+            "Trims the log when it ends above so many bytes: 0 (never) to 1073741824. If that is above half of --log-bytes, a quarter of --log-bytes is used",
+        )
+        .value_parser(ValueParser::unsigned(0, MOST_LOG))
+        .action(ArgAction::Set)
+        .default_value("67108864")
+}
+
+pub fn exit_when_down<'a>(alloc: Global) -> Arg<'a>
+    ensures { HasRule exit_when_down_rule result }
+{
+    Arg::new(alloc, "exit-when-down")
+        .long("exit-when-down")
+        .help("Exits with status 1 when the resource manager goes down")
+        .action(ArgAction::SetTrue)
+}
+
+pub fn port<'a>(alloc: Global) -> Arg<'a>
+    ensures { HasRule port_rule result }
+{
+    Arg::new(alloc, "port")
+        .long("port")
+        .value_name("P")
+        .help("The TCP port: 1 to 65535")
+        .value_parser(ValueParser::unsigned(1, u64::from(u16::MAX)))
+        .action(ArgAction::Set)
+}
+
+pub fn socket<'a>(alloc: Global) -> Arg<'a>
+    ensures { HasRule socket_rule result }
+{
+    Arg::new(alloc, "socket")
+        .long("socket")
+        .value_name("PATH")
+        .help("A Unix socket to use instead of the port; only its owner and root can connect")
+        .action(ArgAction::Set)
+}
+
+pub fn every<'a>(alloc: Global) -> Arg<'a>
+    ensures { HasRule every_rule result }
+{
+    Arg::new(alloc, "every")
+        .long("every")
+        .value_name("S")
+        .help("The number of seconds between two ticks: 1 to 3600")
+        .value_parser(ValueParser::unsigned(1, MOST_EVERY))
+        .action(ArgAction::Set)
+        .default_value("1")
+}

@@ -1,0 +1,92 @@
+//! What is done of a command line.
+ghost use Rattle.std.specs.IoError.{error_kind};
+ghost use Rattle.std.specs.Prelude.{◌≡◌, IfErr, IfOk, map, string_bytes};
+ghost use Rattle.std.specs.Process.{exit_status};
+ghost use Rattle.clap.specs.Values.{kind_of};
+ghost use Rattle.xa_words.specs.Runs.{HasDone, HasRun, IsRefusal, IsUnread};
+ghost use Rattle.xa_commands.specs.declared.ticking.Watch.{Watch};
+ghost use Rattle.xa_talk.specs.declared.dial.Connection.{Connection};
+
+use crate::asked::Asked;
+use crate::ran::Ran;
+use crate::words::read_words;
+use clap::Error;
+use clap::error::ErrorKind;
+use std::io::{Read, Write};
+use std::net::{Net, TcpStream};
+use std::process::ExitCode;
+use std::rt::{Clock, Env};
+use std::{env, io};
+use xa_commands::{Stream, ended, play, scan, talk, tick, words_fault};
+use xa_disk::Opens;
+use xa_play::PlayFault;
+
+/// Does what the command line says, but that it serves. Status 0: done. 1: a fault, its line on standard error. 2: the
+/// command line was refused.
+pub fn run<'a, R: AllocGlobal + Input + Print + Eprint + Opens + Clock + Net<Stream = TcpStream>>(
+    rt: &R,
+    words: &'a io::Result<Vec<String>>,
+) -> Ran<'a>
+    ensures run { IfOk words.now (λ words. HasRun {C = Connection Stream Stream} (Watch R) R.Reader.remaining
+        R.Disk.honest R.Disk.seen R.opened R.refused (λ c. ⟦<Stream as Write>⟧.contents c.writer)
+        (λ c. ⟦<Stream as Read>⟧.remaining c.reader) (map string_bytes words.items) result) }
+    ensures unread { IfErr words.now (λ error. IsUnread (error_kind error) result) }
+{
+    let words = match words {
+        Ok(words) => words,
+        Err(error) => return Ran::Ended(words_fault(rt, error)),
+    };
+    match read_words(rt.alloc(), words.as_slice()) {
+        Ok(asked) => done(rt, asked),
+        Err(error) => Ran::Ended(refused(rt, &error)),
+    }
+}
+
+// Does what is asked for, but that it serves.
+fn done<'a, R: AllocGlobal + Input + Print + Eprint + Opens + Clock + Net<Stream = TcpStream>>(
+    rt: &R,
+    asked: Asked<'a>,
+) -> Ran<'a>
+    ensures { HasDone {C = Connection Stream Stream} (Watch R) R.Reader.remaining R.Disk.honest R.Disk.seen
+        R.opened R.refused (λ c. ⟦<Stream as Write>⟧.contents c.writer)
+        (λ c. ⟦<Stream as Read>⟧.remaining c.reader) asked.entry result }
+{
+    Ran::Ended(match asked {
+        Asked::Play { name, log_bytes } => ended(rt, &play(rt, name, log_bytes)),
+        Asked::Scan { path } => ended(rt, &scan(rt, path)),
+        Asked::Serve(service) => return Ran::Serves(service),
+        Asked::Loop(service) => return Ran::Loops(service),
+        Asked::Talk { reach, style } => ended(rt, &talk(rt, reach, style)),
+        Asked::Tick { reach, every } => ended(rt, &tick(rt, reach, every)),
+        Asked::Nowhere => nowhere(rt),
+    })
+}
+
+// Neither a port nor a path was given.
+fn nowhere<R: Eprint>(rt: &R) -> ExitCode
+    ensures { exit_status result ≡ 2 }
+{
+    let _ = rt.eprintln(
+        "error: the following required arguments were not provided:\n  --port <P> or --socket <PATH>\n\n\
+         For more information, try '--help'.",
+    );
+    ExitCode::from(2)
+}
+
+/// The words of the command line.
+pub fn given_words<R: AllocGlobal + Env>(rt: &R) -> io::Result<Vec<String>> {
+    Ok(env::args(rt)?.collect(rt.alloc())?)
+}
+
+fn refused<R: Print + Eprint>(rt: &R, error: &Error) -> ExitCode
+    ensures { IsRefusal (kind_of error.now) (exit_status result) }
+{
+    if error.kind() == ErrorKind::OutOfMemory {
+        return ended(rt, &Err(PlayFault::Memory));
+    }
+    match error.print(rt) {
+        Ok(()) if !error.use_stderr() => ExitCode::SUCCESS,
+        Err(_) if !error.use_stderr() => ended(rt, &Err(PlayFault::Write)),
+        _ => ExitCode::from(2),
+    }
+}

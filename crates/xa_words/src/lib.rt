@@ -1,0 +1,20 @@
+//! What the words of the command line ask for, and what is done of it.
+//!
+//! - `line`: `command_line`, the commands as `clap` reads them, by their `arguments`
+//! - `words`: `read_words`, what words ask for; `asked`: `Asked`, that
+//! - `command`: `given_words`, those of the command line; `run`, which does what they ask for, but that it serves
+//! - `ran`: `Ran`, what that came to: a status, or a server that is to run
+#![tactic(auto)]
+
+mod arguments;
+mod asked;
+mod command;
+mod line;
+mod ran;
+mod words;
+
+pub use asked::Asked;
+pub use command::{given_words, run};
+pub use line::command_line;
+pub use ran::Ran;
+pub use words::read_words;

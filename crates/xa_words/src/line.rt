@@ -1,0 +1,100 @@
+//! The command line, as `clap` reads it.
+ghost use Rattle.std.specs.Prelude.{IfOk};
+ghost use Rattle.xa_words.specs.Line.{HasShape, IsApp, play_shape, scan_shape, serve_shape};
+ghost use Rattle.xa_words.specs.Line.{talk_shape, tick_shape, xarm};
+
+use crate::arguments::{
+    connections, every, exit_when_down, frame_seconds, idle_seconds, listen, log, log_bytes, loops,
+    name, names, path, play_name, port, serve_log_bytes, socket, trim, workers,
+};
+use clap::Command;
+use std::alloc::{AllocError, Global};
+
+/// The command line with its five commands.
+pub fn command_line<'a>(alloc: Global) -> Result<Command<'a>, AllocError>
+    ensures { IfOk result (IsApp xarm) }
+{
+    Command::new(alloc, "xarm")
+        .version(
+            "0.1.0\nlog: reads XARMLOG1 and XARMLOG2, writes XARMLOG2\nkit: rattle-kit-13 logic dac8208d650f15bf",
+        )
+        .about("A transactional key-value store: an XA resource manager")
+        .subcommand_required(true)
+        .subcommand(play_command(alloc)?)?
+        .subcommand(scan_command(alloc)?)?
+        .subcommand(serve_command(alloc)?)?
+        .subcommand(talk_command(alloc)?)?
+        .subcommand(tick_command(alloc)?)
+}
+
+fn play_command<'a>(alloc: Global) -> Result<Command<'a>, AllocError>
+    ensures { IfOk result (HasShape play_shape) }
+{
+    Command::new(alloc, "play")
+        .about("Runs a script of calls from standard input and prints the replies")
+        .after_help(
+            "Example: xarm play < examples/first_branch.xa\nA script has at most 16777216 bytes.",
+        )
+        .arg(play_name(alloc))?
+        .arg(log_bytes(alloc))
+}
+
+fn scan_command<'a>(alloc: Global) -> Result<Command<'a>, AllocError>
+    ensures { IfOk result (HasShape scan_shape) }
+{
+    Command::new(alloc, "scan")
+        .about("Prints the records of a log, one per line, and where the next one would begin")
+        .after_help("Example: xarm scan bank.log")
+        .arg(path(alloc))
+}
+
+fn talk_command<'a>(alloc: Global) -> Result<Command<'a>, AllocError>
+    ensures { IfOk result (HasShape talk_shape) }
+{
+    Command::new(alloc, "talk")
+        .about("Sends the calls of a script from standard input to a server and prints the replies")
+        .after_help(
+            "Example: xarm talk --port 4187\nEach connect opens a connection, at most 1024. \
+             Each line is answered before the next one is read.",
+        )
+        .arg(port(alloc))?
+        .arg(socket(alloc))?
+        .arg(names(alloc))
+}
+
+fn tick_command<'a>(alloc: Global) -> Result<Command<'a>, AllocError>
+    ensures { IfOk result (HasShape tick_shape) }
+{
+    Command::new(alloc, "tick")
+        .about("Sends a server the time, so that branches reach their time limits")
+        .after_help(
+            "Example: xarm tick --port 4187\nIt uses one of the server's connections, and runs until it is killed or the \
+             server is gone.",
+        )
+        .arg(port(alloc))?
+        .arg(socket(alloc))?
+        .arg(every(alloc))
+}
+
+fn serve_command<'a>(alloc: Global) -> Result<Command<'a>, AllocError>
+    ensures { IfOk result (HasShape serve_shape) }
+{
+    Command::new(alloc, "serve")
+        .about(
+            "Serves a resource manager on a port or a Unix socket, and prints ready once it can be reached",
+        )
+        .after_help("Example: xarm serve --log bank.log --name bank --port 4187")
+        .arg(log(alloc))?
+        .arg(name(alloc))?
+        .arg(port(alloc))?
+        .arg(serve_log_bytes(alloc))?
+        .arg(workers(alloc))?
+        .arg(connections(alloc))?
+        .arg(loops(alloc))?
+        .arg(listen(alloc))?
+        .arg(socket(alloc))?
+        .arg(frame_seconds(alloc))?
+        .arg(idle_seconds(alloc))?
+        .arg(trim(alloc))?
+        .arg(exit_when_down(alloc))
+}

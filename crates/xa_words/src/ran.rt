@@ -1,0 +1,10 @@
+use std::process::ExitCode;
+use xa_service::{LoopService, Service};
+
+/// What a command line came to: a status, or a server that is to run.
+#[derive(Debug, Drop)]
+pub enum Ran<'a> {
+    Ended(ExitCode),
+    Serves(Service<'a>),
+    Loops(LoopService<'a>),
+}

@@ -1,0 +1,195 @@
+//! What the words of a command line ask for.
+ghost use Rattle.std.specs.Prelude.{◌≡◌, IfOk, IsSomeAnd, Some, codes, if◌then◌else◌, map, option_map, string_bytes};
+ghost use Rattle.clap.specs.{Faults.fault_of, Kinds.FailsBy, Matches.found_of, Simple.subcommand_of, Simple.subcommand_rows_of};
+ghost use Rattle.clap.specs.Walk.{first_of, one_of, rows_of};
+ghost use Rattle.xa_words.specs.Asks.{AsksBy, AsksOf, IsAtIn, IsCommand, IsReachIn, IsSet, most_16, most_64, number_in, text_in};
+ghost use Rattle.xa_words.specs.{Line.xarm, declared.asked.Asked.TheVariants.Loop};
+ghost use Rattle.xa_script.specs.declared.style.Style.TheVariants.{Codes, Names};
+
+use crate::asked::Asked;
+use crate::line::command_line;
+use clap::{ArgMatches, Error};
+use std::alloc::Global;
+use xa_commands::Reach;
+use xa_limits::MOST_LOG;
+use xa_script::Style;
+use xa_service::{At, LoopService, MOST_SERVED, Service};
+
+/// What the words of a command line ask for, the program's name first.
+pub fn read_words<'a>(alloc: Global, words: &'a [String]) -> Result<Asked<'a>, Error>
+    ensures fails { FailsBy (fault_of xarm (map string_bytes words.now)) result }
+    ensures asks { IfOk result (AsksOf (subcommand_of xarm (map string_bytes words.now))) }
+{
+    match command_line(alloc)?.try_get_matches_from(words) {
+        Ok(matches) => Ok(read_matches(&matches)),
+        Err(fault) => Err(fault),
+    }
+}
+
+// What the words that a command takes ask for. `clap` has refused a word that is missing or out of its range.
+fn read_matches<'a>(matches: &ArgMatches<'a>) -> Asked<'a>
+    requires { IsSomeAnd (subcommand_rows_of matches.now) (λ found. IsCommand found.0) }
+    ensures { AsksOf (subcommand_rows_of matches.now) result }
+{
+    match matches.subcommand() {
+        Some((command, found)) => read_command(command, found),
+        None => Asked::Play {
+            name: "xarm",
+            log_bytes: MOST_LOG,
+        },
+    }
+}
+
+fn read_command<'a>(command: &str, matches: &ArgMatches<'a>) -> Asked<'a>
+    requires { IsCommand command.now }
+    ensures { AsksBy command.now (rows_of (found_of matches.now)) result }
+{
+    match command {
+        "scan" => Asked::Scan {
+            path: text_of(matches, "path", ""),
+        },
+        "serve" => serve_of(matches),
+        "talk" => talk_of(matches),
+        "tick" => tick_of(matches),
+        _ => play_of(matches),
+    }
+}
+
+fn play_of<'a>(matches: &ArgMatches<'a>) -> Asked<'a>
+    ensures { AsksBy (codes "play") (rows_of (found_of matches.now)) result }
+{
+    Asked::Play {
+        name: text_of(matches, "name", "xarm"),
+        log_bytes: number_of(matches, "log-bytes", MOST_LOG),
+    }
+}
+
+fn serve_of<'a>(matches: &ArgMatches<'a>) -> Asked<'a>
+    ensures { AsksBy (codes "serve") (rows_of (found_of matches.now)) result }
+{
+    let workers = number_of(matches, "workers", 0);
+    if workers == 0 {
+        return match at_of(matches) {
+            Some(at) => Asked::Loop(loops_of(matches, at)),
+            None => Asked::Nowhere,
+        };
+    }
+    let port = port_of(matches);
+    if port == 0 {
+        return Asked::Nowhere;
+    }
+    Asked::Serve(Service {
+        path: text_of(matches, "log", ""),
+        name: text_of(matches, "name", ""),
+        port,
+        log_bytes: number_of(matches, "log-bytes", MOST_LOG),
+        workers,
+        connections: number_of(matches, "connections", MOST_SERVED),
+    })
+}
+
+fn loops_of<'a>(matches: &ArgMatches<'a>, at: At<'a>) -> LoopService<'a>
+    ensures { IsAtIn (rows_of (found_of matches.now)) (Some at.entry)
+        → number_in (rows_of (found_of matches.now)) (codes "workers") most_64 0 ≡ 0
+        → AsksBy (codes "serve") (rows_of (found_of matches.now)) (Loop result) }
+{
+    LoopService {
+        path: text_of(matches, "log", ""),
+        name: text_of(matches, "name", ""),
+        at,
+        log_bytes: number_of(matches, "log-bytes", MOST_LOG),
+        loops: number_of(matches, "loops", 0),
+        connections: number_of(matches, "connections", 0),
+        frame_seconds: number_of(matches, "frame-seconds", 30),
+        idle_seconds: number_of(matches, "idle-seconds", 0),
+        trim_bytes: number_of(matches, "trim", 67_108_864),
+        ends_when_down: flag_of(matches, "exit-when-down"),
+    }
+}
+
+fn talk_of<'a>(matches: &ArgMatches<'a>) -> Asked<'a>
+    ensures { AsksBy (codes "talk") (rows_of (found_of matches.now)) result }
+{
+    let style = style_of(matches.get_flag("names"));
+    match reach_of(matches) {
+        Some(reach) => Asked::Talk { reach, style },
+        None => Asked::Nowhere,
+    }
+}
+
+fn tick_of<'a>(matches: &ArgMatches<'a>) -> Asked<'a>
+    ensures { AsksBy (codes "tick") (rows_of (found_of matches.now)) result }
+{
+    let every = number_of(matches, "every", 1);
+    match reach_of(matches) {
+        Some(reach) => Asked::Tick { reach, every },
+        None => Asked::Nowhere,
+    }
+}
+
+// Where a server is to listen: at the path, where one is given, else on the port.
+fn at_of<'a>(matches: &ArgMatches<'a>) -> Option<At<'a>>
+    ensures { IsAtIn (rows_of (found_of matches.now)) result }
+{
+    if let Some(path) = socket_of(matches) {
+        return Some(At::Socket(path));
+    }
+    let port = port_of(matches);
+    let address = text_of(matches, "listen", "127.0.0.1");
+    if port == 0 {
+        None
+    } else {
+        Some(At::Port { address, port })
+    }
+}
+
+// How a server is to be reached, likewise.
+fn reach_of<'a>(matches: &ArgMatches<'a>) -> Option<Reach<'a>>
+    ensures { IsReachIn (rows_of (found_of matches.now)) result }
+{
+    if let Some(path) = socket_of(matches) {
+        return Some(Reach::Socket(path));
+    }
+    let port = port_of(matches);
+    if port == 0 {
+        None
+    } else {
+        Some(Reach::Port(port))
+    }
+}
+
+fn socket_of<'a>(matches: &ArgMatches<'a>) -> Option<&'a str>
+    ensures { option_map (λ path. path.now) result ≡ first_of (codes "socket") (rows_of (found_of matches.now)) }
+{
+    matches.get_str("socket")
+}
+
+fn flag_of(matches: &ArgMatches<'_>, id: &str) -> bool
+    ensures { IsSet (one_of id.now (rows_of (found_of matches.now))) result }
+{
+    matches.get_flag(id)
+}
+
+fn style_of(is_named: bool) -> Style
+    ensures { result ≡ (if is_named then Names else Codes) }
+{
+    if is_named { Style::Names } else { Style::Codes }
+}
+
+fn text_of<'a>(matches: &ArgMatches<'a>, id: &str, absent: &'a str) -> &'a str
+    ensures { result.now ≡ text_in (rows_of (found_of matches.now)) id.now absent.entry.now }
+{
+    matches.get_str(id).unwrap_or(absent)
+}
+
+fn number_of(matches: &ArgMatches<'_>, id: &str, absent: u64) -> u64
+    ensures { result ≡ number_in (rows_of (found_of matches.now)) id.now most_64 absent }
+{
+    matches.get_one(id).unwrap_or(absent)
+}
+
+fn port_of(matches: &ArgMatches<'_>) -> u16
+    ensures { result ≡ number_in (rows_of (found_of matches.now)) (codes "port") most_16 0 }
+{
+    matches.get_one("port").unwrap_or(0)
+}

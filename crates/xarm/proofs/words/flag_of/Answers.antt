@@ -1,8 +1,0 @@
-use Rattle.clap.specs.Matches.{found_of}
-use Rattle.xarm.proofs.Reading.{set_read}
-use Rattle.xarm.proofs.words.flag_of.Goals as goal
-
-pub returns : goal.returns
-returns c =
-    set_read (found_of c.args.matches.now) c.args.id.now c.get_flag.result
-    c.get_flag.ensures.none c.get_flag.ensures.value c.get_flag.ensures.other
