@@ -1,8 +1,9 @@
 """The scripts of examples/ and tests/, each with what it prints (tests/README.md)."""
 import glob
-import importlib.util
+import importlib
 import os
 import re
+import sys
 from typing import NamedTuple
 
 TOP = os.path.abspath(os.path.join(os.path.dirname(os.path.abspath(__file__)), ".."))
@@ -55,9 +56,14 @@ def tests():
             yield Play(f"{name}: {title.rstrip(': ')}", (dashes + options).split(), unescaped(script), shown)
 
 
+def module(name):
+    """A module of tests/."""
+    if f"{TOP}/tests" not in sys.path:
+        sys.path.append(f"{TOP}/tests")
+    return importlib.import_module(name)
+
+
 def made():
-    spec = importlib.util.spec_from_file_location("made", f"{TOP}/tests/made.py")
-    module = importlib.util.module_from_spec(spec)
-    spec.loader.exec_module(module)
-    for title, options, script, shown in module.plays():
-        yield Play(f"tests/made.py: {title}", options, script.encode(), shown.encode())
+    for name in ("disks", "limits"):
+        for title, options, script, shown in module(name).plays():
+            yield Play(f"tests/{name}.py: {title}", options, script.encode(), shown.encode())

@@ -1,5 +1,5 @@
 -- What a share owes, behind what it did.
-use Rattle.std.proofs.Common.{ℕ, ◌≡◌, ◌+◌, [], ◌∷◌, refl, Bool, true, false, inl, inr, arith, ap, length, length-append}
+use Rattle.std.proofs.Common.{ℕ, ◌≡◌, ◌+◌, zero, suc, [], ◌∷◌, refl, Bool, true, false, inl, inr, arith, ap, length, length-append}
 use Rattle.xa_frame.specs.declared.reply.Reply.{Reply}
 use Rattle.xa_handles.specs.Accounts.{AsksAtOnce, Ends, HasAsked, asking, next_ask, told_of, without}
 use Rattle.xa_model.specs.declared.event.Event.{Event}
@@ -40,6 +40,11 @@ owes_without a b ask n is owes =
       ap (λ (x : Account). length x.told) is,
       ap (λ (x : Account). length x.given_up) is,
     )
+
+-- it owes something
+pub owes_some : (a : Account) (n : ℕ) → Owes a n → (n ≡ 0 → ⊥) → (k : ℕ) × Owes a (k + 1)
+owes_some a zero owes some = absurd (some refl)
+owes_some a (suc k) owes some = (k, omega (arith, owes))
 
 -- the ask that it asked ends
 pub owes_ended : (is_none : Bool) (a b : Account) (ask : Ask) (reply : Reply) (n : ℕ) → Ends is_none a ask reply b → Owes a (n + 1) → Owes b n

@@ -1,15 +1,13 @@
-//! Tests of what no clause says, of disks and logs: what stands in the files, what is found there behind a crash or a
-//! cut at each byte, what the manager logs, and what `xarm scan` prints of it.
+//! Tests of what no clause says, and no program shows, of disks and logs. What `xarm scan` and `xarm serve` print and leave
+//! of two files is tested by `.ci/logs`, what `xarm play` answers behind device calls that fail by `.ci/scripts`.
 //!
-//! - `disks`: what a crash and a failing call leave, real files; `folders`: where those stand
-//! - `logs`: appends, and logs that are cut; `groups`: groups of records; `long_bodies`: long records, and the limits of both formats; `made_ready`:
-//!   files that grow by pieces; `log_pairs`: the records and files that several of these tests have
-//! - `checkpoints`: those whose calls fail; `checkpoint_files`: what stands in both files; `log_images`: those that are
-//!   cut; `stale_tails`: what an earlier checkpoint of the same boot left behind the records
-//! - `current_files`: which of two files is the current one
-//! - `log_files`: the records of a manager, `trims` those of its trims; `log_lines`: the lines of a log; `recoveries`: what a log comes to;
-//!   `old_formats`, `old_files`: files of format 1
-//! - `rows`: `none_wrong`
+//! - `disks`: what a crash leaves of a write behind a file's end; real files; `folders`: where those stand
+//! - `groups`: groups of records that fail, are cut, or fit to the byte
+//! - `limits`: the longest bodies, checkpoints that fit to the byte, files that no log is made in
+//! - `ends`: where a log's next record begins, its generation, and that nothing is written once one is lost
+//! - `lists`: what recovery lists of records; `scans`: an output that can't be flushed; `returned`: disks that a refused opening
+//!   gives back
+//! - `log_pairs`: the records and logs that several of these tests have; `rows`: `none_wrong`
 #![tactic(auto)]
 
 mod log_pairs;

@@ -24,22 +24,8 @@ pub const HELD: [u8; 25] = [
     8, 0, 0, 0, 1, 1, 1, 0xaa, 0xbb, 0, 0, 0, 1, 0, 0, 0, 1, 0, 1, 1, 0x6b, 1, 0, 1, 0x76,
 ];
 
-// The third boot's record, and what the branch wrote, as a snapshot has it once that is committed.
-pub const THIRD: [u8; 5] = [1, 0, 0, 0, 3];
-
-pub const BASE: [u8; 17] = [7, 0, 0, 0, 1, 0, 0, 0, 1, 0, 1, 1, 0x6b, 1, 0, 1, 0x76];
-
-// A completion of the branch, one by the operator, and that one as a snapshot has it.
-pub const COMPLETED: [u8; 10] = [4, 0, 0, 0, 1, 1, 1, 0xaa, 0xbb, 1];
-
+// A completion of the branch by the operator.
 pub const DECIDED: [u8; 10] = [5, 0, 0, 0, 1, 1, 1, 0xaa, 0xbb, 1];
-
-pub const KNOWN: [u8; 10] = [9, 0, 0, 0, 1, 1, 1, 0xaa, 0xbb, 1];
-
-// 1:cc: of timestamp 4294967298 deletes 6b, in one phase.
-pub const AT_ONCE: [u8; 21] = [
-    3, 0, 0, 0, 1, 1, 0, 0xcc, 0, 0, 0, 1, 0, 0, 0, 2, 0, 1, 1, 0x6b, 0,
-];
 
 // Two records before a checkpoint, and two of it.
 pub const OLD: [&[u8]; 2] = [&OPENED, &PREPARED];
@@ -151,28 +137,9 @@ pub fn log_of(alloc: Global, bodies: &[&[u8]]) -> Option<Log<MemDisk>> {
     }
 }
 
-/// The two disks behind a crash.
-pub fn crashed(log: Log<MemDisk>) -> Option<(MemDisk, MemDisk)> {
-    let (mut first, mut second) = log.into_disks();
-    if are_crashed(&mut first, &mut second) {
-        Some((first, second))
-    } else {
-        None
-    }
-}
-
-pub fn are_crashed(first: &mut MemDisk, second: &mut MemDisk) -> bool {
-    first.crash().is_ok() && second.crash().is_ok()
-}
-
-/// All bytes of a disk.
-pub fn bytes_on(alloc: Global, disk: &mut MemDisk) -> Option<Vec<u8>> {
-    let len = disk.length().ok()?;
-    let mut bytes = vec![in alloc; 0; len as usize].ok()?;
-    if !bytes.is_empty() {
-        disk.read_at(0, &mut bytes).ok()?;
-    }
-    Some(bytes)
+/// A disk of these bytes, all of them stable.
+pub fn disk_of(alloc: Global, bytes: &[u8]) -> Option<MemDisk> {
+    Some(MemDisk::with_bytes(Vec::from_slice(alloc, bytes).ok()?))
 }
 
 /// These are all bytes of a disk.
@@ -183,13 +150,11 @@ pub fn has_bytes(alloc: Global, disk: &mut MemDisk, wanted: &[u8]) -> bool {
     }
 }
 
-/// The bytes of a log of these.
-pub fn file_of(alloc: Global, bodies: &[&[u8]]) -> Option<Vec<u8>> {
-    let (mut disk, _empty) = crashed(log_of(alloc, bodies)?)?;
-    bytes_on(alloc, &mut disk)
-}
-
-/// A disk of these bytes, all of them stable.
-pub fn disk_of(alloc: Global, bytes: &[u8]) -> Option<MemDisk> {
-    Some(MemDisk::with_bytes(Vec::from_slice(alloc, bytes).ok()?))
+fn bytes_on(alloc: Global, disk: &mut MemDisk) -> Option<Vec<u8>> {
+    let len = disk.length().ok()?;
+    let mut bytes = vec![in alloc; 0; len as usize].ok()?;
+    if !bytes.is_empty() {
+        disk.read_at(0, &mut bytes).ok()?;
+    }
+    Some(bytes)
 }

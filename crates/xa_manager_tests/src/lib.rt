@@ -1,8 +1,7 @@
-//! Tests of what no clause says, of a manager: how many versions it keeps, what calls that are asked together are
-//! answered, and that its runs are those of one copy. Calls that are asked one by one are scripts (tests/).
+//! Tests of what no clause says, of a manager: what calls that are asked together are answered, and that its runs are
+//! those of one copy. Calls that are asked one by one are scripts (tests/).
 //!
-//! - `managers`: calls of a manager, whichever one allocation is refused; `versions_kept`: how many versions it keeps
-//! - `lines`: what the lines of a script ask; `plays`: ends of a play
+//! - `managers`: calls of a manager, whichever one allocation is refused; `plays`: ends of a play
 //! - `groups`: calls that are asked together, and are kept or refused, and those that aren't in the group;
 //!   `groups_stopped`: groups behind which a disk stops; `grouped`: `Grouped`, which groups are asked; `group_play`:
 //!   `Player`, how they are asked between the lines of a script

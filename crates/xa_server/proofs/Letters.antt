@@ -1,5 +1,5 @@
 -- What a letter tells of the call that it is of.
-use Rattle.std.proofs.Common.{◌≡◌, ◌∙◌, ℕ, ◌+◌, zero, suc, arith, Bool, refl, sym, ap, subst, inl, inr}
+use Rattle.std.proofs.Common.{◌≡◌, ◌∙◌, ℕ, ◌+◌, Bool, refl, sym, ap, subst, inl, inr}
 use Rattle.xa_assoc.specs.Refusals.{is_memory}
 use Rattle.xa_frame.specs.Limits.{IsReply}
 use Rattle.xa_frame.specs.declared.reply.Reply.{Reply}
@@ -22,10 +22,6 @@ use Rattle.xa_tokens.specs.declared.receipt.Receipt.{Receipt}
 -- it owes something
 abbrev OwesOne : Account → Type 0
 OwesOne a = (n : ℕ) × Owes a (n + 1)
-
-pub owes_some : (a : Account) (n : ℕ) → Owes a n → (n ≡ 0 → ⊥) → (k : ℕ) × Owes a (k + 1)
-owes_some a zero owes some = absurd (some refl)
-owes_some a (suc k) owes some = (k, omega (arith, owes))
 
 -- it owes so many, or none
 abbrev pub OwesSome : Account → Type 0

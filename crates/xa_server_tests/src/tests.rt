@@ -1,17 +1,9 @@
 mod broken;
-mod broken_clients;
 mod clients;
 mod crews;
-mod looped;
 mod meetings;
 mod pending;
 mod posted;
-mod refused;
-mod refused_limits;
-mod refused_rows;
 mod rooms;
 mod rows;
-mod sequencers;
-mod servers;
-mod statuses;
 mod workers;

@@ -8,7 +8,7 @@ use xa_desk::{Door, Served, serve};
 use xa_frame::{Body, Reply, Request, Status, encode_request};
 
 /// What a keeper tells of itself.
-pub const STATUS: Status = Status {
+const STATUS: Status = Status {
     boot: 3,
     end: 4711,
     bytes: 1_073_741_824,
@@ -23,15 +23,15 @@ pub const STATUS: Status = Status {
 
 /// A door that keeps what it was asked, and answers with the places and numbers of a list.
 #[derive(Drop)]
-pub struct Keeper<'a> {
-    pub alloc: Global,
-    pub answers: &'a [(u64, u64)],
-    pub asked: Vec<(u64, Vec<u8>)>,
-    pub left: Vec<u64>,
+struct Keeper<'a> {
+    alloc: Global,
+    answers: &'a [(u64, u64)],
+    asked: Vec<(u64, Vec<u8>)>,
+    left: Vec<u64>,
 }
 
 /// A door that was asked nothing.
-pub fn new_keeper(alloc: Global, answers: &[(u64, u64)]) -> Keeper {
+fn new_keeper(alloc: Global, answers: &[(u64, u64)]) -> Keeper {
     Keeper {
         alloc,
         answers,

@@ -2,8 +2,7 @@ use crate::tests::folders::path_of;
 use std::alloc::Global;
 use std::fs;
 use std::io::ErrorKind;
-use std::os::unix::fs::MetadataExt;
-use xa_disk::{Disk, DiskFault, Effect, FileCall, FileDisk, FileFault, MemDisk, SyncAnswer};
+use xa_disk::{Disk, DiskFault, Effect, FileDisk, MemDisk, SyncAnswer};
 
 // A write that is synced, one that isn't, and a plan.
 fn written(disk: &mut MemDisk) -> Option<()> {
@@ -31,64 +30,6 @@ fn crashed(alloc: Global) -> Option<(u64, [u8; 3])> {
 #[test]
 fn a_crash_drops_what_no_sync_made_stable(rt: HostRuntime) {
     assert!(rt; crashed(rt.alloc()) == Some((3, [0, b'a', b'b'])));
-}
-
-// Two bytes of 7, of which the second call keeps its effect and fails, and the fourth fails.
-fn planned(alloc: Global) -> Option<MemDisk> {
-    let mut disk = MemDisk::with_bytes(vec![in alloc; 7, 8].ok()?);
-    disk.fail(2, Effect::Lost).ok()?;
-    disk.fail(2, Effect::Kept).ok()?;
-    Some(disk)
-}
-
-fn length_is(disk: &mut MemDisk, length: u64) -> bool {
-    disk.length() == Ok(length)
-}
-
-fn write_fails(disk: &mut MemDisk, at: u64, byte: u8) -> bool {
-    disk.write_at(at, &[byte]) == Err(DiskFault)
-}
-
-fn two_bytes(disk: &mut MemDisk, at: u64) -> Result<[u8; 2], DiskFault> {
-    let mut bytes = [0; 2];
-    disk.read_at(at, &mut bytes)?;
-    Ok(bytes)
-}
-
-#[test]
-fn planned_faults_come_once(rt: HostRuntime) {
-    let mut disk = planned(rt.alloc()).expect(&rt, "a disk with plans");
-    assert!(rt;
-        length_is(&mut disk, 2)
-            && write_fails(&mut disk, 1, 9)
-            && two_bytes(&mut disk, 0) == Ok([7, 9])
-            && two_bytes(&mut disk, 1) == Err(DiskFault)
-    );
-}
-
-fn planned_sync(alloc: Global) -> Option<MemDisk> {
-    let mut disk = MemDisk::new(alloc);
-    disk.fail(2, Effect::Kept).ok()?;
-    disk.fail(3, Effect::Kept).ok()?;
-    disk.write_at(0, b"ab".as_slice()).ok()?;
-    Some(disk)
-}
-
-fn sync_fails(disk: &mut MemDisk) -> bool {
-    disk.sync() == Err(DiskFault)
-}
-
-// A write that fails with its effect kept is lost by a crash, and a sync that does so is not.
-#[test]
-fn a_kept_sync_outlasts_a_crash(rt: HostRuntime) {
-    let mut disk = planned_sync(rt.alloc()).expect(&rt, "a disk with plans");
-    assert!(rt;
-        sync_fails(&mut disk)
-            && write_fails(&mut disk, 2, b'c')
-            && length_is(&mut disk, 3)
-            && disk.crash().is_ok()
-            && length_is(&mut disk, 2)
-    );
 }
 
 // Bytes 2 to 4 are written and synced.
@@ -161,106 +102,23 @@ fn a_sync_is_made_apart(rt: HostRuntime) {
     assert!(rt; are_taken && is_removed(&rt, path.as_str()) && is_removed(&rt, second.as_str()));
 }
 
-// Why a path isn't taken as a disk.
-fn refused(rt: &HostRuntime, path: &str) -> Option<FileFault> {
-    FileDisk::open(rt, path).err()
+// A disk that only reads refuses a write, and the file stays as it was.
+fn is_only_read(rt: &HostRuntime, path: &str) -> Option<bool> {
+    let mut disk = FileDisk::for_reading(rt, path).ok()?;
+    let is_refused = disk.write_at(0, b"x".as_slice()).is_err();
+    Some(is_refused && disk.length() == Ok(5) && four_bytes(&mut disk, 0) == Ok([0, 0, b'a', b'b']))
 }
 
-fn is_in_use(rt: &HostRuntime, path: &str) -> bool {
-    match refused(rt, path) {
-        Some(FileFault::InUse) => true,
-        _ => false,
-    }
-}
-
-fn mode(rt: &HostRuntime, path: &str) -> Option<u32> {
-    Some(fs::metadata(rt, path).ok()?.mode() & 0o777)
-}
-
-// While the file is a disk, it is read by its owner alone, and no other disk.
-fn is_one_disk(rt: &HostRuntime, path: &str) -> bool {
-    match FileDisk::open(rt, path) {
-        Ok(_disk) => mode(rt, path) == Some(0o600) && is_in_use(rt, path),
-        Err(_) => false,
-    }
-}
-
-fn is_free_again(rt: &HostRuntime, path: &str) -> bool {
-    is_one_disk(rt, path) && refused(rt, path).is_none()
-}
-
-#[test]
-fn a_file_is_one_disk(rt: HostRuntime) {
-    let path = path_of(&rt, "xa_disk-one").expect(&rt, "a path");
-    assert!(rt; is_free_again(&rt, path.as_str()) && is_removed(&rt, path.as_str()));
-}
-
-fn is_read(rt: &HostRuntime, path: &str) -> bool {
-    FileDisk::for_reading(rt, path).is_ok()
-}
-
-// A disk that writes keeps readers away.
-fn is_read_by_none(rt: &HostRuntime, path: &str) -> bool {
-    match FileDisk::open(rt, path) {
-        Ok(_disk) => matches!(FileDisk::for_reading(rt, path), Err(FileFault::InUse)),
-        Err(_) => false,
-    }
-}
-
-// A reader keeps a disk that writes away, and no other reader.
-fn is_read_by_two(rt: &HostRuntime, path: &str) -> bool {
-    match FileDisk::for_reading(rt, path) {
-        Ok(_disk) => is_read(rt, path) && is_in_use(rt, path),
-        Err(_) => false,
-    }
-}
-
-fn no_write(rt: &HostRuntime, path: &str) -> bool {
-    match FileDisk::for_reading(rt, path) {
-        Ok(mut disk) => disk.write_at(0, b"a".as_slice()).is_err(),
-        Err(_) => false,
-    }
-}
-
-fn is_for_reading(rt: &HostRuntime, path: &str) -> bool {
-    !is_read(rt, path)
-        && is_read_by_none(rt, path)
-        && is_read_by_two(rt, path)
-        && no_write(rt, path)
-        && is_removed(rt, path)
-        && !is_read(rt, "/dev/null")
+fn is_written_at(rt: &HostRuntime, path: &str) -> bool {
+    file_at(rt, path).is_some()
 }
 
 #[test]
 fn a_file_for_reading(rt: HostRuntime) {
     let path = path_of(&rt, "xa_disk-read").expect(&rt, "a path");
-    assert!(rt; is_for_reading(&rt, path.as_str()));
-}
-
-fn is_irregular(rt: &HostRuntime, path: &str) -> bool {
-    match refused(rt, path) {
-        Some(FileFault::Irregular) => true,
-        _ => false,
-    }
-}
-
-fn opening_kind(rt: &HostRuntime, path: &str) -> Option<ErrorKind> {
-    match refused(rt, path) {
-        Some(
-            FileFault::Call {
-                call: FileCall::Open,
-                error,
-            },
-        ) => Some(error.kind()),
-        _ => None,
-    }
-}
-
-#[test]
-fn other_files_are_no_disks(rt: HostRuntime) {
     assert!(rt;
-        is_irregular(&rt, "/dev/null")
-            && is_irregular(&rt, "/")
-            && opening_kind(&rt, "/dev/null/log") == Some(ErrorKind::NotADirectory)
+        is_written_at(&rt, path.as_str())
+            && is_only_read(&rt, path.as_str()) == Some(true)
+            && is_removed(&rt, path.as_str())
     );
 }

@@ -54,7 +54,7 @@ pub fn answer(
 }
 
 /// What the call of a line is answered. Nothing is said of what the manager is then: only its answer is compared.
-pub fn called(manager: &mut Manager<MemDisk>, alloc: Global, line: &str) -> Option<Reply> {
+fn called(manager: &mut Manager<MemDisk>, alloc: Global, line: &str) -> Option<Reply> {
     match read_line(alloc, line.as_bytes()).ok()? {
         Line::Call(session, request) => answer(manager, alloc, session, request),
         _ => None,

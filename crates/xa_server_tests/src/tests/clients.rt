@@ -75,21 +75,3 @@ pub fn client<R: Net<Stream = TcpStream>>(
     stream.read_to_end(&mut replies).ok()?;
     Some(replies)
 }
-
-/// The k-th client breaks off behind the k-th byte of its second frame. It has the reply to its first one, and no more. A
-/// connect, an open and a hang-up are recorded of each client before it.
-pub fn is_cut_off<R: Net<Stream = TcpStream>>(
-    rt: &R,
-    alloc: Global,
-    address: SocketAddr,
-    k: u8,
-) -> bool {
-    let place = k.saturating_mul(3).saturating_add(2);
-    let Some(bytes) = CALLS.get(..OPEN.len() + k as usize) else {
-        return false;
-    };
-    match client(rt, alloc, address, bytes) {
-        Some(replies) => replies.as_slice() == opened_at(place).as_slice(),
-        None => false,
-    }
-}

@@ -1,8 +1,8 @@
+//! One connection over readers and writers that end, fail, and take a few bytes at a time.
 use crate::doors::{GET, Sink, Source, is_answered, is_asked, play};
 use crate::tests::rows::none_wrong;
 use std::alloc::{AllocError, Global};
 use xa_desk::Served;
-use xa_rows::first_wrong;
 
 fn put_get(out: &mut Vec<u8>, number: u32) -> Result<(), AllocError> {
     out.extend_from_slice(&[0, 0, 0, 7, 1, 10, 4])?;
@@ -49,28 +49,6 @@ fn gets(alloc: Global, frames: u32) -> Result<Talk, AllocError> {
         talk.put(number)?;
     }
     Ok(talk)
-}
-
-fn is_whole(alloc: Global, talk: &Talk, given: usize, taken: usize) -> bool {
-    let reader = Source {
-        bytes: &talk.input,
-        step: given,
-        fails: false,
-    };
-    let writer = Sink::new(alloc, usize::MAX, taken, false);
-    let outcome = play(alloc, reader, writer, &talk.answers);
-    is_answered(&outcome, Served::Ended, &talk.output) && is_asked(&outcome, &talk.input, 1_025)
-}
-
-fn wrong_pieces(alloc: Global, talk: &Talk, rows: &[(usize, usize)]) -> Option<usize> {
-    first_wrong(rows, |(given, taken)| is_whole(alloc, talk, *given, *taken))
-}
-
-#[test]
-fn pieces(rt: HostRuntime) {
-    let talk = gets(rt.alloc(), 1_025).expect(&rt, "a talk");
-    let rows = [(usize::MAX, usize::MAX), (1, 1), (3, 5), (usize::MAX, 1)];
-    none_wrong(&rt, wrong_pieces(rt.alloc(), &talk, &rows));
 }
 
 /// The input is cut behind so many bytes, where the reader ends or fails.

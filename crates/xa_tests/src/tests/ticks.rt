@@ -1,16 +1,17 @@
+//! A clock that can't be read, which the system's always can be.
+use crate::doors::Sink;
 use crate::tests::rows::none_wrong;
-use crate::tests::talks::{Server, has_text};
 use std::alloc::Global;
-use std::cell::RefCell;
+use std::io::{self, ErrorKind};
 use xa_frame::Reply;
 use xa_rows::first_wrong;
-use xa_talk::{TalkFault, TickFault, Ticker, refusal_text, tick_run};
+use xa_talk::{Connection, Dial, TalkFault, TickFault, Ticker, tick_run};
 
-/// A clock that gives these moments and can't be read behind them, and keeps the texts of what it tells.
+/// A clock that gives these moments and can't be read behind them, and counts what it is to tell.
 #[derive(Drop)]
 struct Bell<'a> {
     moments: &'a [u64],
-    told: Vec<u8>,
+    told: usize,
 }
 
 impl Ticker for Bell<'_> {
@@ -25,150 +26,70 @@ impl Ticker for Bell<'_> {
     }
 
     fn tell(&mut self, refusal: &Reply) {
-        let _ = self
-            .told
-            .extend_from_slice(refusal_text(refusal).as_bytes());
-        let _ = self.told.push(b'\n');
+        self.told = self.told.saturating_add(1);
     }
 }
 
-/// What a clock gives, and what comes over the connection if one is opened; then what is sent, what is told, and the end.
-struct Row {
-    moments: &'static [u64],
-    answers: &'static [&'static [u8]],
-    sent: &'static [u8],
-    told: &'static str,
-    end: TickFault,
+/// A server whose one connection gives these bytes.
+#[derive(Drop)]
+struct Server<'a> {
+    alloc: Global,
+    answers: Option<&'a [u8]>,
 }
 
-/// The moments 9 and 2^64 - 1.
-const TICKS: [u8; 28] = [
-    0, 0, 0, 10, 1, 17, 0, 0, 0, 0, 0, 0, 0, 9, //
-    0, 0, 0, 10, 1, 17, 255, 255, 255, 255, 255, 255, 255, 255,
-];
+impl<'a> Dial<&'a [u8], Sink> for Server<'a> {
+    fn dial(&mut self) -> io::Result<Connection<&'a [u8], Sink>> {
+        let Some(reader) = self.answers else {
+            return Err(io::Error::from(ErrorKind::ConnectionRefused));
+        };
+        self.answers = None;
+        let writer = Sink::new(self.alloc, usize::MAX, usize::MAX, false);
+        Ok(Connection { reader, writer })
+    }
+}
 
-/// No branch has reached its limit, and then one has.
-const REACHED: [u8; 54] = [
+/// No branch has reached its limit, and then the moment is one that went back.
+const REPLIES: [u8; 46] = [
     0, 0, 0, 0x17, 1, 0, 0, 0, 0, 0, 0, 0, 0, 0, 0, 0, 0, 2, 1, 0, 0, 0, 0, 0, 0, 0, 0, //
-    0, 0, 0, 0x17, 1, 0, 0, 0, 0, 0, 0, 0, 0, 0, 0, 0, 0, 3, 1, 0, 0, 0, 0, 0, 0, 0, 1,
+    0, 0, 0, 0x0f, 1, 255, 255, 255, 251, 0, 0, 0, 0, 0, 0, 0, 0, 3, 0,
 ];
 
-/// The moments 9, 8, 7, 10, 6 and 6.
-const BACK: [u8; 84] = [
-    0, 0, 0, 10, 1, 17, 0, 0, 0, 0, 0, 0, 0, 9, 0, 0, 0, 10, 1, 17, 0, 0, 0, 0, 0, 0, 0, 8, //
-    0, 0, 0, 10, 1, 17, 0, 0, 0, 0, 0, 0, 0, 7, 0, 0, 0, 10, 1, 17, 0, 0, 0, 0, 0, 0, 0, 10, //
-    0, 0, 0, 10, 1, 17, 0, 0, 0, 0, 0, 0, 0, 6, 0, 0, 0, 10, 1, 17, 0, 0, 0, 0, 0, 0, 0, 6,
-];
+/// What a clock gives, what a server answers if it is reached, how many refusals are told, and the end.
+type Row = (&'static [u64], Option<&'static [u8]>, usize, TickFault);
 
-/// XA_OK, XAER_INVAL twice, XA_OK, XAER_INVAL, and XAER_RMFAIL with the detail Device.
-const REFUSALS: [u8; 130] = [
-    0, 0, 0, 0x17, 1, 0, 0, 0, 0, 0, 0, 0, 0, 0, 0, 0, 0, 2, 1, 0, 0, 0, 0, 0, 0, 0, 0, //
-    0, 0, 0, 0x0f, 1, 255, 255, 255, 251, 0, 0, 0, 0, 0, 0, 0, 0, 3, 0, //
-    0, 0, 0, 0x0f, 1, 255, 255, 255, 251, 0, 0, 0, 0, 0, 0, 0, 0, 4, 0, //
-    0, 0, 0, 0x17, 1, 0, 0, 0, 0, 0, 0, 0, 0, 0, 0, 0, 0, 5, 1, 0, 0, 0, 0, 0, 0, 0, 0, //
-    0, 0, 0, 0x0f, 1, 255, 255, 255, 251, 0, 0, 0, 0, 0, 0, 0, 0, 6, 0, //
-    0, 0, 0, 0x0f, 1, 255, 255, 255, 249, 2, 0, 0, 0, 0, 0, 0, 0, 7, 0,
-];
-
-/// The moment 1, and a server that knows no such request.
-const TICK: [u8; 14] = [0, 0, 0, 10, 1, 17, 0, 0, 0, 0, 0, 0, 0, 1];
-
-const UNKNOWN: [u8; 19] = [
-    0, 0, 0, 15, 1, 255, 255, 255, 251, 6, 0, 0, 0, 0, 0, 0, 0, 0, 0,
-];
-
-const ROWS: [Row; 7] = [
-    Row {
-        moments: &[9, u64::MAX],
-        answers: &[&REACHED],
-        sent: &TICKS,
-        told: "",
-        end: TickFault::Clock,
-    },
-    // Each refusal is told once, until another answer comes.
-    Row {
-        moments: &[9, 8, 7, 10, 6, 6],
-        answers: &[&REFUSALS],
-        sent: &BACK,
-        told: "clock went back\nclock went back\nresource manager down\n",
-        end: TickFault::Clock,
-    },
-    Row {
-        moments: &[1],
-        answers: &[&UNKNOWN],
-        sent: &TICK,
-        told: "tick refused\n",
-        end: TickFault::Clock,
-    },
-    // The clock can't be read.
-    Row {
-        moments: &[],
-        answers: &[&[]],
-        sent: &[],
-        told: "",
-        end: TickFault::Clock,
-    },
-    // Nobody is reached.
-    Row {
-        moments: &[1],
-        answers: &[],
-        sent: &[],
-        told: "",
-        end: TickFault::Talk(TalkFault::Connect),
-    },
-    // The server is gone.
-    Row {
-        moments: &[1, 2],
-        answers: &[&[0, 0, 0, 15, 1, 0]],
-        sent: &TICK,
-        told: "",
-        end: TickFault::Talk(TalkFault::Broken),
-    },
-    // What comes is no reply.
-    Row {
-        moments: &[1, 2],
-        answers: &[&[0, 0, 0, 1, 2]],
-        sent: &TICK,
-        told: "",
-        end: TickFault::Talk(TalkFault::NoReply),
-    },
+const ROWS: [Row; 5] = [
+    (&[], Some(&[]), 0, TickFault::Clock),
+    (&[9], Some(&REPLIES), 0, TickFault::Clock),
+    (&[9, 8], Some(&REPLIES), 1, TickFault::Clock),
+    (
+        &[9, u64::MAX, 1],
+        Some(&REPLIES),
+        1,
+        TickFault::Talk(TalkFault::Broken),
+    ),
+    (&[9], None, 0, TickFault::Talk(TalkFault::Connect)),
 ];
 
 fn is_row(alloc: Global, row: &Row) -> bool {
-    let sent = RefCell::new(Vec::new(alloc));
-    let mut bell = Bell {
-        moments: row.moments,
-        told: Vec::new(alloc),
-    };
-    let mut server = Server {
-        answers: row.answers,
-        reached: 0,
-        sent: &sent,
-    };
-    let end = tick_run(alloc, &mut bell, &mut server);
-    let is_told = bell.told.as_slice() == row.told.as_bytes();
-    let _server = server;
-    end == Err(row.end) && is_told && sent.into_inner().as_slice() == row.sent
+    let (moments, answers, told, end) = *row;
+    let mut bell = Bell { moments, told: 0 };
+    let mut server = Server { alloc, answers };
+    tick_run(alloc, &mut bell, &mut server) == Err(end) && bell.told == told
 }
 
 fn wrong_row(alloc: Global, rows: &[Row]) -> Option<usize> {
     first_wrong(rows, |row| is_row(alloc, row))
 }
 
-#[test]
-fn moments_over_a_connection(rt: HostRuntime) {
-    none_wrong(&rt, wrong_row(rt.alloc(), &ROWS));
+fn is_told(alloc: Global, fault: TickFault, text: &str) -> bool {
+    match format!(in alloc; "xarm: {fault}") {
+        Ok(line) => line.as_str() == text,
+        Err(_) => false,
+    }
 }
 
 #[test]
-fn texts_of_faults(rt: HostRuntime) {
-    let alloc = rt.alloc();
-    assert!(rt; has_text(alloc, TickFault::Clock, "xarm: cannot read the clock"));
-    assert!(rt;
-        has_text(
-            alloc,
-            TickFault::Talk(TalkFault::Broken),
-            "xarm: connection lost"
-        )
-    );
+fn clocks(rt: HostRuntime) {
+    none_wrong(&rt, wrong_row(rt.alloc(), &ROWS));
+    assert!(rt; is_told(rt.alloc(), TickFault::Clock, "xarm: cannot read the clock"));
 }

@@ -14,7 +14,7 @@ enum Ask {
     Restore(&'static [KeyWrite], Option<Fate>),
 }
 
-pub(crate) type KeyWrite = (&'static [u8], Option<u8>);
+type KeyWrite = (&'static [u8], Option<u8>);
 
 #[derive(Clone, Copy, PartialEq, Eq)]
 enum Told {
@@ -29,9 +29,9 @@ enum Told {
 }
 
 // The first three timestamps of the first boot.
-pub(crate) const FIRST: u64 = 4294967297;
+const FIRST: u64 = 4294967297;
 
-pub(crate) const SECOND: u64 = 4294967298;
+const SECOND: u64 = 4294967298;
 
 const THIRD: u64 = 4294967299;
 
@@ -39,44 +39,17 @@ const THIRD: u64 = 4294967299;
 const LATER: u64 = 8589934593;
 
 // What branches of the first boot wrote.
-pub(crate) const WROTE: [KeyWrite; 2] = [(b"k", Some(0x31)), (b"l", None)];
+const WROTE: [KeyWrite; 2] = [(b"k", Some(0x31)), (b"l", None)];
 
-pub(crate) const WROTE_LATER: [KeyWrite; 1] = [(b"k", Some(0x32))];
+const WROTE_LATER: [KeyWrite; 1] = [(b"k", Some(0x32))];
 
 /// Rows by themselves, each on new records.
-const ROWS: [&[(u64, Ask, Told)]; 8] = [
+const ROWS: [&[(u64, Ask, Told)]; 4] = [
     // The second branch has read the key as absent, so a write by the first is late.
     &[
         (SECOND, Ask::Get(b"k"), Told::Absent),
         (FIRST, Ask::Put(b"k", Some(0x76)), Told::Late),
         (FIRST, Ask::Put(b"l", Some(0x76)), Told::Done),
-    ],
-    // The second branch writes 2 and commits, then the first writes 1 and commits: the third reads 2.
-    &[
-        (SECOND, Ask::Put(b"k", Some(0x32)), Told::Done),
-        (SECOND, Ask::Settle(Fate::Committed), Told::Done),
-        (FIRST, Ask::Put(b"k", Some(0x31)), Told::Done),
-        (FIRST, Ask::Settle(Fate::Committed), Told::Done),
-        (THIRD, Ask::Get(b"k"), Told::Value(0x32)),
-    ],
-    // A read above a pending write is to wait.
-    &[
-        (FIRST, Ask::Put(b"k", Some(0x76)), Told::Done),
-        (SECOND, Ask::Get(b"k"), Told::Busy(FIRST)),
-        (FIRST, Ask::Settle(Fate::Committed), Told::Done),
-        (SECOND, Ask::Get(b"k"), Told::Value(0x76)),
-    ],
-    // One below it isn't.
-    &[
-        (SECOND, Ask::Put(b"k", Some(0x76)), Told::Done),
-        (FIRST, Ask::Get(b"k"), Told::Absent),
-    ],
-    // A branch reads its own writes, and a delete is one.
-    &[
-        (FIRST, Ask::Put(b"k", Some(0x76)), Told::Done),
-        (FIRST, Ask::Get(b"k"), Told::Value(0x76)),
-        (FIRST, Ask::Put(b"k", None), Told::Done),
-        (FIRST, Ask::Get(b"k"), Told::Absent),
     ],
     // What lasted and was committed is read in a later boot.
     &[
@@ -142,7 +115,7 @@ fn write_of(alloc: Global, key: &[u8], byte: Option<u8>) -> Result<Write, AllocE
     })
 }
 
-pub(crate) fn writes_of(alloc: Global, rows: &[KeyWrite]) -> Result<Vec<Write>, AllocError> {
+fn writes_of(alloc: Global, rows: &[KeyWrite]) -> Result<Vec<Write>, AllocError> {
     let mut writes = Vec::new(alloc);
     for (key, byte) in rows {
         writes.push(write_of(alloc, key, *byte)?)?;
@@ -233,7 +206,7 @@ fn wrong_put(records: &mut Records, alloc: Global, rows: &[KeyWrite]) -> Option<
     None
 }
 
-pub(crate) fn are_writes(writes: &[Write], wanted: &[KeyWrite]) -> bool {
+fn are_writes(writes: &[Write], wanted: &[KeyWrite]) -> bool {
     for (write, (key, byte)) in writes.iter().zip(wanted) {
         if !is_write(write, key, *byte) {
             return false;
@@ -273,74 +246,6 @@ fn writes(rt: HostRuntime) {
     let mut records = Records::new(rt.alloc());
     none_wrong(&rt, wrong_put(&mut records, rt.alloc(), &PUTS));
     assert!(rt; keeps_last_writes(&records));
-}
-
-fn refused_key(records: &mut Records) -> Option<usize> {
-    for byte in 0..=255u8 {
-        if put(records, FIRST, &[byte], None) != Told::Done {
-            return Some(usize::from(byte));
-        }
-    }
-    None
-}
-
-// The 257th key is refused, a further write of one of the 256 isn't.
-#[test]
-fn limit(rt: HostRuntime) {
-    let mut records = Records::new(rt.alloc());
-    none_wrong(&rt, refused_key(&mut records));
-    assert!(rt;
-        put(&mut records, FIRST, b"kk", None) == Told::Limit
-            && put(&mut records, FIRST, b"k", None) == Told::Done
-            && put(&mut records, SECOND, b"kk", None) == Told::Done
-    );
-}
-
-fn leaves_no_version(records: &mut Records) -> bool {
-    let before = records.versions();
-    put(records, FIRST, b"kk", None) == Told::Limit && records.versions() == before
-}
-
-// A key of which a put was refused isn't kept.
-#[test]
-fn refused_keys(rt: HostRuntime) {
-    let mut records = Records::new(rt.alloc());
-    none_wrong(&rt, refused_key(&mut records));
-    assert!(rt; leaves_no_version(&mut records));
-}
-
-fn write_and_commit(records: &mut Records, alloc: Global, ts: u64) -> Told {
-    match value_of(alloc, Some(0x76)) {
-        Ok(value) => {
-            let told = put(records, ts, b"k", value);
-            records.settle(ts, Fate::Committed);
-            told
-        }
-        Err(_) => Told::Memory,
-    }
-}
-
-// How many versions are left where one branch after another writes the key and commits.
-fn written_in_turn(alloc: Global, drains: bool) -> Option<u64> {
-    let mut records = Records::new(alloc);
-    for count in 0..300u32 {
-        let ts = FIRST + u64::from(count);
-        if write_and_commit(&mut records, alloc, ts) != Told::Done {
-            return None;
-        }
-        if drains {
-            records.low_water(ts);
-        }
-    }
-    Some(records.versions())
-}
-
-#[test]
-fn written_over(rt: HostRuntime) {
-    assert!(rt;
-        written_in_turn(rt.alloc(), true) == Some(1)
-            && written_in_turn(rt.alloc(), false) == Some(301)
-    );
 }
 
 // How many versions are left where one branch after another reads a key of its own that nobody wrote. Some tenths of a

@@ -1,6 +1,6 @@
 use Rattle.std.proofs.Common.{List, arith, ap, length}
+use Rattle.xa_handles.specs.Owing.{owes_some}
 use Rattle.xa_reactor.specs.declared.ask.Ask.{Ask}
-use Rattle.xa_server.proofs.Letters.{owes_some}
 use Rattle.xa_server.proofs.Rounds.{takes_twice}
 use Rattle.xa_server.proofs.post.Post.take_letters.Goals as goal
 

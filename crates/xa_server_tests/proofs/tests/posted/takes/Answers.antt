@@ -1,4 +1,4 @@
-use Rattle.xa_server.proofs.Letters.{owes_some}
+use Rattle.xa_handles.specs.Owing.{owes_some}
 use Rattle.xa_server_tests.proofs.tests.posted.takes.Goals as goal
 
 pub take_answer-reply-requires : goal.take_answer-reply-requires

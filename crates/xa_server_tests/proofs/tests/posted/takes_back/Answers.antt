@@ -1,4 +1,4 @@
-use Rattle.xa_server.proofs.Letters.{owes_some}
+use Rattle.xa_handles.specs.Owing.{owes_some}
 use Rattle.xa_server_tests.proofs.tests.posted.takes_back.Goals as goal
 
 pub call_back-reply-requires-clause-owes : goal.call_back-reply-requires-clause-owes

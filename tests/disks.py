@@ -1,50 +1,10 @@
-"""Scripts that are put together of tables, with what they print: a disk that stops, or of which a call fails, at each device call of the
-calls that log, of restarts, openings and trims; and scripts at limits, which are long. `.ci/scripts` plays them.
-
-A part of a script is a list of lines, each with its reply, which is empty where nothing is printed. What devices are asked by each call is
-said in docs/LOG.md, the limits in docs/PROTOCOL.md.
+"""Scripts of disks that stop, or of which calls fail, with what they print: at each device call of the calls that log, of restarts,
+openings and trims. What devices are asked by each call is said in docs/LOG.md.
 """
-OK, LOST, REFUSED = "0 Nothing", "-7 Device", "-3 Device"
-# A reply that ends with the timestamp of the branch that is started, which `numbered` puts in: that of the boot times this, and its place.
-NUMBER = "0 Nothing number"
-BOOT = 1 << 32
-
-P1 = [("connect", "0 Nothing number 1"), ("1 open TMNOFLAGS xarm", OK)]
-# Session 1 works for 1:aa:bb, and leaves it.
-WRITTEN = [("1 start TMNOFLAGS 1:aa:bb", NUMBER), ("1 put 6b 76", OK), ("1 end TMSUCCESS 1:aa:bb", OK)]
-PREPARED = [("1 prepare TMNOFLAGS 1:aa:bb", OK)]
-COMMITTED = [("1 commit TMNOFLAGS 1:aa:bb", OK)]
-DECIDED = [("1 decide commit 1:aa:bb", OK)]
-RESTART, REOPEN, CRASH = [("1 restart", OK)], [("reopen", OK)], [("crash", OK)]
-# Recovery lists it, or nothing.
-LISTED = [("1 recover TMSTARTRSCAN|TMENDRSCAN 10", "1 Nothing xids 1:aa:bb")]
-NONE_LISTED = [("1 recover TMSTARTRSCAN|TMENDRSCAN 10", "0 Nothing xids")]
-# The operator committed it, which is answered until it is forgotten.
-HEURISTIC = [("1 commit TMNOFLAGS 1:aa:bb", "7 Nothing"), ("1 rollback TMNOFLAGS 1:aa:bb", "7 Nothing")]
-FORGOTTEN = [("1 forget TMNOFLAGS 1:aa:bb", OK), ("1 forget TMNOFLAGS 1:aa:bb", "-4 Nothing")]
-BEGUN = [("1 start TMNOFLAGS 1:cc:", NUMBER)]
-READ, ABSENT = [("1 get 6b", "0 Nothing value 76")], [("1 get 6b", "0 Nothing absent")]
-
-# What was played before a call: 1:aa:bb is left, prepared, or committed by the operator.
-AT_WORK = WRITTEN
-VOTED = WRITTEN + PREPARED
-BY_OPERATOR = VOTED + DECIDED
-
-
-def numbered(*parts):
-    """The lines of parts, with the timestamps of their branches."""
-    boot, count, lines = 1, 0, []
-    for line, reply in sum(parts, []):
-        if reply == NUMBER:
-            count += 1
-            reply = f"{NUMBER} {boot * BOOT + count}"
-        elif reply == OK and (line in ("reopen", "1 restart") or line.startswith("crash")):
-            boot, count = boot + 1, 0
-        lines.append((line, reply))
-    return lines
-
-
-# A disk stops.
+from parts import (
+    OK, LOST, REFUSED, NUMBER, BOOT, P1, WRITTEN, COMMITTED, RESTART, REOPEN, CRASH, LISTED, NONE_LISTED, HEURISTIC, FORGOTTEN, BEGUN,
+    READ, ABSENT, AT_WORK, VOTED, BY_OPERATOR, numbered, REOPENED, CRASHED, played,
+)
 
 # What is found behind a crash: the branch in doubt, to be committed; or committed; or not at all; or decided.
 IN_DOUBT = P1 + LISTED + COMMITTED + BEGUN + READ
@@ -212,7 +172,6 @@ STILL_IN_DOUBT = LISTED + COMMITTED + BEGUN + READ + PUT_BACK
 STILL_DONE = NONE_LISTED + BEGUN + READ + PUT_BACK
 STILL_GONE = NONE_LISTED + BEGUN + HAS_75 + PUT_BACK
 STILL_COMPLETED = LISTED + HEURISTIC + FORGOTTEN + BEGUN + READ + PUT_BACK
-REOPENED, CRASHED = REOPEN + P1, CRASH + P1
 
 # What is played before a call that logs; the call; its replies where the record is refused, and where it is asked again then; what is
 # found without the record, and with it.
@@ -310,75 +269,102 @@ def failing_restarts():
         yield f"1 restart, {title} behind each device call that fails", numbered(*parts)
 
 
-# Limits.
-
-WRITES, LOOSE, SESSIONS, BRANCHES, KEY, PART, VALUE = 256, 64, 1024, 4096, 64, 64, 16384
-
-
-def limits():
-    """The 257th key of a branch, the 1,025th session, the 4,097th branch, and the 65th loose association of one."""
-    start = [("1 start TMNOFLAGS 1:aa:", NUMBER)]
-    puts = [(f"1 put {key:04x} 76", OK) for key in range(WRITES)]
-    # No further key is written, but those again.
-    last = [("1 put 0100 76", "-5 Limit"), ("1 put 0000 77", OK), ("1 delete 0100", "-5 Limit"), ("1 delete 0001", OK)]
-    yield "the keys that a branch writes", numbered(P1, start, puts, last)
-    connects = [("connect", f"0 Nothing number {number}") for number in range(1, SESSIONS + 1)]
-    yield "sessions", [*connects, ("connect", "-3 Limit")]
-    branches = [row for k in range(BRANCHES) for row in ((f"1 start TMNOFLAGS 1:{k:04x}:", NUMBER), (f"1 end TMSUCCESS 1:{k:04x}:", OK))]
-    last = [("1 start TMNOFLAGS 1:ffff:", "-3 Limit"), ("1 start TMNOFLAGS 1:0000:", "-8 Nothing")]
-    yield "known branches", numbered(P1, branches, last)
-    moves = [("1 end TMSUSPEND|TMMIGRATE 1:aa:", OK), ("1 start TMJOIN 1:aa:", f"{NUMBER} {BOOT + 1}")] * LOOSE
-    last = [("1 end TMSUSPEND|TMMIGRATE 1:aa:", "-3 Limit"), ("1 end TMSUCCESS 1:aa:", OK)]
-    yield "loose associations", numbered(P1, start, moves, last)
-
-
-def long_words():
-    """Words at their limits, asked of a session that isn't connected, so that the request itself is refused as such; and one byte longer."""
-    rows = [("9 get ", KEY, ""), ("9 put 61 ", VALUE, ""), ("9 start TMNOFLAGS 1:", PART, ":"), ("9 start TMNOFLAGS 1:61:", PART, "")]
-    lines = [(before + "61" * (count + more) + behind, reply) for before, count, behind in rows for more, reply in ((0, "-6 Nothing"), (1, "-5 Frame"))]
-    lines += [("9 open TMNOFLAGS a" + "61" * 127, "-6 Nothing"), ("9 open TMNOFLAGS aa" + "61" * 127, "-5 Frame")]
-    yield "words at their limits", [*lines, ("18446744073709551615 get 61", "-6 Nothing")]
-
-
-def put(byte, count):
-    """A value of so many bytes is put under a key that consists of the same byte."""
-    return [(f"1 put {byte * KEY} {byte * count}", OK)]
-
-
-def got(byte, count):
-    return [(f"1 get {byte * KEY}", f"0 Nothing value {byte * count}")]
-
-
-# What is played between a branch that wrote as much as one may and a look at its keys, and whether they have its values then: it is
-# committed or prepared; its append is cut off at each device call; it is held by a checkpoint, and by one more.
-CUT_OFF = [("1 prepare TMNOFLAGS 1:aa:bb", LOST)]
-LONGEST = [
-    ("committed in one phase", [("1 commit TMONEPHASE 1:aa:bb", OK)] + REOPENED + NONE_LISTED, True),
-    ("committed in two phases", PREPARED + COMMITTED + REOPENED + NONE_LISTED, True),
-    ("its write is cut off", [("stop 1", "")] + CUT_OFF + CRASHED + NONE_LISTED, False),
-    ("its sync is cut off", [("stop 2", "")] + CUT_OFF + CRASHED + NONE_LISTED, False),
-    ("nothing is cut off", [("stop 3", "")] + PREPARED + CRASHED + LISTED + COMMITTED, True),
-    ("held by two checkpoints", PREPARED + RESTART + RESTART + LISTED + COMMITTED, True),
-    ("held by a checkpoint, and opened again", PREPARED + RESTART + REOPENED + LISTED + COMMITTED, True),
+# Device calls of a first trim that fail, all of the other file: what it is answered, and the boot that begins then, behind a restart, where a
+# plan doesn't outlive the trim, and behind a crash. It is the second one where the older log is found, and the third where the trim's is: the
+# sixth call writes the first length, the seventh one syncs it. Behind whichever of them failed come a write of zeros and a sync.
+FAILING_TRIMS = [
+    *((f"{call} {effect}", REFUSED, 2, 2) for call in range(1, 8) for effect in ("lost", "kept")),
+    ("8 lost", TRIMMED, None, 3),
+    ("1 lost, 2 lost", REFUSED, None, 2),
+    ("5 kept, 6 kept", REFUSED, None, 2),
+    ("6 lost, 7 lost", LOST, 2, 2),
+    ("6 lost, 7 kept", LOST, 2, 2),
+    ("6 kept, 7 lost", LOST, 3, 2),
+    ("6 kept, 7 kept", LOST, 2, 2),
+    ("6 lost, 8 lost", LOST, 2, 2),
+    ("6 lost, 8 kept", LOST, 2, 2),
+    ("6 kept, 8 lost", LOST, 2, 2),
+    ("6 kept, 8 kept", LOST, 2, 2),
+    ("6 lost, 9 lost", REFUSED, None, 2),
+    ("6 kept, 9 kept", REFUSED, None, 2),
+    ("7 lost, 8 lost", LOST, 3, 2),
+    ("7 lost, 8 kept", LOST, 2, 2),
+    ("7 kept, 8 lost", LOST, 3, 3),
+    ("7 kept, 8 kept", LOST, 2, 3),
+    ("7 lost, 9 lost", LOST, 2, 2),
+    ("7 lost, 9 kept", LOST, 2, 2),
+    ("7 kept, 9 lost", LOST, 2, 3),
+    ("7 kept, 9 kept", LOST, 2, 2),
+    ("7 lost, 10 lost", REFUSED, None, 2),
+    ("7 kept, 10 kept", REFUSED, None, 2),
 ]
 
 
-def long_values():
-    """A value is read by its branch, and again once it is committed and the manager was opened anew; and the longest values under all the
-    keys that one branch may write."""
-    start, end = WRITTEN[:1], WRITTEN[-1:]
-    for count in (1, 1024, 1025, VALUE):
-        commit = [("1 commit TMONEPHASE 1:aa:bb", OK)]
-        yield f"a value of {count} bytes", numbered(P1, start, put("6b", count), got("6b", count), end, commit, REOPENED, BEGUN, got("6b", count))
-    keys = [f"{byte:02x}" for byte in range(256)]
-    puts, gets = (sum((what(byte, VALUE) for byte in keys), []) for what in (put, got))
-    absent = [(f"1 get {byte * KEY}", "0 Nothing absent") for byte in ("00", "ff")]
-    for title, then, is_there in LONGEST:
-        yield f"a branch that wrote as much as one may: {title}", numbered(P1, start, puts, end, then, BEGUN, gets if is_there else absent)
+def failing_trims():
+    """Trims of which device calls fail. One that is refused can be asked again at once, as the same boot."""
+    for plans, reply, restarted, crashed in FAILING_TRIMS:
+        trimmed = numbered(P1, VOTED) + [*((f"fail other {plan}", "") for plan in plans.split(", ")), ("1 trim", reply)]
+        if restarted:
+            yield f"1 trim, {plans}: a restart", trimmed + RESTART + of_boot(IN_DOUBT[len(P1) :], restarted)
+        if restarted and reply == REFUSED:
+            yield f"1 trim, {plans}: and again", trimmed + TRIM + of_boot(IN_DOUBT[len(P1) :], 2)
+        yield f"1 trim, {plans}: a crash", trimmed + CRASH + of_boot(IN_DOUBT, crashed)
+
+
+def stale_tails():
+    """A trim of three records is refused at its first length, its seventh call, and leaves them in the file: the third one is of 1:cc:dd, which
+    the operator rolled back. Once that is forgotten, a trim of the first two, with the same boot, is kept: behind it stands what is left of the
+    third. Then an append of a record of that one's length, 46 bytes, is cut off: with fewer bytes the branch is in doubt, and 1:cc:dd never is
+    known again."""
+    other = [("1 start TMNOFLAGS 1:cc:dd", NUMBER), ("1 put 6c 76", OK), ("1 end TMSUCCESS 1:cc:dd", OK), ("1 prepare TMNOFLAGS 1:cc:dd", OK)]
+    left = [("1 decide rollback 1:cc:dd", OK), ("fail other 7 lost", ""), ("1 trim", REFUSED), ("1 forget TMNOFLAGS 1:cc:dd", OK)]
+    cut_off = [*TRIM, ("stop 2", ""), ("1 commit TMNOFLAGS 1:aa:bb", LOST)]
+    for count in range(51):
+        found = [(f"crash {count}", OK)] + of_boot(IN_DOUBT if count < 46 else DONE, 3)
+        yield f"a commit of which {count} bytes are left over an older record", numbered(P1, VOTED, other, left) + cut_off + found
+
+
+# A record that reaches into a new piece of its file, of 262,144 bytes, is written with zeros up to the piece's end. If that fails, it is written
+# without them. Then come the sync, and if a call failed a write of zeros over the record and their sync. What is planned of these calls, what
+# the prepare is answered, what comes then, and whether the branch is found.
+LONG_PUTS = [(f"1 put {key:02x} {'76' * 16384}", OK) for key in range(0x6B, 0x7B)] + [("1 put 7b 76", OK)]
+LONG_FAULTS = [
+    ("fail 1 lost", OK, CRASHED, True),
+    ("fail 1 kept", OK, CRASHED, True),
+    ("fail 1 lost, fail 4 lost", OK, CRASHED, True),
+    ("fail 1 lost, fail 2 lost", REFUSED, CRASHED, False),
+    ("fail 1 lost, fail 2 lost", REFUSED, REOPENED, False),
+    ("fail 1 kept, fail 2 kept", REFUSED, CRASHED, False),
+    ("fail 1 kept, fail 2 kept", REFUSED, REOPENED, False),
+    ("fail 1 lost, fail 3 lost", REFUSED, REOPENED, False),
+    ("fail 1 kept, fail 3 kept", REFUSED, CRASHED, False),
+    ("fail 2 lost", REFUSED, REOPENED, False),
+    ("fail 1 lost, fail 2 lost, fail 3 lost", LOST, RESTART, False),
+    ("fail 1 kept, fail 2 lost, fail 3 lost", LOST, RESTART, True),
+    ("fail 1 kept, fail 2 lost, fail 3 lost", LOST, CRASHED, False),
+    ("fail 1 lost, fail 2 kept, fail 3 lost", LOST, RESTART, True),
+    ("fail 1 lost, fail 2 lost, fail 4 lost", LOST, RESTART, False),
+    ("fail 1 lost, fail 3 kept, fail 4 lost", LOST, CRASHED, True),
+    ("fail 1 lost, fail 3 kept, fail 4 kept", LOST, RESTART, False),
+    ("fail 2 lost, fail 3 lost", LOST, RESTART, True),
+]
+
+
+def long_faults():
+    """A long record of which device calls fail; and one behind it, in the same piece, whose only write fails."""
+    prepare, long = "1 prepare TMNOFLAGS 1:aa:bb", WRITTEN[:1] + LONG_PUTS + WRITTEN[-1:]
+    for plans, reply, then, is_found in LONG_FAULTS:
+        asked = [*((plan, "") for plan in plans.split(", ")), (prepare, reply)]
+        yield f"a long record, {plans}, {then[0][0]}", numbered(P1, long, asked, then, LISTED + COMMITTED if is_found else NONE_LISTED)
+    again = [("fail 1 lost", ""), ("fail 2 lost", ""), (prepare, REFUSED), ("fail 1 lost", ""), (prepare, OK)]
+    yield "a long record that is refused, and kept without zeros", numbered(P1, long, again, CRASHED, LISTED, COMMITTED)
+    next_one = BEGUN + [("1 put 6a 76", OK), ("1 end TMSUCCESS 1:cc:", OK), ("fail 1 lost", ""), ("1 commit TMONEPHASE 1:cc:", REFUSED)]
+    yield "no zeros are tried before the next piece", numbered(P1, long, again, next_one, CRASHED, LISTED, COMMITTED)
 
 
 def plays():
     """Each script's title, the options of `xarm play`, its lines, and what it prints."""
-    for options, made in (([], stopped), ([], openings), (SMALL, failing_calls), (SMALL, failing_restarts), ([], limits), ([], long_words), ([], long_values)):
+    for made in (stopped, openings, long_faults, failing_calls, failing_restarts, failing_trims, stale_tails):
+        options = [] if made in (stopped, openings, long_faults) else SMALL
         for title, lines in made():
-            yield title, options, "".join(f"{line}\n" for line, _ in lines), "".join(f"{reply}\n" for _, reply in lines if reply)
+            yield title, options, *played(lines)
