@@ -133,7 +133,8 @@ class Search:
 
     def __init__(self, history, program, words=()):
         self.history, self.words = history, [program, "play", "--name", "n", *words]
-        self.plays = 0
+        # how many plays there were, and where the last one went wrong
+        self.plays, self.wrong_at = 0, 0
 
     def options(self, place, at):
         """Which steps may have a place, each with its actor and its number; none where one came too late."""
@@ -150,7 +151,9 @@ class Search:
                     break
                 number += 1
         found.sort(key=lambda it: (self.is_flight(it), it))
-        return found + sorted(connects)[:1]
+        # the connect of a trim that the server made is no other's: its trim comes at once
+        own = [it for it in connects if it[2] == len(self.history.actors) - 1]
+        return found + sorted(set(connects) - set(own))[:1] + own
 
     def is_flight(self, option):
         return self.history.actors[option[2]][option[3]].kind == "flight"
@@ -172,9 +175,12 @@ class Search:
         return steps, chosen, min(late, default=None)
 
     def with_flight(self, path, chosen):
-        """The last of these choices where a call that nobody saw answered is taken in place of what was. A place that is nobody's, since all
-        that might have it is used up, becomes somebody's by one more such call alone, in whichever order the others are."""
+        """The last of these choices, behind where the last play went wrong, where a call that nobody saw answered is taken in place of what
+        was. A place that is nobody's, since all that might have it is used up, becomes somebody's by one more such call alone, in whichever
+        order the others are."""
         for index in range(len(chosen) - 1, -1, -1):
+            if self.history.missing[index] <= self.wrong_at:
+                return None
             for number in range(path[index] + 1, len(chosen[index])):
                 if self.is_flight(chosen[index][number]):
                     return [*path[:index], number]
@@ -183,9 +189,13 @@ class Search:
     def next_path(self, path, chosen, lacks):
         """The next choices, where these were wrong at a place. None where there are no others."""
         if len(chosen) < len(self.history.missing) and not self.is_overdue(chosen, path, lacks):
-            return self.with_flight(path, chosen)
+            return self.with_flight(path, chosen) or self.with_other(path, chosen, self.wrong_at)
+        return self.with_other(path, chosen, lacks)
+
+    def with_other(self, path, chosen, until):
+        """The last of the choices up to a place of which there is another, and that one. None where there is none."""
         before = enumerate(self.history.missing[: len(chosen)])
-        open_ones = [index for index, place in before if place <= lacks and path[index] + 1 < len(chosen[index])]
+        open_ones = [index for index, place in before if place <= until and path[index] + 1 < len(chosen[index])]
         return [*path[: open_ones[-1]], path[open_ones[-1]] + 1] if open_ones else None
 
     def is_overdue(self, chosen, path, place):
@@ -202,6 +212,7 @@ class Search:
             path = path[: len(chosen)] + [0] * (len(chosen) - len(path))
             if lacks is None:
                 lacks, wrong = self.play(steps)
+                self.wrong_at = lacks or self.wrong_at
                 if lacks is None and then and (wrong := then(steps)):
                     lacks = self.history.last + 1
                 if lacks is None:
