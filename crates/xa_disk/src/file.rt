@@ -1,9 +1,9 @@
 //! A disk that is a file.
 //!
-//! Each call of a `Disk` is exactly one call of the file, with its arguments, and a sync behind one that failed is none.
-//! So the disk keeps what the trait says where its file does. No contract can say what the system does: of `HostFile`,
-//! whose calls are the system's, that is a premise of whoever rests on it. The code above a `Disk` is generic, so it is
-//! the same code that is proved over each honest disk.
+//! Each call of a `Disk` is exactly one call of the file, with its arguments; behind a sync that failed each further sync,
+//! read and length fails, and is none. So the disk keeps what the trait says where its file does. No contract can say what
+//! the system does: of `HostFile`, whose calls are the system's, that is a premise of whoever rests on it. The code above a
+//! `Disk` is generic, so it is the same code that is proved over each honest disk.
 ghost use Rattle.std.specs.Prelude.{◌≡◌, ◌≢◌, ◌≤◌, ◌∷◌, true, false, None, if◌then◌else◌, length, IfOk, OnOk, OnErr, IsErr, MatchResult};
 ghost use Rattle.xa_disk.specs.Counts.{no_calls, with_length, with_read, with_write, with_sync};
 ghost use Rattle.xa_disk.specs.Disk.{put, Torn, Same, Only, Passes, CountsFault, Reads};
@@ -21,13 +21,14 @@ use std::io;
 /// A disk that is a file, with counts of its calls and of those that failed. While it is there no other
 /// `FileDisk` writes to the file, in this process or another. The first call that fails is told on standard error.
 #[derive(Debug, Drop)]
-pub struct FileDisk<F = HostFile> {
+pub struct FileDisk<F: RawFile = HostFile> {
     file: F,
     tally: Tally,
     // A sync has failed. The system may have dropped what that one was to write, so a later one that succeeds would
-    // say nothing of it. Reads may still give these bytes, and a crash loses them: it stays so until the file is
-    // opened anew.
+    // say nothing of it. Reads may give these bytes though a crash loses them, or not give them: it stays so until the
+    // file is opened anew.
     unsynced: bool,
+    ghost whole: { unsynced ≡ false → F.is_whole file ≡ true },
 }
 
 impl FileDisk<HostFile> {
@@ -43,9 +44,10 @@ impl FileDisk<HostFile> {
         }
     }
 
-    /// The regular file at a path, locked for this disk alone until it is dropped. A file that isn't there is
-    /// created, readable and writable by its owner alone. Where the file is empty, as a new one is, its entry in its
-    /// folder is synced.
+    /// The regular file at a path, or that a link there leads to, locked for this disk alone until it is dropped. One that
+    /// isn't there is created, readable and writable by its owner alone, but not behind a link. It is synced, and so are its
+    /// entry in its folder and the link's; the system is told to drop what it keeps of it in memory, so that reads give
+    /// what the medium has.
     pub fn open(rt: &HostRuntime, path: &str) -> Result<FileDisk, FileFault>
         ensures failures { IfOk result (λ disk. disk.tally.failures ≡ 0) }
         ensures counts { IfOk result (λ disk. disk.tally.counts ≡ no_calls) }
@@ -57,7 +59,8 @@ impl FileDisk<HostFile> {
     }
 
     /// The regular file at a path, for reads: each write fails. It may be one that can't be written. Nothing is
-    /// created. `InUse` where a disk that writes has it; where the file can't be locked, that isn't known.
+    /// created. `InUse` where a disk that writes has it; where the file can't be locked, that isn't known. It is synced, and
+    /// dropped from memory, as `open` does.
     pub fn for_reading(rt: &HostRuntime, path: &str) -> Result<FileDisk, FileFault>
         ensures failures { IfOk result (λ disk. disk.tally.failures ≡ 0) }
         ensures counts { IfOk result (λ disk. disk.tally.counts ≡ no_calls) }
@@ -80,9 +83,10 @@ impl FileDisk<HostFile> {
     }
 }
 
-impl<F: Drop> FileDisk<F> {
+impl<F: RawFile + Drop> FileDisk<F> {
     /// A disk on a file that was opened at a path, which is told with its faults.
     pub fn on(rt: &HostRuntime, path: &str, file: F) -> Result<FileDisk<F>, FileFault>
+        requires { F.is_whole file ≡ true }
         ensures file { IfOk result (λ disk. disk.file ≡ file) }
         ensures failures { IfOk result (λ disk. disk.tally.failures ≡ 0) }
         ensures counts { IfOk result (λ disk. disk.tally.counts ≡ no_calls) }
@@ -107,57 +111,53 @@ impl<F: Drop> FileDisk<F> {
     }
 }
 
-impl<F: RawFile> FileDisk<F> {
-    // Takes what a sync was answered, or syncs the file, unless a sync has failed.
-    fn try_sync(&mut self, answer: SyncAnswer) -> io::Result<()>
-        ensures refused { self.old.unsynced ≡ true → IsErr result }
-        ensures failed { HasFailed answer → IsErr result }
-        ensures durable { F.honest → OnOk result (Only (F.seen self.old.file) (F.may_leave self.new.file)) }
-        ensures same { F.honest → F.seen self.new.file ≡ F.seen self.old.file }
-        ensures time { F.honest → Passes Same (F.moment self.old.file) (F.moment self.new.file)
-            (F.left_since self.old.file) (F.left_since self.new.file)
-            (F.may_leave self.old.file) (F.may_leave self.new.file) }
-        ensures none { F.recorded → self.old.unsynced ≡ true → F.calls self.new.file ≡ F.calls self.old.file }
-        ensures takes { F.recorded → self.old.unsynced ≡ false
-            → IsDueSync answer (F.file self.old.file) (F.written self.old.file)
-            → F.calls self.new.file ≡ Takes ∷ F.calls self.old.file }
-        ensures syncs { F.recorded → self.old.unsynced ≡ false
-            → (IsDueSync answer (F.file self.old.file) (F.written self.old.file) → ⊥)
-            → F.calls self.new.file ≡ Syncs ∷ F.calls self.old.file }
-        ensures tally { self.new.tally ≡ self.old.tally }
-    {
-        let told = answer.into_told();
-        if self.unsynced {
-            return Err(failed_before());
-        }
-        match told {
-            Some(told) => self.take_told(told),
-            None => self.file.sync(),
-        }
+// Takes what a sync was answered, or syncs the file, unless a sync has failed.
+fn try_sync<F: RawFile>(file: &mut F, unsynced: bool, answer: SyncAnswer) -> io::Result<()>
+    requires { unsynced ≡ false → F.is_whole file.old ≡ true }
+    ensures refused { unsynced ≡ true → IsErr result }
+    ensures failed { HasFailed answer → IsErr result }
+    ensures durable { F.honest → OnOk result (Only (F.seen file.old) (F.may_leave file.new)) }
+    ensures whole { OnOk result (F.is_whole file.new ≡ true) }
+    ensures same { F.honest → F.seen file.new ≡ F.seen file.old }
+    ensures time { F.honest → Passes Same (F.moment file.old) (F.moment file.new)
+        (F.left_since file.old) (F.left_since file.new) (F.may_leave file.old) (F.may_leave file.new) }
+    ensures none { F.recorded → unsynced ≡ true → F.calls file.new ≡ F.calls file.old }
+    ensures takes { F.recorded → unsynced ≡ false → IsDueSync answer (F.file file.old) (F.written file.old)
+        → F.calls file.new ≡ Takes ∷ F.calls file.old }
+    ensures syncs { F.recorded → unsynced ≡ false → (IsDueSync answer (F.file file.old) (F.written file.old) → ⊥)
+        → F.calls file.new ≡ Syncs ∷ F.calls file.old }
+{
+    let told = answer.into_told();
+    if unsynced {
+        return Err(failed_before());
     }
+    match told {
+        Some(told) => take_told(file, told),
+        None => file.sync(),
+    }
+}
 
-    // Takes what a sync was answered. Where that isn't one of all that was written to this file, the file is synced: that
-    // fails, too, if the other one has.
-    fn take_told(&mut self, told: Told) -> io::Result<()>
-        ensures failed { IsErr told.answer → IsErr result }
-        ensures durable { F.honest → OnOk result (Only (F.seen self.old.file) (F.may_leave self.new.file)) }
-        ensures same { F.honest → F.seen self.new.file ≡ F.seen self.old.file }
-        ensures time { F.honest → Passes Same (F.moment self.old.file) (F.moment self.new.file)
-            (F.left_since self.old.file) (F.left_since self.new.file)
-            (F.may_leave self.old.file) (F.may_leave self.new.file) }
-        ensures takes { F.recorded → IsDue told (F.file self.old.file) (F.written self.old.file)
-            → F.calls self.new.file ≡ Takes ∷ F.calls self.old.file }
-        ensures syncs { F.recorded → (IsDue told (F.file self.old.file) (F.written self.old.file) → ⊥)
-            → F.calls self.new.file ≡ Syncs ∷ F.calls self.old.file }
-        ensures tally { self.new.tally ≡ self.old.tally }
-    {
-        if told.is_due(self.file.id(), self.file.writes()) {
-            return self.file.take_sync(told);
-        }
-        let synced = self.file.sync();
-        told.into_answer()?;
-        synced
+// Takes what a sync was answered. Where that isn't one of all that was written to this file, the file is synced: that
+// fails, too, if the other one has.
+fn take_told<F: RawFile>(file: &mut F, told: Told) -> io::Result<()>
+    requires { F.is_whole file.old ≡ true }
+    ensures failed { IsErr told.answer → IsErr result }
+    ensures durable { F.honest → OnOk result (Only (F.seen file.old) (F.may_leave file.new)) }
+    ensures whole { OnOk result (F.is_whole file.new ≡ true) }
+    ensures same { F.honest → F.seen file.new ≡ F.seen file.old }
+    ensures time { F.honest → Passes Same (F.moment file.old) (F.moment file.new)
+        (F.left_since file.old) (F.left_since file.new) (F.may_leave file.old) (F.may_leave file.new) }
+    ensures takes { F.recorded → IsDue told (F.file file.old) (F.written file.old)
+        → F.calls file.new ≡ Takes ∷ F.calls file.old }
+    ensures syncs { F.recorded → (IsDue told (F.file file.old) (F.written file.old) → ⊥)
+        → F.calls file.new ≡ Syncs ∷ F.calls file.old }
+{
+    if told.is_due(file.id(), file.writes()) {
+        return file.take_sync(told);
     }
+    let synced = file.sync();
+    told.into_answer()?;
+    synced
 }
 
 fn failed_before() -> io::Error {
@@ -197,7 +197,9 @@ impl<F: RawFile> Disk for FileDisk<F> {
         ensures time { F.honest → Passes Same (F.moment self.old.file) (F.moment self.new.file)
             (F.left_since self.old.file) (F.left_since self.new.file)
             (F.may_leave self.old.file) (F.may_leave self.new.file) }
-        ensures called { F.recorded → F.calls self.new.file ≡ Measures ∷ F.calls self.old.file }
+        ensures called { F.recorded → F.calls self.new.file
+            ≡ (if self.old.unsynced then F.calls self.old.file else Measures ∷ F.calls self.old.file) }
+        ensures refused { self.old.unsynced ≡ true → IsErr result }
         ensures calls { self.new.tally.counts ≡ with_length self.old.tally.counts }
         ensures count { CountsFault result self.old.tally.failures self.new.tally.failures }
         ensures told { MatchResult result (λ _. self.new.tally.error ≡ self.old.tally.error)
@@ -206,7 +208,11 @@ impl<F: RawFile> Disk for FileDisk<F> {
         ensures unsynced { self.new.unsynced ≡ self.old.unsynced }
     {
         self.tally.counts = self.tally.counts.with_length();
-        let length = self.file.length();
+        let length = if self.unsynced {
+            Err(failed_before())
+        } else {
+            self.file.length()
+        };
         self.tally.answer(FileCall::Length, length)
     }
 
@@ -217,7 +223,9 @@ impl<F: RawFile> Disk for FileDisk<F> {
         ensures time { F.honest → Passes Same (F.moment self.old.file) (F.moment self.new.file)
             (F.left_since self.old.file) (F.left_since self.new.file)
             (F.may_leave self.old.file) (F.may_leave self.new.file) }
-        ensures called { F.recorded → F.calls self.new.file ≡ Gets at (length into.old) ∷ F.calls self.old.file }
+        ensures called { F.recorded → F.calls self.new.file
+            ≡ (if self.old.unsynced then F.calls self.old.file else Gets at (length into.old) ∷ F.calls self.old.file) }
+        ensures refused { self.old.unsynced ≡ true → IsErr result }
         ensures calls { self.new.tally.counts ≡ with_read (length into.old) self.old.tally.counts }
         ensures count { CountsFault result self.old.tally.failures self.new.tally.failures }
         ensures told { MatchResult result (λ _. self.new.tally.error ≡ self.old.tally.error)
@@ -226,7 +234,11 @@ impl<F: RawFile> Disk for FileDisk<F> {
         ensures unsynced { self.new.unsynced ≡ self.old.unsynced }
     {
         self.tally.counts = self.tally.counts.with_read(into.len());
-        let read = self.file.read_at(at, into);
+        let read = if self.unsynced {
+            Err(failed_before())
+        } else {
+            self.file.read_at(at, into)
+        };
         self.tally.answer(FileCall::Read, read)
     }
 
@@ -298,7 +310,7 @@ impl<F: RawFile> Disk for FileDisk<F> {
         ensures first { self.old.tally.error ≢ None → self.new.tally.error ≡ self.old.tally.error }
     {
         self.tally.counts = self.tally.counts.with_sync();
-        let synced = self.try_sync(answer);
+        let synced = try_sync(&mut self.file, self.unsynced, answer);
         let answer = self.tally.answer(FileCall::Sync, synced);
         self.unsynced = answer.is_err();
         answer

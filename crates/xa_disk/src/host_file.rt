@@ -2,7 +2,7 @@
 //!
 //! No contract can say what a file holds, nor which calls a library makes of the system: `honest` and `recorded` are no
 //! facts of this type, and that it keeps the clauses is a premise of whoever rests on them. Each call is a line here.
-ghost use Rattle.std.specs.Prelude.{◌≡◌, [], refl};
+ghost use Rattle.std.specs.Prelude.{◌≡◌, [], refl, true};
 ghost use Rattle.xa_disk.specs.Images.{torn_by_nothing};
 
 use crate::file_id::FileId;
@@ -52,6 +52,8 @@ impl RawFile for HostFile {
     ghost honest = { ⊥ };
 
     ghost seen = { λ _. [] };
+
+    ghost is_whole = { λ _. true };
 
     ghost may_leave = { λ _ c. c ≡ [] };
 

@@ -1,10 +1,11 @@
 //! How a file is taken as a disk.
 use crate::{FileCall, FileFault};
-use std::fs::{self, File, OpenFile, OpenOptions, TryLockError};
+use std::fs::{self, File, OpenOptions, TryLockError};
 use std::io;
 use std::io::ErrorKind;
+use std::os::fd::AsRawFd;
 use std::os::unix::fs::OpenOptionsExt;
-use std::path::{AsPath, Path};
+use std::path::Path;
 
 // What a call answered, or that it failed.
 fn called<T: Drop>(call: FileCall, answer: io::Result<T>) -> Result<T, FileFault> {
@@ -14,28 +15,56 @@ fn called<T: Drop>(call: FileCall, answer: io::Result<T>) -> Result<T, FileFault
     }
 }
 
-// How many bytes a file has.
-fn length_of(file: &File) -> io::Result<u64> {
-    Ok(file.metadata()?.len())
+// Has the system let go of what it keeps of a file in memory. It answers the error's number.
+fn drop_pages(file: &File) -> io::Result<()> {
+    match libc::posix_fadvise(file.as_raw_fd(), 0, 0, libc::POSIX_FADV_DONTNEED) {
+        0 => Ok(()),
+        error => Err(io::Error::from_raw_os_error(error)),
+    }
 }
 
-// Makes a file's entry in its folder last.
+// Has reads give what is on the medium. Where a sync had failed, or was still waited for when its process was killed, the
+// system may keep pages that it couldn't write, and marks them as written: reads would give them, and no later sync write
+// them. The sync comes first, since a page that is still to be written isn't let go.
+fn settle(file: &File) -> Result<(), FileFault> {
+    called(FileCall::SyncAll, file.sync_all())?;
+    called(FileCall::Advise, drop_pages(file))
+}
+
+// Makes the entries of the folder that a path is in last.
 fn sync_folder(rt: &HostRuntime, path: &str) -> io::Result<()> {
     let folder = match Path::new(path).parent() {
         Some(folder) if !folder.as_str().is_empty() => folder,
         _ => Path::new("."),
     };
-    File::open(rt, folder)?.sync_all()
+    match File::open(rt, folder)?.sync_all() {
+        // The file system has no such call for folders, so nothing else can be asked of it. PostgreSQL and LevelDB go on, too.
+        Err(error) if error.kind() == ErrorKind::InvalidInput => Ok(()),
+        synced => synced,
+    }
 }
 
-// The file at a path, for reading and writing; a new one is its owner's alone.
+// Makes a file's name last: of a link its own, and that of the file that it leads to.
+fn sync_names(rt: &HostRuntime, path: &str) -> io::Result<()> {
+    sync_folder(rt, path)?;
+    if fs::symlink_metadata(rt, path)?.is_symlink() {
+        let real = fs::canonicalize(rt, path)?;
+        sync_folder(rt, real.as_str())?;
+    }
+    Ok(())
+}
+
+// The file at a path, for reading and writing; a new one is its owner's alone. None is made behind a link: where it leads
+// nowhere, the volume of its file may not be there yet, and an empty file in its place would be taken for a new log's.
 fn opened(rt: &HostRuntime, path: &str) -> Result<File, FileFault> {
-    let opened = OpenOptions::new()
-        .read(true)
-        .write(true)
-        .create(true)
-        .mode(0o600)
-        .open(rt, path);
+    let mut how = OpenOptions::new();
+    how.read(true).write(true).mode(0o600);
+    let opened = match how.create_new(true).open(rt, path) {
+        Err(error) if error.kind() == ErrorKind::AlreadyExists => {
+            how.create_new(false).open(rt, path)
+        }
+        made => made,
+    };
     match opened {
         Err(error) if error.kind() == ErrorKind::IsADirectory => Err(FileFault::Irregular),
         opened => called(FileCall::Open, opened),
@@ -53,10 +82,9 @@ pub(crate) fn locked(rt: &HostRuntime, path: &str) -> Result<File, FileFault> {
         Err(TryLockError::WouldBlock) => return Err(FileFault::InUse),
         Err(TryLockError::Error(error)) => return called(FileCall::Lock, Err(error)),
     }
-    // A file with bytes was empty when a disk first took it.
-    if called(FileCall::Length, length_of(&file))? == 0 {
-        called(FileCall::SyncFolder, sync_folder(rt, path))?;
-    }
+    settle(&file)?;
+    // Each time: a file that was moved here from a backup has a name that no disk has made last.
+    called(FileCall::SyncFolder, sync_names(rt, path))?;
     Ok(file)
 }
 
@@ -68,7 +96,9 @@ pub(crate) fn shared(rt: &HostRuntime, path: &str) -> Result<File, FileFault> {
     }
     let file = called(FileCall::Open, File::open(rt, path))?;
     match file.try_lock_shared() {
-        Err(TryLockError::WouldBlock) => Err(FileFault::InUse),
-        Ok(()) | Err(TryLockError::Error(_)) => Ok(file),
+        Err(TryLockError::WouldBlock) => return Err(FileFault::InUse),
+        Ok(()) | Err(TryLockError::Error(_)) => {}
     }
+    settle(&file)?;
+    Ok(file)
 }

@@ -7,8 +7,12 @@ use std::io;
 ///
 /// The ghost members are those of `Disk`, and the clauses on values say of a file what `Disk` says of a disk, where
 /// `honest` holds of the type. `calls` is the record of the calls, where `recorded` holds of the type.
+///
+/// A sync that fails may have made the system give up what it was to write, and report that this once: reads may then give
+/// what was there before or what was written, each byte its own, and a sync that succeeds says nothing of it. So of a file
+/// of which a sync has failed no clause says what is read, nor what a sync has made last.
 pub trait RawFile {
-    ghost use Rattle.std.specs.Prelude.{◌≡◌, ◌≤◌, ◌∷◌, List, ℕ, length, IfOk, IfSome, OnOk, OnErr};
+    ghost use Rattle.std.specs.Prelude.{◌≡◌, ◌≤◌, ◌∷◌, Bool, true, List, ℕ, length, IfOk, IfSome, OnOk, OnErr};
     ghost use Rattle.xa_disk.specs.Counts.{plus};
     ghost use Rattle.xa_disk.specs.Disk.{put, Torn, Same, Only, Passes, Reads};
     ghost use Rattle.xa_disk.specs.RawCall.{RawCall, Measures, Gets, Puts, Syncs, Takes};
@@ -18,8 +22,11 @@ pub trait RawFile {
     /// The clauses on values hold of this type of file.
     ghost honest: { Type 0 };
 
-    /// What a read gives.
+    /// What a read gives. Once a sync has failed, no read tells of it: then it is what was written.
     ghost seen: { Self → List ℕ };
+
+    /// No sync of it has failed.
+    ghost is_whole: { Self → Bool };
 
     /// What a crash now may leave.
     ghost may_leave: { Self → List ℕ → Type 0 };
@@ -53,21 +60,23 @@ pub trait RawFile {
 
     /// How many bytes a read can give.
     fn length(&mut self) -> io::Result<u64>
-        ensures value { honest → IfOk result (λ n. n ≡ length (seen self.old)) }
+        ensures value { honest → is_whole self.old ≡ true → IfOk result (λ n. n ≡ length (seen self.old)) }
         ensures same { honest → seen self.new ≡ seen self.old }
         ensures time { honest → Passes Same (moment self.old) (moment self.new)
             (left_since self.old) (left_since self.new) (may_leave self.old) (may_leave self.new) }
         ensures called { recorded → calls self.new ≡ Measures ∷ calls self.old }
+        ensures whole { is_whole self.old ≡ true → is_whole self.new ≡ true }
         ensures file { (file self.new ≡ file self.old) × (written self.new ≡ written self.old) };
 
     /// Fills `into` with the bytes from an offset on. A read past the length is an error.
     fn read_at(&mut self, at: u64, into: &mut [u8]) -> io::Result<()>
         requires { 1 ≤ length into.old }
-        ensures value { honest → OnOk result (Reads (seen self.old) at into.new) }
+        ensures value { honest → is_whole self.old ≡ true → OnOk result (Reads (seen self.old) at into.new) }
         ensures same { honest → seen self.new ≡ seen self.old }
         ensures time { honest → Passes Same (moment self.old) (moment self.new)
             (left_since self.old) (left_since self.new) (may_leave self.old) (may_leave self.new) }
         ensures called { recorded → calls self.new ≡ Gets at (length into.old) ∷ calls self.old }
+        ensures whole { is_whole self.old ≡ true → is_whole self.new ≡ true }
         ensures file { (file self.new ≡ file self.old) × (written self.new ≡ written self.old) };
 
     /// Writes over what is there, and past the end; a gap before the offset is filled with zeros.
@@ -78,15 +87,17 @@ pub trait RawFile {
         ensures time { honest → Passes (Torn at (length from.now)) (moment self.old) (moment self.new)
             (left_since self.old) (left_since self.new) (may_leave self.old) (may_leave self.new) }
         ensures called { recorded → calls self.new ≡ Puts at from.now ∷ calls self.old }
+        ensures whole { is_whole self.old ≡ true → is_whole self.new ≡ true }
         ensures file { (file self.new ≡ file self.old) × (written self.new ≡ plus (written self.old) 1) };
 
     /// Makes what a read gives what a crash leaves.
     fn sync(&mut self) -> io::Result<()>
-        ensures durable { honest → OnOk result (Only (seen self.old) (may_leave self.new)) }
+        ensures durable { honest → is_whole self.old ≡ true → OnOk result (Only (seen self.old) (may_leave self.new)) }
         ensures same { honest → seen self.new ≡ seen self.old }
         ensures time { honest → Passes Same (moment self.old) (moment self.new)
             (left_since self.old) (left_since self.new) (may_leave self.old) (may_leave self.new) }
         ensures called { recorded → calls self.new ≡ Syncs ∷ calls self.old }
+        ensures whole { is_whole self.old ≡ true → OnOk result (is_whole self.new ≡ true) }
         ensures file { (file self.new ≡ file self.old) × (written self.new ≡ written self.old) };
 
     /// A handle of this file, for a sync while others use it; None where its syncs are made here alone.
@@ -97,11 +108,12 @@ pub trait RawFile {
     fn take_sync(&mut self, told: Told) -> io::Result<()>
         requires { IsDue told (file self.old) (written self.old) }
         ensures is { result ≡ told.answer }
-        ensures durable { honest → OnOk result (Only (seen self.old) (may_leave self.new)) }
+        ensures durable { honest → is_whole self.old ≡ true → OnOk result (Only (seen self.old) (may_leave self.new)) }
         ensures same { honest → seen self.new ≡ seen self.old }
         ensures time { honest → Passes Same (moment self.old) (moment self.new)
             (left_since self.old) (left_since self.new) (may_leave self.old) (may_leave self.new) }
         ensures called { recorded → calls self.new ≡ Takes ∷ calls self.old }
+        ensures whole { is_whole self.old ≡ true → OnOk result (is_whole self.new ≡ true) }
         ensures file { (file self.new ≡ file self.old) × (written self.new ≡ written self.old) };
 
     /// Law: this moment is one of those since an earlier one.

@@ -81,10 +81,10 @@ module _ {D : Type 0} (disks : Ghosts D) (old new : LogView D) (found : List (Li
       let k : IsCalm fresh (disks.seen old.other) = ⊎_elim p.calm_on (λ q. q.calm) quiet in
       let front = rests_front old.format bodies (disks.seen old.disk) p.file in
       let log = no_fault_log old.log_bytes (disks.seen old.disk) (no_fault old.log_bytes old.format (disks.seen old.disk) bodies p.fits front) in
-      let current : IsLogOf old.log_bytes bodies (disks.seen old.disk) = record { format = old.format; fits = p.fits; rests = p.file } in
+      let current : IsLogOf old.log_bytes bodies (disks.seen old.disk) = record { format = old.format; fits = p.fits; rests = p.file; whole = p.whole } in
       let read = seal_law old.log_bytes old.on_first bodies fresh (disks.seen old.disk) (disks.seen old.other) current p.other k p.above in (
         ⊎_elim (λ one. inl (sym is ∙ one)) (λ one. inr (sym is ∙ one)) read.1,
-        (record { current = it.current; other = it.other; calm_on = λ lucky. it.quiet.calm; older = it.older (both log p.front) }, it.quiet),
+        (record { current = it.current; other = it.other; calm_on = λ lucky. it.quiet.calm; older = it.older (both log p.other.1) }, it.quiet),
       )
 
   pub state_anew : (state : LogState) → IsIn disks state old → LostTears disks.tears state → IsCalmBeside disks state old → MayFind state found × Read

@@ -1,26 +1,29 @@
 -- Which of two files that were read is the current one.
-use Rattle.std.proofs.Common.{◌≡◌, ◌≢◌, ◌⊎◌, inl, inr, ⊎_elim, ℕ, zero, suc, ◌≤◌, ◌<◌, Bool, true, false, not, ◌||◌, List, [], ◌∷◌, length, take, drop, refl, sym, ◌∙◌, ap, subst, arith, cond, nat_lt, Option, Some, None, length-drop}
+use Rattle.std.proofs.Common.{◌≡◌, ◌≢◌, ◌⊎◌, inl, inr, ⊎_elim, ℕ, zero, suc, ◌≤◌, ◌<◌, Bool, true, false, not, ◌||◌, List, [], ◌∷◌, ◌++◌, append_assoc, length, take, drop, refl, sym, ◌∙◌, ap, subst, arith, cond, nat_lt, Option, Some, None, length-drop}
 use Rattle.std.specs.Prelude.{is_some, is_none, unwrap_or, Result, MatchResult}
 use Rattle.std.proofs.Common.{Ok, Err}
-use Rattle.std.specs.Result.{IfErr}
+use Rattle.std.specs.Result.{IfErr, IfOk}
 use Rattle.std.specs.Str.{bytes_eq}
-use Rattle.std.proofs.lemmas.List.{length-take}
-use Rattle.std.proofs.lemmas.Bool.{cases_Bool, and_left, and_from, or_left, or_right, or_from}
+use Rattle.std.proofs.lemmas.List.{length-take, take_at}
+use Rattle.std.proofs.lemmas.Bool.{cases_Bool, and_left, and_from, or_left, or_right, or_from, or_cases, or_parts, and_parts}
 use Rattle.std.proofs.lemmas.Bool.Decides.{nat_tests}
 use Rattle.std.proofs.lemmas.Slice.Eq.{bytes_eq-Decides}
 use Rattle.xa_log.specs.declared.fault.OpenFault.{OpenFault}
-use Rattle.xa_log.specs.declared.fault.OpenFault.TheVariants.{NotALog, TooNew, TooLong, Device, Memory}
+use Rattle.xa_log.specs.declared.fault.OpenFault.TheVariants.{NotALog, TooNew, TooLong, Damaged, Device, Memory}
 use Rattle.xa_log.specs.declared.format.Format.{Format}
 use Rattle.xa_log.specs.declared.format.Format.TheVariants.{One, Two}
 use Rattle.xa_log.specs.declared.found.Found.{Found}
 use Rattle.xa_log.specs.declared.heads.Head.{Head}
-use Rattle.xa_log.specs.Chain.{magic, start, format_of, format_in, is_record, body_at, rest_at, digest_at, bodies_from, logged}
-use Rattle.xa_log.specs.Reading.{is_newer, fault_unless, front_fault, fault_of, Explains, Finds}
-use Rattle.xa_log.specs.Pair.{number_in, generation, is_nil, beats, has_log, on_first, pair_fault}
-use Rattle.xa_log.specs.Looking.{AreShort, either_log, Tells, IsHead}
-use Rattle.xa_log.specs.Missing.{generation_in}
+use Rattle.xa_log.specs.Chain.{magic, start, format_of, format_in, is_record, body_at, rest_at, digest_at, bodies_from, logged, records, Rests}
+use Rattle.xa_log.specs.declared.reading.Scan.{Scan}
+use Rattle.xa_log.specs.Damage.{breaks_off, is_cut, is_damaged, is_headless}
+use Rattle.xa_log.specs.Reading.{is_newer, fault_unless, front_fault, fault_of, Explains, Finds, IsScan, bodies_of}
+use Rattle.xa_log.specs.Pair.{number_in, generation, is_nil, beats, has_log, on_first, current_of, is_broken, pair_fault}
+use Rattle.xa_log.specs.Looking.{AreShort, either_log, Tells, IsHead, IsCurrent}
+use Rattle.xa_log.specs.Unfit.{generation_in}
 use Rattle.xa_log.proofs.Header.{magic_known}
-use Rattle.xa_log.proofs.Records.{length-magic, record_to, bodies_closed}
+use Rattle.xa_log.proofs.Records.{format_magic, length-magic, record_to, bodies_closed, format_text, rests_logged}
+use Rattle.xa_log.proofs.Whole.{none_damaged}
 
 -- ---- how a file begins
 
@@ -145,6 +148,62 @@ module _ (a window b other_window : List ℕ) where
 
 -- ---- why two files have no log
 
+none_cut : (format : Format) (file : List ℕ) → is_cut format [] file ≡ false
+unfolding is_cut
+none_cut One file = refl
+none_cut Two file = refl
+
+-- a file that was read, and shows no first record that doesn't chain, is damaged where what was read of it is cut
+pub scan_damaged : (file : List ℕ) (scan : Scan) → IsScan file scan → is_headless file ≡ false → scan.broken ≡ is_damaged file
+unfolding is_damaged breaks_off is_cut
+scan_damaged file scan it headed = by (bodies_of scan.bodies.items) it.rests it.broken
+  where
+    named : (bodies : List (List ℕ)) → Rests scan.format bodies file → take 8 file ≡ magic scan.format
+    named bodies r =
+        ap (λ (l : List ℕ). take 8 l) (r.split ∙ append_assoc (magic scan.format) (records (start scan.format) bodies) r.rest)
+        ∙ take_at (magic scan.format) (records (start scan.format) bodies ++ r.rest) 8 (length-magic scan.format)
+
+    log : (bodies : List (List ℕ)) → Rests scan.format bodies file → has_log file ≡ true
+    log bodies r = ap (λ (o : Option Format). is_some o) (ap (λ (l : List ℕ). format_of l) (named bodies r) ∙ format_magic scan.format)
+
+    own : (bodies : List (List ℕ)) → Rests scan.format bodies file → format_in file ≡ scan.format
+    own bodies r = ap format_in r.split ∙ format_text scan.format bodies r.rest
+
+    by : (bodies : List (List ℕ)) → Rests scan.format bodies file → scan.broken ≡ is_cut scan.format bodies file → scan.broken ≡ is_damaged file
+    by [] r is = is ∙ none_cut scan.format file ∙ sym (none_damaged file (log [] r) headed (rests_logged scan.format [] file r))
+    by (b ∷ bodies) r is = is ∙ (λ i. breaks_off (sym (own (b ∷ bodies) r) i) (sym (rests_logged scan.format (b ∷ bodies) file r) i) file)
+
+-- what is told of two files of which one is a log
+abbrev pub by_both : List ℕ → List ℕ → Option OpenFault
+by_both a b = cond (is_broken a b) (Some Damaged) None
+
+-- one that shows a first record that doesn't chain is a log
+named_headless : (file : List ℕ) → is_headless file ≡ true → has_log file ≡ true
+unfolding is_headless
+named_headless file is = (and_parts (has_log file) _ is).0
+
+pub headless_log : (a b : List ℕ) → (is_headless a || is_headless b) ≡ true → (has_log a || has_log b) ≡ true
+headless_log a b is =
+    ⊎_elim (λ one. or_left (has_log a) (has_log b) (named_headless a one)) (λ two. or_right (has_log a) (has_log b) (named_headless b two)) (or_cases (is_headless a) (is_headless b) is)
+
+pub headless_fault : (most : ℕ) (a b : List ℕ) → (is_headless a || is_headless b) ≡ true → pair_fault most a b ≡ by_both a b → pair_fault most a b ≡ Some Damaged
+headless_fault most a b headless is =
+    is ∙ ap (λ (k : Bool). cond k (Some Damaged) None)
+    (⊎_elim (λ one. or_left (is_headless a) _ one) (λ two. or_right (is_headless a) _ (or_left (is_headless b) _ two)) (or_cases (is_headless a) (is_headless b) headless))
+
+pub broken_fault : (most : ℕ) (a b : List ℕ) (scan : Scan) (first t : Bool) → scan.broken ≡ t → IsCurrent a b first scan → (is_headless a || is_headless b) ≡ false
+    → pair_fault most a b ≡ by_both a b → pair_fault most a b ≡ cond t (Some Damaged) None
+broken_fault most a b scan first t broken it headed is =
+    let both = or_parts (is_headless a) (is_headless b) headed in
+    let mine : is_headless (cond first a b) ≡ false = of_cond first a b both.0 both.1 in
+    let one : is_broken a b ≡ is_damaged (current_of a b) =
+    ap (λ (k : Bool). k || (is_headless b || is_damaged (current_of a b))) both.0 ∙ ap (λ (k : Bool). k || is_damaged (current_of a b)) both.1 in
+    is ∙ ap (λ (k : Bool). cond k (Some Damaged) None) (one ∙ ap (λ (k : Bool). is_damaged (cond k a b)) (sym it.choice) ∙ sym (scan_damaged (cond first a b) scan it.scan_is mine) ∙ broken)
+  where
+    of_cond : (t : Bool) (x y : List ℕ) → is_headless x ≡ false → is_headless y ≡ false → is_headless (cond t x y) ≡ false
+    of_cond true x y p q = p
+    of_cond false x y p q = q
+
 module _ (most : ℕ) (a b : List ℕ) (m n : ℕ) (short : AreShort most a b m n) where
   fits_a : nat_lt most (length a) ≡ false
   fits_a = grind (arith, nat_tests, short.first_is, short.first_fits)
@@ -152,28 +211,14 @@ module _ (most : ℕ) (a b : List ℕ) (m n : ℕ) (short : AreShort most a b m 
   fits_b : nat_lt most (length b) ≡ false
   fits_b = grind (arith, nat_tests, short.second_is, short.second_fits)
 
-  pub fault_newer : (is_newer (take 8 a) || is_newer (take 8 b)) ≡ true → pair_fault most a b ≡ Some TooNew
-  fault_newer new = rw (fits_a, fits_b) (ap (λ (t : Bool). cond t (Some TooNew) (cond (has_log a || has_log b) None (Some NotALog))) new)
+  by_front : pair_fault most a b ≡ cond (is_newer (take 8 a) || is_newer (take 8 b)) (Some TooNew) (cond (has_log a || has_log b) (by_both a b) (Some NotALog))
+  by_front = rw (fits_a, fits_b) refl
 
-  pub fault_is : (is_newer (take 8 a) || is_newer (take 8 b)) ≡ false → (t : Bool) → (has_log a || has_log b) ≡ t → pair_fault most a b ≡ cond t None (Some NotALog)
+  pub fault_is : (is_newer (take 8 a) || is_newer (take 8 b)) ≡ false → (t : Bool) → (has_log a || has_log b) ≡ t → pair_fault most a b ≡ cond t (by_both a b) (Some NotALog)
   fault_is old t has =
-      rw (fits_a, fits_b) (ap (λ (k : Bool). cond k (Some TooNew) (cond (has_log a || has_log b) None (Some NotALog))) old ∙ ap (λ (k : Bool). cond k None (Some NotALog)) has)
-
-  pub explains_fronts : (e : OpenFault) → (e ≡ Device) ⊎ (e ≡ TooNew) → (e ≡ TooNew → (is_newer (take 8 a) || is_newer (take 8 b)) ≡ true) → Explains e (pair_fault most a b)
-  explains_fronts e kind new = ⊎_elim (λ is. subst (λ k. Explains k (pair_fault most a b)) (sym is) tt) (λ is. subst (λ k. Explains k (pair_fault most a b)) (sym is) (fault_newer (new is))) kind
-
-  pub explains_current : (e : OpenFault) → (e ≡ Device) ⊎ (e ≡ Memory) ⊎ (e ≡ NotALog) → (is_newer (take 8 a) || is_newer (take 8 b)) ≡ false → (e ≡ NotALog → (has_log a || has_log b) ≡ false) → Explains e (pair_fault most a b)
-  explains_current e kind old none =
-      ⊎_elim (λ is. subst (λ k. Explains k (pair_fault most a b)) (sym is) tt)
-      (λ more. ⊎_elim (λ is. subst (λ k. Explains k (pair_fault most a b)) (sym is) tt) (λ is. subst (λ k. Explains k (pair_fault most a b)) (sym is) (fault_is old false (none is))) more) kind
-
-  -- what is found of them where both begin as no later format
-  pub pair_value : {X : Type 0} (r : Result X OpenFault) (P : X → Type 0) → (is_newer (take 8 a) || is_newer (take 8 b)) ≡ false
-      → IfErr r (λ e. (e ≡ Device) ⊎ (e ≡ Memory) ⊎ (e ≡ NotALog))
-      → MatchResult r (λ x. ((has_log a || has_log b) ≡ true) × P x) (λ e. e ≡ NotALog → (has_log a || has_log b) ≡ false)
-      → MatchResult r (λ x. (pair_fault most a b ≡ None) × P x) (λ e. Explains e (pair_fault most a b))
-  pair_value (Ok x) P old kinds it = (fault_is old true it.0, it.1)
-  pair_value (Err e) P old kinds it = explains_current e kinds old it
+      by_front
+      ∙ ap (λ (k : Bool). cond k (Some TooNew) (cond (has_log a || has_log b) (by_both a b) (Some NotALog))) old
+      ∙ ap (λ (k : Bool). cond k (by_both a b) (Some NotALog)) has
 
 -- ---- one file that opens
 
@@ -195,3 +240,14 @@ no_fault_log most file none = ap (λ (o : Option Format). is_some o) (log_front 
 
 pub no_fault_newer : (most : ℕ) (file : List ℕ) → fault_of most file ≡ None → is_newer (take 8 file) ≡ false
 no_fault_newer most file none = let it = log_front (take 8 file) (opens_front most file none) in newer_not (take 8 file) it.0 it.1
+
+-- what is found of one that names a format, and isn't too long
+pub names_no_fault : (most : ℕ) (file : List ℕ) (format : Format) → length file ≤ most → format_of (take 8 file) ≡ Some format → fault_of most file ≡ None
+names_no_fault most file format fits is =
+    let short : nat_lt most (length file) ≡ false = grind (arith, nat_tests, fits) in
+    ap (λ (b : Bool). cond b (Some TooLong) (front_fault (take 8 file))) short ∙ ap (λ (o : Option Format). fault_unless o (cond (is_newer (take 8 file)) TooNew NotALog)) is
+
+pub whole_value : {X : Type 0} (r : Result X OpenFault) (P : X → Type 0) (fault : Option OpenFault) → fault ≡ None → IfErr r (λ e. (e ≡ Device) ⊎ (e ≡ Memory)) → IfOk r P
+    → MatchResult r (λ x. (fault ≡ None) × P x) (λ e. Explains e fault)
+whole_value (Ok x) P fault none kinds it = (none, it)
+whole_value (Err e) P fault none kinds it = ⊎_elim (λ is. subst (λ k. Explains k fault) (sym is) tt) (λ is. subst (λ k. Explains k fault) (sym is) tt) kinds

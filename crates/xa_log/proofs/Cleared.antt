@@ -1,5 +1,5 @@
 -- The zeros behind a checkpoint's last record.
-use Rattle.std.proofs.Common.{◌≡◌, ℕ, ◌+◌, ◌-◌, ◌≤◌, min, true, List, [], ◌∷◌, ◌++◌, length, take, drop, replicate, refl, sym, ◌∙◌, ap, subst, arith, append_assoc, length-drop}
+use Rattle.std.proofs.Common.{◌≡◌, inl, inr, ℕ, zero, suc, ◌+◌, ◌-◌, ◌≤◌, min, true, List, [], ◌∷◌, ◌++◌, length, take, drop, replicate, refl, sym, ◌∙◌, ap, subst, arith, append_assoc, length-drop}
 use Rattle.std.specs.List.{AllByRecursion}
 use Rattle.std.specs.Int.{w32, to_be_bytes}
 use Rattle.std.proofs.Math.Seq.{take-append-add}
@@ -11,12 +11,12 @@ use Rattle.xa_log.specs.declared.appending.Appended.TheVariants.{Kept, Refused, 
 use Rattle.xa_log.specs.declared.format.Format.{Format}
 use Rattle.xa_log.specs.Answers.{PutBecame}
 use Rattle.xa_log.specs.Chain.{newest, start, last, preamble, text, size_at, behind_text, body_at, is_record, IsBody}
-use Rattle.xa_log.specs.Checkpoint.{behind_front, first_length, IsCleared}
+use Rattle.xa_log.specs.Checkpoint.{behind_front, first_length, IsCleared, IsTailed}
 use Rattle.xa_log.specs.Laws.{StaleLaw}
 use Rattle.xa_log.proofs.Header.{header_whole}
 use Rattle.xa_log.proofs.Parts.{records_ready}
 use Rattle.xa_log.proofs.Ready.{sealed_is}
-use Rattle.xa_log.proofs.Records.{record_to}
+use Rattle.xa_log.proofs.Records.{length-text, record_to}
 use Rattle.xa_log.proofs.Steps.{zeros_more}
 use Rattle.xa_log.proofs.Torn.{put_within}
 
@@ -50,6 +50,11 @@ pub cleared_by : {D : Type 0} (disks : Ghosts D) (format : Format) (bodies : Lis
 cleared_by disks format bodies wrote now most n is size same cleared =
     let there : take n (behind_text format bodies (disks.seen now)) ≡ replicate n 0 = subst (λ d. take n (behind_text format bodies (disks.seen d)) ≡ replicate n 0) (sym same) cleared in
     subst (λ f. IsCleared most f bodies (disks.seen now)) is (subst (λ k. take k (behind_text format bodies (disks.seen now)) ≡ replicate k 0) size there)
+
+-- as many zeros as have room are enough
+pub tailed_by : (more most end : ℕ) (format : Format) (bodies : List (List ℕ)) → 4 + more ≡ min 5 (most - end) → end ≡ length (text format bodies) → IsTailed more most format bodies
+tailed_by zero most end format bodies exact is = inr (omega (arith, exact, is, length-text format bodies))
+tailed_by (suc more) most end format bodies exact is = inl (omega arith)
 
 -- ---- a length over the closing length
 

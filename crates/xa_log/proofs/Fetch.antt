@@ -6,7 +6,7 @@ use Rattle.xa_disk.specs.Counts.{plus, with_read, with_sync}
 use Rattle.xa_disk.specs.declared.counts.Counts.{Counts}
 use Rattle.xa_log.specs.Calls.{with_reads, Fetched, FetchedSome, FetchedWithin, FetchedUpto, FetchedNext, Reaches, ReachesTo, OnlyReads, Looks, LooksAt, asked}
 use Rattle.xa_log.specs.declared.fault.OpenFault.{OpenFault}
-use Rattle.xa_log.specs.declared.fault.OpenFault.TheVariants.{Device, Memory, NotALog, TooNew, TooLong}
+use Rattle.xa_log.specs.declared.fault.OpenFault.TheVariants.{Device, Memory, NotALog, TooNew, TooLong, Damaged}
 use Rattle.xa_log.specs.declared.format.Format.{Format}
 use Rattle.xa_log.specs.declared.found.Found.{Found}
 use Rattle.xa_log.specs.declared.heads.Head.{Head}
@@ -180,6 +180,7 @@ looked_on Memory most first now other reads = inr reads
 looked_on NotALog most first now other reads = reads
 looked_on TooNew most first now other reads = reads
 looked_on TooLong most first now other reads = absurd (other refl)
+looked_on Damaged most first now other reads = reads
 
 -- a read that failed
 pub looked_front : {T : Type 0} (r : Result T OpenFault) (most : ℕ) (first now : Counts) → IsErr r × IsErrAnd r (λ e. e ≡ Device) → OnlyReads most (asked first) now → Looks r most first now

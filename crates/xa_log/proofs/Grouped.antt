@@ -1,5 +1,5 @@
 -- What each step of a group's append leaves.
-use Rattle.std.proofs.Common.{◌≡◌, ◌≢◌, ◌⊎◌, inl, inr, ⊎_elim, ℕ, zero, suc, ◌+◌, ◌≤◌, Bool, true, cond, List, [], ◌∷◌, ◌++◌, length, take, drop, replicate, refl, sym, ◌∙◌, ap, subst, arith, append_assoc, length-append, nat_eq}
+use Rattle.std.proofs.Common.{◌≡◌, ◌≢◌, ◌⊎◌, inl, inr, ⊎_elim, ℕ, zero, suc, ◌+◌, ◌≤◌, Bool, true, false, cond, List, [], ◌∷◌, ◌++◌, length, take, drop, replicate, refl, sym, ◌∙◌, ap, subst, arith, append_assoc, length-append, nat_eq}
 use Rattle.std.specs.List.{AllByRecursion}
 use Rattle.std.proofs.lemmas.Bool.{cases_Bool}
 use Rattle.std.proofs.lemmas.List.{append-nil, take_at, take-append-drop, length-replicate}
@@ -9,6 +9,7 @@ use Rattle.xa_disk.specs.declared.disk.Disk.{Ghosts}
 use Rattle.xa_disk.specs.Images.{torn_same, put_torn}
 use Rattle.xa_log.specs.Answers.{Wrote, PutAheadBecame, FailedPut, FailedPutAhead}
 use Rattle.xa_log.specs.Chain.{start, last, text, closing, IsBody, digest, record_of, records, is_record, digest_at, rest_at, Rests}
+use Rattle.xa_log.specs.Damage.{breaks_off, AreAppended}
 use Rattle.xa_log.specs.Group.{group_bytes, as_one, first_of_group, closed, closed_by, HasFirstPart, IsFirstPart, IsPlain}
 use Rattle.xa_log.specs.Pair.{number_in, generation, beats}
 use Rattle.xa_log.specs.Stands.{Answers, Leaves, MayStand, Stands}
@@ -22,6 +23,7 @@ use Rattle.xa_log.proofs.Records.{length-record_of, text_more, sizes_more, close
 use Rattle.xa_log.proofs.Torn.{torn_then, put_within}
 use Rattle.xa_log.proofs.Tried.{torn_wider, torn_wrote}
 use Rattle.xa_log.proofs.Two.{beats_more}
+use Rattle.xa_log.proofs.Whole.{not_broken, whole_more, zeros_on, zeros_size}
 
 -- ---- bytes
 
@@ -80,11 +82,12 @@ rests_group format bodies group file more sizes ok is = record {
 -- ---- what keeps the log's front, and after it has no records but the group's
 
 -- of a file that is a log of so many bodies, none of the group
-none_of : (format : Format) (bodies group : List (List ℕ)) (file : List ℕ) → Rests format bodies file → IsFirstPart format bodies group file
-none_of format bodies group file r = record {
+none_of : (format : Format) (bodies group : List (List ℕ)) (file : List ℕ) → Rests format bodies file → breaks_off format bodies file ≡ false → IsFirstPart format bodies group file
+none_of format bodies group file r whole = record {
   many = 0;
   within = omega arith;
   rests = subst (λ (l : List (List ℕ)). Rests format l file) (sym (append-nil bodies)) r;
+  whole = subst (λ (l : List (List ℕ)). breaks_off format l file ≡ false) (sym (append-nil bodies)) whole;
 }
 
 -- its front with one record more
@@ -110,6 +113,7 @@ one_more format bodies group body file it = record {
   many = suc it.many;
   within = omega (arith, it.within);
   rests = subst (λ (l : List (List ℕ)). Rests format l file) (append_assoc bodies (body ∷ []) (take it.many group)) it.rests;
+  whole = subst (λ (l : List (List ℕ)). breaks_off format l file ≡ false) (append_assoc bodies (body ∷ []) (take it.many group)) it.whole;
 }
 
 -- ---- a group of one: the record, or nothing
@@ -134,13 +138,13 @@ pub plain_group : (format : Format) (bodies group : List (List ℕ)) (file : Lis
     → take (length (text format bodies)) file ≡ text format bodies → IsPlain format bodies group file → IsFirstPart format bodies group file
 plain_group format bodies [] file sizes ok front plain =
     let rest = drop (length (text format bodies)) file in
-    none_of format bodies [] file (record { rest = rest; split = sym (take-append-drop (length (text format bodies)) file) ∙ ap (λ (l : List ℕ). l ++ rest) front; sizes = sizes; closed = plain })
+    none_of format bodies [] file (record { rest = rest; split = sym (take-append-drop (length (text format bodies)) file) ∙ ap (λ (l : List ℕ). l ++ rest) front; sizes = sizes; closed = plain.0 }) plain.1
 plain_group format bodies (body ∷ group) file sizes ok front plain =
     let rest = drop (length (text format bodies)) file in
     elim (cases_Bool (is_record format (last (start format) bodies) rest)) [
       | inl whole ↦ one_more format bodies group body file
-          (plain_group format (bodies ++ body ∷ []) group file (sizes_more format bodies body sizes ok.0) ok.1 (front_more format bodies body file front (plain whole).0) (plain whole).1)
-      | inr none ↦ none_of format bodies (body ∷ group) file (record { rest = rest; split = sym (take-append-drop (length (text format bodies)) file) ∙ ap (λ (l : List ℕ). l ++ rest) front; sizes = sizes; closed = none })
+          (plain_group format (bodies ++ body ∷ []) group file (sizes_more format bodies body sizes ok.0) ok.1 (front_more format bodies body file front (plain.1 whole).0) (plain.1 whole).1)
+      | inr none ↦ none_of format bodies (body ∷ group) file (record { rest = rest; split = sym (take-append-drop (length (text format bodies)) file) ∙ ap (λ (l : List ℕ). l ++ rest) front; sizes = sizes; closed = none }) (plain.0 none)
     ]
 
 -- ---- one file
@@ -200,7 +204,7 @@ beats_group first [] (body ∷ group) stood wins = beats_more first [] body stoo
 -- ---- what a log stands for after each answer
 
 module _ {D : Type 0} (disks : Ghosts D) (bodies group : List (List ℕ)) (more : ℕ) (old new : LogView D)
-    (tears_torn : (f : List ℕ) (at : ℕ) (bytes g : List ℕ) → disks.tears f at bytes g → Torn at (length bytes) f g) (stands : Stands disks bodies old) (some : 1 ≤ length group) (ok : AllByRecursion (IsBody old.format) group) where
+    (tears_torn : (f : List ℕ) (at : ℕ) (bytes g : List ℕ) → disks.tears f at bytes g → Torn at (length bytes) f g) (stands : Stands disks bodies old) (some : 1 ≤ length group) (ok : AllByRecursion (IsBody old.format) group) (appended : AreAppended bodies group) where
   abbrev format : Format
   format = old.format
 
@@ -260,6 +264,7 @@ module _ {D : Type 0} (disks : Ghosts D) (bodies group : List (List ℕ)) (more 
     number = number_is ∙ generation_group format bodies group old.end old.generation some stands.end stands.number;
     durable = went.1;
     alive = lost_is ∙ stands.alive;
+    whole = whole_more new.format bodies group (disks.seen new.disk) appended some;
   }
 
   pub answer_refused : Room → Went_by Refused → new.end ≡ old.end → new.digest ≡ old.digest → new.generation ≡ old.generation → new.lost ≡ old.lost
@@ -278,6 +283,8 @@ module _ {D : Type 0} (disks : Ghosts D) (bodies group : List (List ℕ)) (more 
           number = number_is ∙ stands.number;
           durable = went.3;
           alive = lost_is ∙ stands.alive;
+          whole = subst (λ f. breaks_off f bodies (disks.seen new.disk) ≡ false) (sym room.2)
+              (not_broken format bodies (disks.seen new.disk) (zeros_size n (drop (length (text format bodies)) (disks.seen new.disk)) it.1) (zeros_on n (drop (length (text format bodies)) (disks.seen new.disk)) (omega (arith, bytes_as_one group some)) it.1));
         },
         subst (λ f. take (group_bytes group + 4) (drop (length (text f bodies)) (disks.seen new.disk)) ≡ replicate (group_bytes group + 4) 0) (sym room.2)
             (subst (λ (x : ℕ). take x (drop (length (text format bodies)) (disks.seen new.disk)) ≡ replicate x 0) k it.1),
@@ -290,7 +297,7 @@ module _ {D : Type 0} (disks : Ghosts D) (bodies group : List (List ℕ)) (more 
     some = some;
     seen_is = its (disks.seen new.disk) (good (disks.seen new.disk) went.0);
     seen_on = λ lucky. subst (λ k. IsFirstPart k bodies group (disks.seen new.disk)) (sym room.2)
-        ((good (disks.seen new.disk) went.0).reads (lucky format bodies (disks.seen old.disk) went.1 (disks.seen new.disk) more stands.file ok first second));
+        ((good (disks.seen new.disk) went.0).reads (lucky format bodies (disks.seen old.disk) went.1 (disks.seen new.disk) more stands.file stands.whole some ok appended first second));
     left_is = λ c left. its c (let x = follows c left in good c (subst (λ f. Torn old.end (length (closed_by more old.digest group)) f c) (stands.durable x.0 x.1) x.2));
     lost = lost_is;
   }

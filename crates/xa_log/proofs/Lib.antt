@@ -2,6 +2,9 @@ pub mod Hash
 pub mod Records
 pub mod Torn
 pub mod Tried
+pub mod Whole
+pub mod Mixed
+pub mod First
 pub mod Known
 pub mod Encode
 pub mod Append
@@ -28,7 +31,11 @@ pub mod GroupPair
 pub mod GroupSteps
 pub mod Which
 pub mod Choosing
+pub mod Told
 pub mod Opens
+pub mod Standings
+pub mod Interrupting
+pub mod Fits
 pub mod Still
 pub mod Looks
 pub mod Plans
@@ -39,3 +46,4 @@ pub mod Anew
 pub mod States
 pub mod Settled
 pub mod Writing
+pub mod Snapshot

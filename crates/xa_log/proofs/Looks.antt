@@ -1,11 +1,11 @@
 -- The calls of a look at two files.
-use Rattle.std.proofs.Common.{◌≡◌, ◌≢◌, ◌⊎◌, inl, inr, ⊎_elim, ℕ, ◌≤◌, List, Option, Bool, true, false, MatchBool, IfOk, refl, sym, ◌∙◌, ap, subst, rules, Result, Ok, Err, IsErr, IfErr, MatchResult}
+use Rattle.std.proofs.Common.{◌≡◌, ◌≢◌, ◌⊎◌, inl, inr, ⊎_elim, ℕ, ◌≤◌, List, Option, Bool, true, false, MatchBool, refl, sym, ◌∙◌, ap, subst, rules, Result, Ok, Err, IsErr, IfErr, MatchResult}
 use Rattle.std.specs.Result.{IsErrAnd}
 use Rattle.xa_disk.specs.Counts.{with_sync}
 use Rattle.xa_disk.specs.declared.counts.Counts.{Counts}
 use Rattle.xa_log.specs.Calls.{with_reads, ReadsLittle, LooksBriefly, MOST_BRIEF, brief, Fetched, FetchedWithin, OnlyReads, Looks, LooksAt, LooksSecond, LooksSecondAt, asked}
 use Rattle.xa_log.specs.declared.fault.OpenFault.{OpenFault}
-use Rattle.xa_log.specs.declared.fault.OpenFault.TheVariants.{NotALog, TooNew, TooLong, Device, Memory}
+use Rattle.xa_log.specs.declared.fault.OpenFault.TheVariants.{NotALog, TooNew, TooLong, Damaged, Device, Memory}
 use Rattle.xa_disk.specs.declared.disk.Disk.{Ghosts}
 use Rattle.xa_log.specs.declared.heads.Head.{Head}
 use Rattle.xa_log.specs.Looking.{FetchedHead}
@@ -34,6 +34,7 @@ read_at Memory most old new short reads = inr reads
 read_at NotALog most old new short reads = reads
 read_at TooNew most old new short reads = reads
 read_at TooLong most old new short reads = absurd (short refl)
+read_at Damaged most old new short reads = reads
 
 pub looks_by : {T : Type 0} (r : Result T OpenFault) (most : ℕ) (old new : Counts) → IfErr r (λ e. e ≢ TooLong) → OnlyReads most (asked old) new → Looks r most old new
 looks_by (Ok x) most old new short reads = reads
@@ -50,6 +51,10 @@ fronts_short (Err k) e is kind = λ long. ⊎_elim (λ device. absurd (cc (is, d
 pub heads_short : {T : Type 0} (r : Result T OpenFault) (e : OpenFault) → IsErrAnd r (λ k. k ≡ e) → (e ≡ Device) ⊎ (e ≡ Memory) → IfErr r (λ k. k ≢ TooLong)
 heads_short (Ok x) e is kind = tt
 heads_short (Err k) e is kind = λ long. ⊎_elim (λ device. absurd (cc (is, device, long))) (λ memory. absurd (cc (is, memory, long))) kind
+
+pub current_kinds : {T : Type 0} (r : Result T OpenFault) (e : OpenFault) → IsErrAnd r (λ k. k ≡ e) → (e ≡ Device) ⊎ (e ≡ Memory) ⊎ (e ≡ NotALog) → IfErr r (λ k. (k ≡ Device) ⊎ (k ≡ Memory) ⊎ (k ≡ NotALog))
+current_kinds (Ok x) e is kind = tt
+current_kinds (Err k) e is kind = subst (λ z. (z ≡ Device) ⊎ (z ≡ Memory) ⊎ (z ≡ NotALog)) (sym is) kind
 
 pub current_short : {T : Type 0} (r : Result T OpenFault) → IfErr r (λ e. (e ≡ Device) ⊎ (e ≡ Memory) ⊎ (e ≡ NotALog)) → IfErr r (λ e. e ≢ TooLong)
 current_short (Ok x) kind = tt
@@ -78,11 +83,6 @@ briefly disks x a len first seen o is most as_is same = record {
 }
 
 -- where one of two was read on and the other wasn't
-pub little_by : {D T : Type 0} (disks : Ghosts D) (r : Result (Bool × T × ℕ × ℕ) OpenFault) (x y a b c d : D) → IfOk r (λ v. MatchBool v.0 (b ≡ d) (a ≡ c)) → LooksBriefly disks x c → LooksBriefly disks y d
-    → IfOk r (λ v. ReadsLittle disks v.0 x a y b)
-little_by disks (Err e) x y a b c d other one two = tt
-little_by {D} {T} disks (Ok v) x y a b c d other one two = by v.0 other
-  where
-    by : (t : Bool) → MatchBool t (b ≡ d) (a ≡ c) → ReadsLittle disks t x a y b
-    by true is = subst (λ z. LooksBriefly disks y z) (sym is) two
-    by false is = subst (λ z. LooksBriefly disks x z) (sym is) one
+pub little_by : {D : Type 0} (disks : Ghosts D) (t : Bool) (x y a b c d : D) → MatchBool t (b ≡ d) (a ≡ c) → LooksBriefly disks x c → LooksBriefly disks y d → ReadsLittle disks t x a y b
+little_by disks true x y a b c d is one two = subst (λ z. LooksBriefly disks y z) (sym is) two
+little_by disks false x y a b c d is one two = subst (λ z. LooksBriefly disks x z) (sym is) one

@@ -5,12 +5,13 @@ use Rattle.std.proofs.lemmas.Bool.Decides.{nat_tests}
 use Rattle.xa_disk.specs.Disk.{Only}
 use Rattle.xa_disk.specs.declared.disk.Disk.{Ghosts}
 use Rattle.xa_disk.specs.Images.{torn_same}
-use Rattle.xa_log.specs.declared.fault.OpenFault.TheVariants.{NotALog, TooNew, TooLong}
+use Rattle.xa_log.specs.declared.fault.OpenFault.TheVariants.{NotALog, TooNew, TooLong, Damaged}
 use Rattle.xa_log.specs.LogView.{LogView}
 use Rattle.xa_log.specs.declared.reading.Scan.{Scan}
 use Rattle.xa_log.specs.Chain.{start, last, text, Rests, logged}
 use Rattle.xa_log.specs.Reading.{is_newer, bodies_of, IsScan}
-use Rattle.xa_log.specs.Pair.{generation, is_nil, beats, has_log, logged_pair, pair_fault, Behind, IsCalm}
+use Rattle.xa_log.specs.Damage.{breaks_off, is_damaged, is_headless}
+use Rattle.xa_log.specs.Pair.{generation, is_nil, beats, has_log, current_of, is_broken, logged_pair, pair_fault, Behind, IsCalm}
 use Rattle.xa_log.specs.Checkpoint.{IsOther, IsQuiet}
 use Rattle.xa_log.specs.Looking.{IsCurrent}
 use Rattle.xa_log.specs.Stands.{Stands}
@@ -19,6 +20,7 @@ use Rattle.xa_log.specs.Laws.{OpenedLaw}
 use Rattle.xa_log.proofs.Records.{rests_logged}
 use Rattle.xa_log.proofs.Parts.{calm_log}
 use Rattle.xa_log.proofs.Pair.{beats_nil}
+use Rattle.xa_log.proofs.Whole.{damaged_of}
 
 -- of two files without a fault
 pub record Sound (most : ℕ) (a b : List ℕ) : Type 0 where
@@ -26,17 +28,27 @@ pub record Sound (most : ℕ) (a b : List ℕ) : Type 0 where
   pub second_fits : length b ≤ most
   pub first_known : is_newer (take 8 a) ≡ false
   pub second_known : is_newer (take 8 b) ≡ false
+  pub first_headed : is_headless a ≡ false
+  pub second_headed : is_headless b ≡ false
+  pub whole : is_damaged (current_of a b) ≡ false
+
+undamaged : (has d : Bool) → {e : Bool} → d ≡ e → cond has (cond d (Some Damaged) None) (Some NotALog) ≡ None → e ≡ false
+undamaged true true is fault = absurd (cc fault)
+undamaged true false is fault = sym is
+undamaged false d is fault = absurd (cc fault)
 
 pub sound : (most : ℕ) (a b : List ℕ) → pair_fault most a b ≡ None → Sound most a b
 sound most a b none = by (nat_lt most (length a) || nat_lt most (length b)) refl (is_newer (take 8 a) || is_newer (take 8 b)) refl none
   where
-    by : (s : Bool) → (nat_lt most (length a) || nat_lt most (length b)) ≡ s → (t : Bool) → (is_newer (take 8 a) || is_newer (take 8 b)) ≡ t → cond s (Some TooLong) (cond t (Some TooNew) (cond (has_log a || has_log b) None (Some NotALog))) ≡ None → Sound most a b
+    by : (s : Bool) → (nat_lt most (length a) || nat_lt most (length b)) ≡ s → (t : Bool) → (is_newer (take 8 a) || is_newer (take 8 b)) ≡ t → cond s (Some TooLong) (cond t (Some TooNew) (cond (has_log a || has_log b) (cond (is_broken a b) (Some Damaged) None) (Some NotALog))) ≡ None → Sound most a b
     by true p t q fault = absurd (cc fault)
     by false p true q fault = absurd (cc fault)
     by false p false q fault =
         let l = or_parts (nat_lt most (length a)) _ p in
         let k = or_parts (is_newer (take 8 a)) _ q in
-        record { first_fits = ltb-false most (length a) l.0; second_fits = ltb-false most (length b) l.1; first_known = k.0; second_known = k.1 }
+        let h = or_parts (is_headless a) _ (undamaged (has_log a || has_log b) (is_broken a b) refl fault) in
+        let w = or_parts (is_headless b) _ h.1 in
+        record { first_fits = ltb-false most (length a) l.0; second_fits = ltb-false most (length b) l.1; first_known = k.0; second_known = k.1; first_headed = h.0; second_headed = w.0; whole = w.1 }
 
 -- what isn't taken comes behind
 beats_other : (x y : List (List ℕ)) → beats true x y ≡ false → beats false y x ≡ true
@@ -56,15 +68,15 @@ beats_other x y loses =
 -- ---- the other file, as it was read
 
 -- a file that isn't a later format's is calm beside its own log
-own_calm : (file : List ℕ) → is_newer (take 8 file) ≡ false → IsCalm (logged file) file
-own_calm file known = calm_log (logged file) file known refl
+own_calm : (file : List ℕ) → is_newer (take 8 file) ≡ false → is_headless file ≡ false → IsCalm (logged file) file
+own_calm file known headed = calm_log (logged file) file known headed refl
 
-module _ {D : Type 0} (disks : Ghosts D) (most : ℕ) (disk : D) (only : Only (disks.seen disk) (disks.may_leave disk)) (fits : length (disks.seen disk) ≤ most) (known : is_newer (take 8 (disks.seen disk)) ≡ false) where
+module _ {D : Type 0} (disks : Ghosts D) (most : ℕ) (disk : D) (only : Only (disks.seen disk) (disks.may_leave disk)) (fits : length (disks.seen disk) ≤ most) (known : is_newer (take 8 (disks.seen disk)) ≡ false) (headed : is_headless (disks.seen disk) ≡ false) where
   behind : Behind (logged (disks.seen disk)) (disks.seen disk)
   behind = inr (disks.seen disk, refl, torn_same 0 12 (disks.seen disk))
 
   calm : IsCalm (logged (disks.seen disk)) (disks.seen disk)
-  calm = own_calm (disks.seen disk) known
+  calm = own_calm (disks.seen disk) known headed
 
   pub read_other : IsOther disks most (logged (disks.seen disk)) disk
   read_other = record {
@@ -95,8 +107,8 @@ module _ {D : Type 0} (disks : Ghosts D) (a b : List ℕ) (log : LogView D) (sca
   abbrev bodies : List (List ℕ)
   bodies = bodies_of scan.bodies.items
 
-  stood : (file : List ℕ) → disks.seen log.disk ≡ file → length file ≤ log.log_bytes → IsScan file scan → Stands disks bodies log
-  stood file is fits it = record {
+  stood : (file : List ℕ) → disks.seen log.disk ≡ file → length file ≤ log.log_bytes → IsScan file scan → is_damaged file ≡ false → Stands disks bodies log
+  stood file is fits it whole = record {
     file = subst (λ f. Rests log.format bodies f) (sym is) (subst (λ k. Rests k bodies file) (sym format) it.rests);
     fits = subst (λ f. length f ≤ log.log_bytes) (sym is) fits;
     end = subst (λ k. log.end ≡ length (text k bodies)) (sym format) (end ∙ it.end);
@@ -104,17 +116,20 @@ module _ {D : Type 0} (disks : Ghosts D) (a b : List ℕ) (log : LogView D) (sca
     number = number;
     durable = one;
     alive = alive;
+    whole = subst (λ f. breaks_off log.format bodies f ≡ false) (sym is)
+        (subst (λ k. breaks_off k bodies file ≡ false) (sym format) (sym (damaged_of scan.format bodies file it.rests) ∙ whole));
   }
 
-  opens_by : (mine other : List ℕ) → disks.seen log.disk ≡ mine → disks.seen log.other ≡ other → length mine ≤ log.log_bytes → length other ≤ log.log_bytes → is_newer (take 8 other) ≡ false
-      → IsScan mine scan → (has_log other ≡ true → beats log.on_first (logged mine) (logged other) ≡ true) → IsOpenPair disks bodies (logged (disks.seen log.other)) log
-  opens_by mine other is other_is fits other_fits known it wins =
+  opens_by : (mine other : List ℕ) → disks.seen log.disk ≡ mine → disks.seen log.other ≡ other → length mine ≤ log.log_bytes → length other ≤ log.log_bytes → is_newer (take 8 other) ≡ false → is_headless other ≡ false
+      → IsScan mine scan → is_damaged mine ≡ false → (has_log other ≡ true → beats log.on_first (logged mine) (logged other) ≡ true) → IsOpenPair disks bodies (logged (disks.seen log.other)) log
+  opens_by mine other is other_is fits other_fits known headed it whole wins =
       let short = subst (λ f. length f ≤ log.log_bytes) (sym other_is) other_fits in
       let plain = subst (λ f. is_newer (take 8 f) ≡ false) (sym other_is) known in
+      let head = subst (λ f. is_headless f ≡ false) (sym other_is) headed in
       record {
-        current = stood mine is fits it;
-        other = read_other disks log.log_bytes log.other two short plain;
-        quiet = read_quiet disks log.log_bytes log.other two short plain;
+        current = stood mine is fits it whole;
+        other = read_other disks log.log_bytes log.other two short plain head;
+        quiet = read_quiet disks log.log_bytes log.other two short plain head;
         older = λ has.
             ap (λ (l : List (List ℕ)). beats log.on_first l (logged (disks.seen log.other))) (sym (scan_logged mine scan it))
             ∙ ap (λ (f : List ℕ). beats log.on_first (logged mine) (logged f)) other_is ∙ wins (subst (λ f. has_log f ≡ true) other_is has);
@@ -123,12 +138,12 @@ module _ {D : Type 0} (disks : Ghosts D) (a b : List ℕ) (log : LogView D) (sca
   -- what was read stands on the two disks
   pub opens : (t : Bool) → log.on_first ≡ t → disks.seen (cond t log.disk log.other) ≡ a → disks.seen (cond t log.other log.disk) ≡ b → IsCurrent a b t scan → IsOpenPair disks bodies (logged (disks.seen log.other)) log
   opens true first x y it =
-      opens_by a b x y s.first_fits s.second_fits s.second_known it.scan_is (λ has.
+      opens_by a b x y s.first_fits s.second_fits s.second_known s.second_headed it.scan_is (ap (λ (t : Bool). is_damaged (cond t a b)) it.choice ∙ s.whole) (λ has.
       let more = (and_parts (has_log a) _ (sym it.choice)).1 in
       let wins : beats true (logged a) (logged b) ≡ true = ⊎_elim (λ absent. absurd (cc (absent, ap not has))) (λ z. z) (or_cases (not (has_log b)) _ more) in
       ap (λ (t : Bool). beats t (logged a) (logged b)) first ∙ wins)
   opens false first x y it =
-      opens_by b a y x s.second_fits s.first_fits s.first_known it.scan_is (λ has.
+      opens_by b a y x s.second_fits s.first_fits s.first_known s.first_headed it.scan_is (ap (λ (t : Bool). is_damaged (cond t a b)) it.choice ∙ s.whole) (λ has.
       let less : beats true (logged a) (logged b) ≡ false = ⊎_elim (λ absent. absurd (cc (absent, has))) (λ z. (or_parts (not (has_log b)) _ z).1) (and_cases (has_log a) _ (sym it.choice)) in
       ap (λ (t : Bool). beats t (logged b) (logged a)) first ∙ beats_other (logged a) (logged b) less)
 

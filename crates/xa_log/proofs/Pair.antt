@@ -1,16 +1,18 @@
 -- Which of two files has the log.
-use Rattle.std.proofs.Common.{◌≡◌, ◌⊎◌, inl, inr, ⊎_elim, ℕ, zero, suc, ◌+◌, ◌≤◌, ◌<◌, Bool, true, false, not, List, [], ◌∷◌, ◌++◌, length, take, drop, refl, sym, ◌∙◌, ap, subst, arith, cond, nat_lt, nat_eq, Some, None, length-drop}
-use Rattle.std.proofs.lemmas.Bool.{cases_Bool, or_left, or_right, or_cases, and_from, and_parts, cases_order, ltb-true, eqb-true}
+use Rattle.std.proofs.Common.{◌≡◌, ◌⊎◌, inl, inr, ⊎_elim, ℕ, zero, suc, ◌+◌, ◌≤◌, ◌<◌, Bool, true, false, not, ◌||◌, List, [], ◌∷◌, ◌++◌, length, take, drop, refl, sym, ◌∙◌, ap, subst, arith, cond, nat_lt, nat_eq, Some, None, length-drop}
+use Rattle.std.proofs.lemmas.Bool.{cases_Bool, or_from, or_left, or_right, or_cases, and_from, and_left, and_parts, cases_order, ltb-true, eqb-true}
 use Rattle.std.proofs.lemmas.Bool.Decides.{nat_tests}
 use Rattle.std.proofs.lemmas.List.{drop-drop, length-take-le, ext_get_or, get_or-drop}
 use Rattle.xa_disk.specs.Disk.{Torn, AllOrNone}
-use Rattle.xa_log.specs.declared.fault.OpenFault.TheVariants.{NotALog}
+use Rattle.xa_log.specs.declared.fault.OpenFault.TheVariants.{NotALog, Damaged}
 use Rattle.xa_log.specs.declared.format.Format.{Format}
 use Rattle.xa_log.specs.Chain.{start, preamble, format_in, size_at, body_at, rest_at, digest_at, is_record, bodies_from, begins, logged}
 use Rattle.xa_log.specs.Reading.{is_newer}
-use Rattle.xa_log.specs.Pair.{generation, beats, has_log, on_first, logged_of, fault_pair, IsCalm, Behind, AllOrNoBodies, CalmTears}
+use Rattle.xa_log.specs.Damage.{is_damaged, is_headless}
+use Rattle.xa_log.specs.Pair.{generation, beats, has_log, on_first, current_of, is_broken, logged_of, fault_pair, IsCalm, Behind, AllOrNoBodies, CalmTears}
 use Rattle.xa_log.proofs.Records.{record_to, bodies_closed, closed_zeros}
 use Rattle.xa_log.proofs.Torn.{torn_then}
+use Rattle.xa_log.proofs.Whole.{closed_headed, damaged_headed, none_damaged, zero_size}
 use Rattle.xa_log.proofs.Header.{header_magic, header_closed, magic_known, put_header}
 
 tie : (x y : List (List ℕ)) → beats true x y ≡ true → beats false y x ≡ true → x ≡ y
@@ -24,6 +26,22 @@ tie (b ∷ bs) (d ∷ ds) p q =
     let y = generation (d ∷ ds) in
     let less : x < y = ⊎_elim (λ lt. ltb-true x y lt) (λ both. absurd (cc ((and_parts (nat_eq x y) false both).1))) (or_cases (nat_lt x y) _ q) in
     absurd (⊎_elim (λ lt. omega (arith, ltb-true y x lt)) (λ both. omega (arith, eqb-true y x (and_parts (nat_eq y x) _ both).0)) (or_cases (nat_lt y x) _ p))
+
+tie_none : (x y : List (List ℕ)) → beats true x y ≡ true → beats false y x ≡ true → x ≡ []
+tie_none [] y p q = refl
+tie_none (b ∷ bs) [] p q = cc (tie (b ∷ bs) [] p q)
+tie_none (b ∷ bs) (d ∷ ds) p q =
+    let x = generation (b ∷ bs) in
+    let y = generation (d ∷ ds) in
+    let less : x < y = ⊎_elim (λ lt. ltb-true x y lt) (λ both. absurd (cc ((and_parts (nat_eq x y) false both).1))) (or_cases (nat_lt x y) _ q) in
+    absurd (⊎_elim (λ lt. omega (arith, ltb-true y x lt)) (λ both. omega (arith, eqb-true y x (and_parts (nat_eq y x) _ both).0)) (or_cases (nat_lt y x) _ p))
+
+-- the one of the two that is the current one, where the first given is the first file or isn't
+abbrev pub taken : Bool → List ℕ → List ℕ → List ℕ
+taken first current other = cond first (current_of current other) (current_of other current)
+
+unbroken : (a b : List ℕ) → is_headless a ≡ false → is_headless b ≡ false → is_damaged (current_of a b) ≡ false → is_broken a b ≡ false
+unbroken a b one two whole = or_from (is_headless a) _ one (or_from (is_headless b) _ two whole)
 
 -- a log without records comes before none
 pub beats_nil : (first : Bool) (bodies : List (List ℕ)) → beats first bodies [] ≡ true
@@ -47,10 +65,44 @@ module _ (most : ℕ) (bodies : List (List ℕ)) (current other : List ℕ) (log
   b : nat_lt most (length other) ≡ false
   b = grind (arith, nat_tests, short)
 
-  -- two files of which one is a log, and none is too long or too new, have a log
-  pub no_pair_fault : (first : Bool) → fault_pair most first current other ≡ None
-  no_pair_fault true = rw (a, b, old, known, log) refl
-  no_pair_fault false = rw (a, b, old, known, log) (ap (λ (x : Bool). cond x None (Some NotALog)) (or_right (has_log other) true refl))
+  -- two files of which one is a log, none is too long or too new, and none is broken, have a log
+  pub no_pair_fault : (first : Bool) → is_headless current ≡ false → is_headless other ≡ false → is_damaged (taken first current other) ≡ false → fault_pair most first current other ≡ None
+  no_pair_fault true mine its whole =
+      rw (a, b, old, known) (ap (λ (x : Bool). cond (x || has_log other) (cond (is_broken current other) (Some Damaged) None) (Some NotALog)) log
+      ∙ ap (λ (x : Bool). cond x (Some Damaged) None) (unbroken current other mine its whole))
+  no_pair_fault false mine its whole =
+      rw (a, b, old, known) (ap (λ (x : Bool). cond (has_log other || x) (cond (is_broken other current) (Some Damaged) None) (Some NotALog)) log
+      ∙ ap (λ (x : Bool). cond x (cond (is_broken other current) (Some Damaged) None) (Some NotALog)) (or_right (has_log other) true refl)
+      ∙ ap (λ (x : Bool). cond x (Some Damaged) None) (unbroken other current its mine whole))
+
+  module _ (headed : is_headless other ≡ false) (whole : is_damaged current ≡ false) where
+    -- the current one is taken, where the other doesn't come before it, or one that has nothing either
+    pub taken_whole : (first : Bool) → beats first bodies (logged other) ≡ true → is_damaged (taken first current other) ≡ false
+    taken_whole true wins =
+        let on : on_first current other ≡ true =
+        and_from (has_log current) _ log (or_right (not (has_log other)) _ (ap (λ (l : List (List ℕ)). beats true l (logged other)) is ∙ wins)) in
+        ap (λ (x : Bool). is_damaged (cond x current other)) on ∙ whole
+    taken_whole false wins = elim (cases_Bool (on_first other current)) [
+      | inl on ↦
+          let parts = and_parts (has_log other) _ on in
+          let more : beats true (logged other) (logged current) ≡ true =
+          ⊎_elim (λ absent. absurd (cc (absent, ap not log))) (λ wins. wins) (or_cases (not (has_log current)) _ parts.1) in
+          ap (λ (x : Bool). is_damaged (cond x other current)) on
+          ∙ none_damaged other parts.0 headed (tie_none (logged other) bodies (ap (λ (l : List (List ℕ)). beats true (logged other) l) (sym is) ∙ more) wins)
+      | inr off ↦ ap (λ (x : Bool). is_damaged (cond x other current)) off ∙ whole
+    ]
+
+    pub wins_no_fault : (first : Bool) → beats first bodies (logged other) ≡ true → fault_pair most first current other ≡ None
+    wins_no_fault first wins = no_pair_fault first (damaged_headed current whole) headed (taken_whole first wins)
+
+    -- nor where the other one is no log
+    pub alone_no_fault : (first : Bool) → has_log other ≡ false → fault_pair most first current other ≡ None
+    alone_no_fault true none =
+        let on : on_first current other ≡ true = and_from (has_log current) _ log (or_left (not (has_log other)) _ (ap not none)) in
+        no_pair_fault true (damaged_headed current whole) headed (ap (λ (x : Bool). is_damaged (cond x current other)) on ∙ whole)
+    alone_no_fault false none =
+        let off : on_first other current ≡ false = and_left (has_log other) _ none in
+        no_pair_fault false (damaged_headed current whole) headed (ap (λ (x : Bool). is_damaged (cond x other current)) off ∙ whole)
 
   -- and it is the current one's, where the other doesn't come before it
   pub pair_log : (first : Bool) → beats first bodies (logged other) ≡ true → logged_of first current other ≡ bodies
@@ -135,11 +187,11 @@ same_first f g (suc m) prev other x y tail p q same many =
     let behind : bodies_from f m (digest_at prev x) (rest_at x) ≡ bodies_from g m (digest_at other y) (rest_at y) = mid ∙ same_many f g m (digest_at other y) (rest_at y) lens in
     a ∙ (λ i. same i ∷ behind i) ∙ sym b
 
-record SameBehind (base file : List ℕ) : Type 0 where
+pub record SameBehind (base file : List ℕ) : Type 0 where
   pub long : length file ≡ length base
   pub tail : drop 12 file ≡ drop 12 base
 
-same_tail : (base file : List ℕ) → 12 ≤ length base → Torn 0 12 base file → SameBehind base file
+pub same_tail : (base file : List ℕ) → 12 ≤ length base → Torn 0 12 base file → SameBehind base file
 same_tail base file le t =
     let long : length file ≡ length base = omega (arith, t.no_shorter, t.no_longer, le) in
     record {
@@ -189,12 +241,13 @@ header_none format file rest is =
     let f : Format = format_in file in
     ap (λ (l : List ℕ). is_record f (start f) (drop 8 l)) is ∙ ap (λ (l : List ℕ). is_record f (start f) l) (header_closed format rest) ∙ closed_zeros f (start f) rest
 
-pub calm_none : (stood : List (List ℕ)) (file : List ℕ) → is_newer (take 8 file) ≡ false → begins file ≡ false → IsCalm stood file
-calm_none stood file known none = record { known = known; only = λ there. absurd (cc (there, none)); many = λ there. absurd (cc (there, none)) }
+pub calm_none : (stood : List (List ℕ)) (file : List ℕ) → is_newer (take 8 file) ≡ false → begins file ≡ false → is_headless file ≡ false → IsCalm stood file
+calm_none stood file known none headed = record { known = known; only = λ there. absurd (cc (there, none)); many = λ there. absurd (cc (there, none)); headed = headed }
 
 pub calm_front : (format : Format) (stood : List (List ℕ)) (file rest : List ℕ) → file ≡ preamble format ++ rest → IsCalm stood file
 calm_front format stood file rest is =
     calm_none stood file (ap (λ (l : List ℕ). is_newer (take 8 l)) is ∙ ap (λ (l : List ℕ). is_newer l) (header_magic format rest) ∙ magic_known format) (header_none format file rest is)
+    (closed_headed file (ap (λ (l : List ℕ). size_at (drop 8 l)) is ∙ ap size_at (header_closed format rest) ∙ zero_size rest))
 
 pub calm_in_memory : CalmTears AllOrNone
 calm_in_memory format stood old new calm (inl is) = subst (λ f. IsCalm stood f) (sym is) calm

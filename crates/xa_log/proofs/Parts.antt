@@ -1,5 +1,5 @@
 -- A checkpoint's parts, one behind the other.
-use Rattle.std.proofs.Common.{◌≡◌, ◌≢◌, inl, inr, ⊎_elim, ℕ, zero, suc, ◌+◌, ◌≤◌, Bool, true, false, List, [], ◌∷◌, ◌++◌, length, take, drop, replicate, refl, sym, ◌∙◌, ap, subst, arith, append_assoc, length-append, length-drop, cond, Option, is_some, Result, Err, OnErr}
+use Rattle.std.proofs.Common.{◌≡◌, ◌≢◌, ◌⊎◌, inl, inr, ⊎_elim, ℕ, zero, suc, ◌+◌, ◌≤◌, Bool, true, false, List, [], ◌∷◌, ◌++◌, length, take, drop, replicate, refl, sym, ◌∙◌, ap, subst, arith, append_assoc, length-append, length-drop, cond, Option, is_some, Result, Err, OnErr}
 use Rattle.std.specs.List.{AllByRecursion}
 use Rattle.std.specs.Int.{w32, to_be_bytes}
 use Rattle.xa_disk.specs.Disk.{put, Torn, Only, AllOrNone}
@@ -13,13 +13,16 @@ use Rattle.xa_log.specs.Answers.{FailedPut, PutBecame}
 use Rattle.xa_log.specs.declared.appending.Appended.{Appended}
 use Rattle.xa_log.specs.declared.appending.Appended.TheVariants.{Kept, Refused, Lost, Full}
 use Rattle.xa_log.specs.Pair.{has_log, IsCalm, Behind}
-use Rattle.xa_log.specs.Checkpoint.{behind_front, first_length, IsReady, IsOther, IsQuiet, LeavesOf, LeavesNone, LeavesSealed, LeavesAny, SealTears, Checkpointed}
+use Rattle.std.proofs.lemmas.Bool.{cases_Bool}
+use Rattle.xa_log.specs.Damage.{breaks_off, is_headless}
+use Rattle.xa_log.specs.Checkpoint.{behind_front, first_length, records_bytes, IsComplete, IsReady, IsOther, IsQuiet, LeavesOf, LeavesNone, LeavesSealed, LeavesAny, SealTears, Checkpointed}
 use Rattle.std.proofs.lemmas.List.{take_at}
 use Rattle.xa_log.proofs.Records.{format_magic, length-magic, record_to, bodies_closed, rests_logged}
 use Rattle.xa_log.proofs.Torn.{torn_front, put_within}
 use Rattle.xa_log.proofs.Header.{length-preamble, header_magic, header_split, header_whole, magic_known}
 use Rattle.xa_log.proofs.Pair.{calm_front, header_none}
-use Rattle.xa_log.proofs.Ready.{leaves_by, sealed_rests, seal_leaves, seal_cleared}
+use Rattle.xa_log.proofs.Ready.{leaves_by, sealed_rests, sealed_whole, seal_leaves, seal_whole, seal_cleared}
+use Rattle.xa_log.proofs.Whole.{begun_headed, damaged_headed, whole_file}
 
 -- one call behind another
 pub leaves_then : {D : Type 0} (disks : Ghosts D) (a b c : D) (P Q R : List ℕ → Type 0)
@@ -103,6 +106,17 @@ opened_none format most old new room fits is = record {
   front = ap (λ (l : List ℕ). take 12 l) is ∙ header_whole format (drop 12 old);
 }
 
+cleared_rest : (more : ℕ) (tail : List ℕ) → (1 ≤ more) ⊎ (length tail ≤ 0) → (replicate more 0 ++ tail ≡ []) ⊎ (take 1 (replicate more 0 ++ tail) ≡ 0 ∷ [])
+cleared_rest zero tail (inl some) = absurd (omega arith)
+cleared_rest zero [] (inr none) = inl refl
+cleared_rest zero (b ∷ tail) (inr none) = absurd (omega (arith, none))
+cleared_rest (suc more) tail room = inr refl
+
+-- what stands behind the preamble is as long as the records
+front_length : (format : Format) (bodies : List (List ℕ)) → records_bytes format bodies ≤ length (behind_front format bodies)
+front_length format bodies =
+    omega (arith, length-append (drop 4 (records (start format) bodies)) (0 ∷ 0 ∷ 0 ∷ 0 ∷ []), length-drop 4 (records (start format) bodies))
+
 -- the second's
 pub records_ready : (more : ℕ) (format : Format) (bodies : List (List ℕ)) (mid new : List ℕ) → take 12 mid ≡ preamble format → 12 ≤ length mid
     → AllByRecursion (IsBody format) bodies → 1 ≤ length bodies → new ≡ put mid 12 (behind_front format bodies ++ replicate more 0)
@@ -122,13 +136,28 @@ records_ready more format bodies mid new front long sizes some is =
       refl,
     )
 
+pub records_complete : (more : ℕ) (format : Format) (bodies : List (List ℕ)) (mid new : List ℕ) → take 12 mid ≡ preamble format → 12 ≤ length mid
+    → AllByRecursion (IsBody format) bodies → 1 ≤ length bodies → new ≡ put mid 12 (behind_front format bodies ++ replicate more 0)
+    → (1 ≤ more) ⊎ (length mid ≤ 12 + records_bytes format bodies) → IsComplete format bodies new
+records_complete more format bodies mid new front long sizes some is room =
+    let all : List ℕ = behind_front format bodies ++ replicate more 0 in
+    let tail : List ℕ = drop (12 + length (behind_front format bodies ++ replicate more 0)) mid in
+    let it = records_ready more format bodies mid new front long sizes some is in
+    record {
+      ready = it.0;
+      cleared = subst (λ (l : List ℕ). (l ≡ []) ⊎ (take 1 l ≡ 0 ∷ [])) (sym it.1)
+          (cleared_rest more tail (⊎_elim (λ some. inl some)
+          (λ short. inr (omega (arith, short, length-drop (12 + length all) mid, length-append (behind_front format bodies) (replicate {A = ℕ} more 0), front_length format bodies))) room));
+    }
+
 ready_front : (format : Format) (bodies : List (List ℕ)) (file : List ℕ) → IsReady format bodies file → take 12 file ≡ preamble format
 ready_front format bodies file ready = ap (λ (l : List ℕ). take 12 l) ready.split ∙ header_whole format (behind_front format bodies ++ ready.rest)
 
 -- ---- a log's own bytes are no chance
 
-pub calm_log : (bodies : List (List ℕ)) (file : List ℕ) → is_newer (take 8 file) ≡ false → logged file ≡ bodies → IsCalm bodies file
-calm_log bodies file known is = record { known = known; only = λ there. first (length file) bodies there (long there) is; many = λ there. ap (λ (l : List (List ℕ)). length l) is }
+pub calm_log : (bodies : List (List ℕ)) (file : List ℕ) → is_newer (take 8 file) ≡ false → is_headless file ≡ false → logged file ≡ bodies → IsCalm bodies file
+calm_log bodies file known headed is =
+    record { known = known; only = λ there. first (length file) bodies there (long there) is; many = λ there. ap (λ (l : List (List ℕ)). length l) is; headed = headed }
   where
     long : begins file ≡ true → 1 ≤ length file
     long there = omega (arith, (record_to (format_in file) (start (format_in file)) (drop 8 file) there).whole, length-drop 8 file)
@@ -146,22 +175,23 @@ rests_magic format bodies file r =
     ap (λ (l : List ℕ). take 8 l) (r.split ∙ append_assoc (magic format) (records (start format) bodies) r.rest)
     ∙ take_at (magic format) (records (start format) bodies ++ r.rest) 8 (length-magic format)
 
-pub calm_rests : (format : Format) (bodies : List (List ℕ)) (file : List ℕ) → Rests format bodies file → IsCalm bodies file
-calm_rests format bodies file r =
-    calm_log bodies file (ap (λ (l : List ℕ). is_newer l) (rests_magic format bodies file r) ∙ magic_known format) (rests_logged format bodies file r)
+pub calm_rests : (format : Format) (bodies : List (List ℕ)) (file : List ℕ) → Rests format bodies file → breaks_off format bodies file ≡ false → IsCalm bodies file
+calm_rests format bodies file r whole =
+    calm_log bodies file (ap (λ (l : List ℕ). is_newer l) (rests_magic format bodies file r) ∙ magic_known format) (damaged_headed file (whole_file format bodies file r whole))
+    (rests_logged format bodies file r)
 
 -- what was the current file
 pub others_log : {D : Type 0} (format : Format) (disks : Ghosts D) (most : ℕ) (bodies : List (List ℕ)) (disk : D)
-    → Rests format bodies (disks.seen disk) → length (disks.seen disk) ≤ most → Only (disks.seen disk) (disks.may_leave disk)
+    → Rests format bodies (disks.seen disk) → breaks_off format bodies (disks.seen disk) ≡ false → length (disks.seen disk) ≤ most → Only (disks.seen disk) (disks.may_leave disk)
     → IsOther disks most bodies disk × IsQuiet disks bodies disk
-others_log format disks most bodies disk r fits only = (
+others_log format disks most bodies disk r whole fits only = (
   record {
     fits = fits;
     behind = behind;
     left_fits = λ c left. omega (arith, ap (λ (l : List ℕ). length l) (only c left), fits);
     left_behind = λ c left. subst (λ f. Behind bodies f) (sym (only c left)) behind;
   },
-  record { calm = calm_rests format bodies (disks.seen disk) r; left_calm = λ c left. subst (λ f. IsCalm bodies f) (sym (only c left)) (calm_rests format bodies (disks.seen disk) r) },
+  record { calm = calm_rests format bodies (disks.seen disk) r whole; left_calm = λ c left. subst (λ f. IsCalm bodies f) (sym (only c left)) (calm_rests format bodies (disks.seen disk) r whole) },
 )
   where
     behind : Behind bodies (disks.seen disk)
@@ -180,9 +210,19 @@ seal_log format bodies file ready c torn =
     torn_front 8 4 file c (omega (arith, ready_long format bodies file ready)) torn ∙ ap (λ (l : List ℕ). take 8 l) ready.split ∙ header_magic format (behind_front format bodies ++ ready.rest) in
     ap (λ (o : Option Format). is_some o) (ap (λ (l : List ℕ). format_of l) front ∙ format_magic format)
 
+pub seal_sealed : (format : Format) (bodies : List (List ℕ)) (file : List ℕ) → IsComplete format bodies file → (most : ℕ) (c : List ℕ) → length file ≤ most → Torn 8 4 file c → LeavesSealed most bodies c
+seal_sealed format bodies file it most c fits torn = (
+  seal_leaves format bodies file it.ready most c fits torn,
+  seal_log format bodies file it.ready c torn,
+  seal_whole format bodies file it.ready it.cleared c torn,
+)
+
 module _ {D : Type 0} (format : Format) (disks : Ghosts D)
-    (most : ℕ) (stood bodies : List (List ℕ)) (old mid new : D) (ready : IsReady format bodies (disks.seen mid)) (fits : length (disks.seen mid) ≤ most)
+    (most : ℕ) (stood bodies : List (List ℕ)) (old mid new : D) (complete : IsComplete format bodies (disks.seen mid)) (fits : length (disks.seen mid) ≤ most)
     (durable : Only (disks.seen mid) (disks.may_leave mid)) where
+  abbrev ready : IsReady format bodies (disks.seen mid)
+  ready = complete.ready
+
   abbrev seal : List ℕ
   seal = to_be_bytes w32 (first_length bodies)
 
@@ -197,6 +237,7 @@ module _ {D : Type 0} (format : Format) (disks : Ghosts D)
         subst (λ f. Rests format bodies f) (sym went.0) (sealed_rests format bodies (disks.seen mid) ready),
         omega (arith, ap (λ (l : List ℕ). length l) went.0, whole.no_longer, long, fits),
         went.1,
+        subst (λ f. breaks_off format bodies f ≡ false) (sym went.0) (sealed_whole format bodies (disks.seen mid) ready complete.cleared),
       )
   sealed Refused other went follows =
       let same : disks.seen new ≡ disks.seen mid = seal_cleared format bodies (disks.seen mid) ready went.0 (disks.seen new) went.1 went.2 in
@@ -204,13 +245,26 @@ module _ {D : Type 0} (format : Format) (disks : Ghosts D)
       let now : LeavesNone most format (disks.seen new) = subst (λ f. LeavesNone most format f) (sym same) none in
       inr (others_none format disks most new now (λ c left. subst (λ f. LeavesNone most format f) (sym (went.3 c left)) now))
   sealed Lost other went follows = (
-    seal_leaves format bodies (disks.seen mid) ready most (disks.seen new) fits went.0,
+    seal_sealed format bodies (disks.seen mid) complete most (disks.seen new) fits went.0,
     (λ lucky. lucky format bodies (disks.seen mid) went.1 (disks.seen new) ready went.2 went.3),
-    (λ c left. let x = follows c left in seal_leaves format bodies (disks.seen mid) ready most c fits (subst (λ f. Torn 8 4 f c) (durable x.0 x.1) x.2)),
-    seal_log format bodies (disks.seen mid) ready (disks.seen new) went.0,
-    (λ c left. let x = follows c left in seal_log format bodies (disks.seen mid) ready c (subst (λ f. Torn 8 4 f c) (durable x.0 x.1) x.2)),
+    (λ c left. let x = follows c left in seal_sealed format bodies (disks.seen mid) complete most c fits (subst (λ f. Torn 8 4 f c) (durable x.0 x.1) x.2)),
   )
   sealed Full other went follows = absurd (other refl)
+
+-- what was sealed begins with its first record
+calm_sealed_file : (format : Format) (bodies : List (List ℕ)) (file : List ℕ) → IsReady format bodies file → IsCalm bodies (put file 8 (to_be_bytes w32 (first_length bodies)))
+calm_sealed_file format bodies file ready =
+    let new : List ℕ = put file 8 (to_be_bytes w32 (first_length bodies)) in
+    let r = sealed_rests format bodies file ready in
+    let is = rests_logged format bodies new r in
+    calm_log bodies new (ap (λ (l : List ℕ). is_newer l) (rests_magic format bodies new r) ∙ magic_known format)
+    (elim (cases_Bool (begins new)) [
+      | inl there ↦ begun_headed new there
+      | inr other ↦
+          let none : logged new ≡ [] = bodies_closed (format_in new) (length new) (start (format_in new)) (drop 8 new) other in
+          absurd (omega (arith, ready.some, ap (λ (l : List (List ℕ)). length l) (sym is ∙ none)))
+    ])
+    is
 
 -- ---- a disk in memory
 
@@ -221,7 +275,7 @@ seal_in_memory format bodies old mid new ready first second = after second
     calm_old = none_calm format bodies old (ready_front format bodies old ready)
 
     calm_sealed : mid ≡ put old 8 (to_be_bytes w32 (first_length bodies)) → IsCalm bodies mid
-    calm_sealed is = subst (λ f. IsCalm bodies f) (sym is) (calm_rests format bodies (put old 8 (to_be_bytes w32 (first_length bodies))) (sealed_rests format bodies old ready))
+    calm_sealed is = subst (λ f. IsCalm bodies f) (sym is) (calm_sealed_file format bodies old ready)
 
     torn_mid : FailedPut AllOrNone old 8 (to_be_bytes w32 (first_length bodies)) mid → Torn 8 4 old mid
     torn_mid (inl is) = subst (λ f. Torn 8 4 old f) (sym is) (put_torn old 8 (to_be_bytes w32 (first_length bodies)))

@@ -1,20 +1,22 @@
 -- A log that lacks its first length, and what the seal and its repair make of it.
-use Rattle.std.proofs.Common.{◌≡◌, inl, inr, ⊎_elim, ℕ, ◌+◌, ◌≤◌, ◌<◌, List, [], ◌∷◌, ◌++◌, length, take, drop, refl, sym, ◌∙◌, ap, arith, append_assoc, length-append, length-drop, take-append-drop, Result, Ok, Err, OnOk, OnErr}
+use Rattle.std.proofs.Common.{◌≡◌, ◌⊎◌, inl, inr, ⊎_elim, ℕ, ◌+◌, ◌≤◌, ◌<◌, true, false, List, [], ◌∷◌, ◌++◌, length, take, drop, refl, sym, ◌∙◌, ap, arith, append_assoc, length-append, length-drop, take-append-drop, Option, is_some, Result, Ok, Err, OnOk, OnErr}
 use Rattle.std.specs.Int.{w32, to_be_bytes}
-use Rattle.std.proofs.lemmas.List.{ext_get_or, get_or-drop}
+use Rattle.std.proofs.lemmas.List.{drop_at, ext_get_or, get_or-drop}
 use Rattle.xa_disk.specs.Disk.{put, Torn}
 use Rattle.xa_disk.specs.Time.{TimePasses, LeavesOnly}
 use Rattle.xa_disk.specs.declared.disk.Disk.{Ghosts}
 use Rattle.xa_disk.specs.Images.{put_torn}
 use Rattle.xa_log.specs.declared.format.Format.{Format}
-use Rattle.xa_log.specs.Chain.{magic, start, preamble, last, text, records, headed, Rests}
+use Rattle.xa_log.specs.Chain.{magic, start, preamble, last, logged, size_at, text, digest, format_of, record_of, records, headed, Rests}
+use Rattle.xa_log.specs.Damage.{breaks_off, goes_on, is_damaged}
 use Rattle.xa_log.specs.Answers.{FailedPut}
-use Rattle.xa_log.specs.Pair.{IsCalm, Behind, CalmTears}
+use Rattle.xa_log.specs.Pair.{has_log, IsCalm, Behind, CalmTears}
 use Rattle.xa_log.specs.Checkpoint.{behind_front, first_length, IsReady, IsOther, LeavesOf}
-use Rattle.xa_log.proofs.Records.{closed_zeros, rests_logged}
+use Rattle.xa_log.proofs.Records.{closed_zeros, format_front, format_magic, length-record_of, length-text, rests_logged}
 use Rattle.xa_log.proofs.Torn.{torn_front, put_within}
 use Rattle.xa_log.proofs.Header.{length-preamble, header_magic, header_rest, put_header}
 use Rattle.xa_log.proofs.Pair.{calm_front, calm_logged, behind_torn}
+use Rattle.xa_log.proofs.Whole.{behind_closing, closing_on, none_damaged, not_broken, zero_size}
 
 pub map_ok : {T E : Type 0} (P Q : Type 0) (r : Result T E) → (P → Q) → OnOk r P → OnOk r Q
 map_ok P Q (Ok x) f p = f p
@@ -122,6 +124,48 @@ module _ (format : Format) (bodies : List (List ℕ)) (file : List ℕ) (ready :
 
   pub seal_leaves : (most : ℕ) (c : List ℕ) → length file ≤ most → Torn 8 4 file c → LeavesOf most bodies c
   seal_leaves most c fits t = record { fits = omega (arith, t.no_longer, long); reads = calm_logged bodies c (torn_behind c t) }
+
+  pub sealed_whole : (ready.rest ≡ []) ⊎ (take 1 ready.rest ≡ 0 ∷ []) → breaks_off format bodies (put file 8 (to_be_bytes w32 (first_length bodies))) ≡ false
+  sealed_whole cleared = behind_closing format bodies sealed ready.rest sealed_is cleared
+
+  text_long : 12 ≤ length (text format bodies)
+  text_long = by bodies ready.some
+    where
+      by : (bs : List (List ℕ)) → 1 ≤ length bs → 12 ≤ length (text format bs)
+      by [] some = absurd (omega arith)
+      by (b ∷ bs) some = omega (arith, length-text format (b ∷ bs), length-append (record_of (start format) b) (records (digest (start format) b) bs), length-record_of (start format) b)
+
+  -- whatever is left of a torn seal, without chance its log doesn't break off
+  pub seal_whole : (ready.rest ≡ []) ⊎ (take 1 ready.rest ≡ 0 ∷ []) → (c : List ℕ) → Torn 8 4 file c → IsCalm bodies c → is_damaged c ≡ false
+  unfolding is_damaged breaks_off
+  seal_whole cleared c t calm = ⊎_elim its (λ none. none_damaged c log calm.headed none) (calm_logged bodies c (torn_behind c t) calm)
+    where
+      whole : Torn 8 4 file (put file 8 (to_be_bytes w32 (first_length bodies)))
+      whole = put_torn file 8 (to_be_bytes w32 (first_length bodies))
+
+      n : ℕ
+      n = length (text format bodies)
+
+      same : length c ≡ length sealed
+      same = omega (arith, whole.no_shorter, whole.no_longer, t.no_shorter, t.no_longer, long)
+
+      tail : drop n c ≡ drop n sealed
+      tail = ext_get_or 0 (drop n c) (drop n sealed) (omega (arith, same, length-drop n c, length-drop n sealed))
+          (λ i lt.
+          let within : n + i < length file = omega (arith, lt, same, length-drop n c, whole.no_longer, long) in
+          get_or-drop n c i 0 ∙ t.above (n + i) within (omega (arith, text_long)) ∙ sym (whole.above (n + i) within (omega (arith, text_long))) ∙ sym (get_or-drop n sealed i 0))
+
+      front : take 8 c ≡ magic format
+      front = torn_front 8 4 file c (omega (arith, long)) t ∙ ap (λ (l : List ℕ). take 8 l) ready.split ∙ header_magic format behind
+
+      log : has_log c ≡ true
+      log = ap (λ (o : Option Format). is_some o) (ap (λ (l : List ℕ). format_of l) front ∙ format_magic format)
+
+      its : logged c ≡ bodies → is_damaged c ≡ false
+      its is =
+          let behind : drop n c ≡ 0 ∷ 0 ∷ 0 ∷ 0 ∷ ready.rest = tail ∙ ap (λ (l : List ℕ). drop n l) sealed_is ∙ drop_at (text format bodies) (0 ∷ 0 ∷ 0 ∷ 0 ∷ ready.rest) n refl in
+          (λ i. breaks_off (format_front format c front i) (is i) c)
+          ∙ not_broken format bodies c (ap size_at behind ∙ zero_size ready.rest) (ap goes_on behind ∙ closing_on ready.rest cleared)
 
   -- the repair gives the file back
   pub seal_cleared : (mid new : List ℕ) → Torn 8 4 file mid → new ≡ put mid 8 (0 ∷ 0 ∷ 0 ∷ 0 ∷ []) → new ≡ file

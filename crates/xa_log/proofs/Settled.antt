@@ -8,6 +8,7 @@ use Rattle.xa_log.specs.Ahead.{ready_for, IsKnown}
 use Rattle.xa_log.specs.Answers.{LeftWritten, PutAheadBecame}
 use Rattle.xa_log.specs.Buffer.{KeepsRoom}
 use Rattle.xa_log.specs.Calls.{AppendsAhead}
+use Rattle.xa_log.specs.Damage.{AreAppended}
 use Rattle.xa_log.specs.Group.{as_one, first_of_group}
 use Rattle.xa_log.specs.Stands.{Answers, Moves, Renumbers, Stands}
 use Rattle.xa_log.specs.Written.{AppendsGroup, HasWritten, range_of, ready_range_of}
@@ -81,13 +82,13 @@ module _ {D : Type 0} (disks : Ghosts D)
   room = (room_of group h.some old.end w.to h.to (ready_for old (as_one group)) old.log_bytes h.fits, log_bytes, format)
 
   -- the rest of what is said, with these parts of it
-  with_parts : (disks.honest → (stand : List (List ℕ)) → Stands disks stand old → Answers disks o stand group new) → Moves o (as_one group) old new
+  with_parts : (disks.honest → (stand : List (List ℕ)) → Stands disks stand old → AreAppended stand group → Answers disks o stand group new) → Moves o (as_one group) old new
       → Renumbers o (first_of_group group) old new → (disks.honest → IsKnown disks old → IsKnown disks new) → AppendsGroup disks group o old new
   with_parts answer moves numbers known = record {
     answer = answer;
     any_moment = λ honest stand s. range_moments disks stand group old s (only_now old.disk) h.sizes new.disk (ready_for old (as_one group)) w.to (ready_range_of old group)
         (length-closed_by (ready_for old (as_one group)) old.digest group) h.to h.fits (time honest);
-    pair = λ honest stand stood p. appends_group disks stand group stood old new p o (answer honest stand p.current) other on_first log_bytes;
+    pair = λ honest stand stood p appended. appends_group disks stand group stood old new p o (answer honest stand p.current appended) other on_first log_bytes;
     moves = moves;
     numbers = numbers;
     calls = settles.calls;
@@ -106,7 +107,7 @@ module _ {D : Type 0} (disks : Ghosts D)
       let far : new.known ≡ max old.known (old.end + 40 + as_one group) = known ∙ (λ i. max (h.known.0 i) (ends group h.some old.end w.to h.to i)) in
       let lost : new.lost ≡ old.lost = alive ∙ sym h.alive in
       with_parts
-      (λ honest stand s. answers_kept disks stand group (ready_for old (as_one group)) old new tears_torn s h.some h.sizes room o is (went honest) at (digest ∙ h.digest) (number ∙ h.number) lost)
+      (λ honest stand s appended. answers_kept disks stand group (ready_for old (as_one group)) old new tears_torn s h.some h.sizes appended room o is (went honest) at (digest ∙ h.digest) (number ∙ h.number) lost)
       (subst (λ x. Moves x (as_one group) old new) (sym is) (at, format, lost, far, other_known))
       (subst (λ x. Renumbers x (first_of_group group) old new) (sym is) (number ∙ h.number))
       (λ honest k. known_group disks tears_torn group (ready_for old (as_one group)) old new other other_known o (went honest) k h.some is far)
@@ -135,7 +136,7 @@ module _ {D : Type 0} (disks : Ghosts D)
     settled_refused is alive =
         let lost : new.lost ≡ old.lost = alive ∙ sym h.alive in
         with_parts
-        (λ honest stand s. answers_refused disks stand group (ready_for old (as_one group)) old new tears_torn s h.some h.sizes room o is settles.not_full (went honest) end digest number lost)
+        (λ honest stand s appended. answers_refused disks stand group (ready_for old (as_one group)) old new tears_torn s h.some h.sizes appended room o is settles.not_full (went honest) end digest number lost)
         (subst (λ x. Moves x (as_one group) old new) (sym (refused is)) (end, format, digest, lost, far, other_known))
         (subst (λ x. Renumbers x (first_of_group group) old new) (sym (refused is)) number)
         known
@@ -147,7 +148,7 @@ module _ {D : Type 0} (disks : Ghosts D)
     pub settled_lost : (o ≡ Lost) ⊎ (o ≡ Full) → new.lost ≡ true → AppendsGroup disks group o old new
     settled_lost is lost =
         with_parts
-        (λ honest stand s. answers_lost disks stand group (ready_for old (as_one group)) old new tears_torn s h.some h.sizes room o (lost_or is) (went honest) lost (time honest).follows)
+        (λ honest stand s appended. answers_lost disks stand group (ready_for old (as_one group)) old new tears_torn s h.some h.sizes appended room o (lost_or is) (went honest) lost (time honest).follows)
         (subst (λ x. Moves x (as_one group) old new) (sym (lost_or is)) (end, format, digest, lost, far, other_known))
         (subst (λ x. Renumbers x (first_of_group group) old new) (sym (lost_or is)) number)
         known

@@ -12,9 +12,9 @@ use Rattle.xa_log.specs.Checkpoint.{LeavesOf, SealTears}
 use Rattle.xa_log.specs.Laws.{IsLogOf}
 use Rattle.xa_log.specs.Stands.{LeavesLog}
 use Rattle.xa_log.specs.TwoFiles.{Pair, MayStandPair, first_of, second_of}
-use Rattle.xa_log.specs.LogStates.{LogState, Whole, LostAppend, LostCheckpoint, IsIn, MayFind, beside, LostTears, BesideTears, IsCalmBeside, LeavesCurrent, IsWithoutChance, LeavesBoth, LooksTo, LeftByLook}
+use Rattle.xa_log.specs.LogStates.{LogState, Whole, LostAppend, LostCheckpoint, IsIn, MayFind, beside, LostTears, BesideTears, IsCalmBeside, LeavesCurrent, LeavesBeside, IsWithoutChance, LeavesBoth, LooksTo, LeftByLook}
 use Rattle.xa_log.proofs.Again.{left_log}
-use Rattle.xa_log.proofs.Still.{left_other, left_sealed, pair_reads, may_stand_reads, may_seal_reads, fault_order, logged_order}
+use Rattle.xa_log.proofs.Still.{left_other, left_sealed, fault_order, logged_order}
 use Rattle.xa_log.proofs.Which.{behind_law, pair_law, append_law, seal_law}
 
 -- what is found of two files, in the order of the current one and the other, and in that of the two
@@ -30,7 +30,7 @@ in_two may_leave true d o first second one two = (one, two)
 in_two may_leave false d o first second one two = (two, one)
 
 log_of : (most : ℕ) (format : Format) (bodies : List (List ℕ)) (c : List ℕ) → LeavesLog most format bodies c → IsLogOf most bodies c
-log_of most format bodies c l = record { format = format; fits = l.fits; rests = l.rests }
+log_of most format bodies c l = record { format = format; fits = l.fits; rests = l.rests; whole = l.whole }
 
 -- ---- images
 
@@ -44,13 +44,13 @@ module _ {D : Type 0} (disks : Ghosts D) (log : LogView D) where
   left_current (LostAppend bodies group stood) p c now = p.current.left_is c now
   left_current (LostCheckpoint bodies fresh) p c now = left_sealed disks log bodies fresh p c now
 
-  left_beside : (state : LogState) → IsIn disks state log → (c : List ℕ) → disks.may_leave log.other c → LeavesOf log.log_bytes (beside state) c
+  left_beside : (state : LogState) → IsIn disks state log → (c : List ℕ) → disks.may_leave log.other c → LeavesBeside state log.log_bytes c
   left_beside (Whole bodies stood) p c now = left_other disks log stood p.other c now
   left_beside (LostAppend bodies group stood) p c now = left_other disks log stood p.other c now
   left_beside (LostCheckpoint bodies fresh) p c now = p.left c now
 
   opens_both : (state : LogState) → IsIn disks state log → (current other : List ℕ) → LeavesCurrent state log.log_bytes log.format current
-      → LeavesOf log.log_bytes (beside state) other → IsWithoutChance state log.format current other
+      → LeavesBeside state log.log_bytes other → IsWithoutChance state log.format current other
       → (fault_pair log.log_bytes log.on_first current other ≡ None) × MayFind state (logged_of log.on_first current other)
   opens_both (Whole bodies stood) p current other l leaves plain =
       pair_law log.log_bytes log.on_first bodies stood current other (log_of log.log_bytes log.format bodies current l) leaves plain.1 p.older
@@ -96,40 +96,40 @@ module _ {D : Type 0} (disks : Ghosts D) (log : LogView D) where
   calm_beside : (state : LogState) → (BesideTears disks.tears state → IsCalm (beside state) (disks.seen log.other)) → IsCalmBeside disks state log → IsCalm (beside state) (disks.seen log.other)
   calm_beside state on calm = ⊎_elim on (λ q. q.calm) calm
 
-  -- a read is taken for a log, whatever it finds
-  pub state_reads : (state : LogState) → IsIn disks state log → IsCalmBeside disks state log
-      → fault_pair log.log_bytes log.on_first (disks.seen log.disk) (disks.seen log.other) ≡ None
-  state_reads (Whole bodies stood) p calm = pair_reads disks log bodies stood p calm
-  state_reads (LostAppend bodies group stood) p calm = may_stand_reads disks log bodies group stood p calm
-  state_reads (LostCheckpoint bodies fresh) p calm = may_seal_reads disks log bodies fresh p calm
-
   read_with : (bodies group stood : List (List ℕ)) → (p : MayStandPair disks bodies group stood log) → IsCalm stood (disks.seen log.other)
-      → IsFirstPart log.format bodies group (disks.seen log.disk) → MayFind (LostAppend bodies group stood) (logged_of log.on_first (disks.seen log.disk) (disks.seen log.other))
-  read_with bodies group stood p calm part = record {
-    many = part.many;
-    within = part.within;
-    is = (pair_law log.log_bytes log.on_first (bodies ++ take part.many group) stood (disks.seen log.disk) (disks.seen log.other)
-        (record { format = log.format; fits = p.current.seen_is.fits; rests = part.rests }) (behind_law log.log_bytes stood (disks.seen log.other) p.other.fits p.other.behind) calm (p.older part.many)).1;
-  }
+      → IsFirstPart log.format bodies group (disks.seen log.disk)
+      → (fault_pair log.log_bytes log.on_first (disks.seen log.disk) (disks.seen log.other) ≡ None)
+      × MayFind (LostAppend bodies group stood) (logged_of log.on_first (disks.seen log.disk) (disks.seen log.other))
+  read_with bodies group stood p calm part =
+      let it = pair_law log.log_bytes log.on_first (bodies ++ take part.many group) stood (disks.seen log.disk) (disks.seen log.other)
+      (record { format = log.format; fits = p.current.seen_is.fits; rests = part.rests; whole = part.whole })
+      (behind_law log.log_bytes stood (disks.seen log.other) p.other.fits p.other.behind) calm (p.older part.many) in
+      (it.0, record { many = part.many; within = part.within; is = it.1 })
 
-  state_finds : (state : LogState) → IsIn disks state log → LostTears disks.tears state → IsCalmBeside disks state log
-      → MayFind state (logged_of log.on_first (disks.seen log.disk) (disks.seen log.other))
-  state_finds (Whole bodies stood) p lucky calm =
-      (pair_law log.log_bytes log.on_first bodies stood (disks.seen log.disk) (disks.seen log.other)
-      (record { format = log.format; fits = p.current.fits; rests = p.current.file })
-      (behind_law log.log_bytes stood (disks.seen log.other) p.other.fits p.other.behind) (calm_beside (Whole bodies stood) p.calm_on calm) p.older).1
-  state_finds (LostAppend bodies group stood) p lucky calm =
+  state_read : (state : LogState) → IsIn disks state log → LostTears disks.tears state → IsCalmBeside disks state log
+      → (fault_pair log.log_bytes log.on_first (disks.seen log.disk) (disks.seen log.other) ≡ None)
+      × MayFind state (logged_of log.on_first (disks.seen log.disk) (disks.seen log.other))
+  state_read (Whole bodies stood) p lucky calm =
+      pair_law log.log_bytes log.on_first bodies stood (disks.seen log.disk) (disks.seen log.other)
+      (record { format = log.format; fits = p.current.fits; rests = p.current.file; whole = p.current.whole })
+      (behind_law log.log_bytes stood (disks.seen log.other) p.other.fits p.other.behind) (calm_beside (Whole bodies stood) p.calm_on calm) p.older
+  state_read (LostAppend bodies group stood) p lucky calm =
       read_with bodies group stood p (calm_beside (LostAppend bodies group stood) p.calm_on calm) (p.current.seen_on lucky)
-  state_finds (LostCheckpoint bodies fresh) p lucky calm =
-      (seal_law log.log_bytes log.on_first bodies fresh (disks.seen log.disk) (disks.seen log.other)
-      (record { format = log.format; fits = p.fits; rests = p.file }) p.other (calm_beside (LostCheckpoint bodies fresh) p.calm_on calm) p.above).1
+  state_read (LostCheckpoint bodies fresh) p lucky calm =
+      seal_law log.log_bytes log.on_first bodies fresh (disks.seen log.disk) (disks.seen log.other)
+      (record { format = log.format; fits = p.fits; rests = p.file; whole = p.whole }) p.other (calm_beside (LostCheckpoint bodies fresh) p.calm_on calm) p.above
+
+  -- a read is taken for a log, if nothing was left to chance
+  pub state_reads : (state : LogState) → IsIn disks state log → LostTears disks.tears state → IsCalmBeside disks state log
+      → fault_pair log.log_bytes log.on_first (disks.seen log.disk) (disks.seen log.other) ≡ None
+  state_reads state is lucky calm = (state_read state is lucky calm).0
 
   -- what a read gives of the two files is a log, of what a look may find
   pub reads_both : (state : LogState) → IsIn disks state log → LostTears disks.tears state → IsCalmBeside disks state log
       → (pair_fault log.log_bytes (disks.seen (first_of log)) (disks.seen (second_of log)) ≡ None) × MayFind state (logged_pair (disks.seen (first_of log)) (disks.seen (second_of log)))
   reads_both state is lucky calm = (
-    fault_order disks.seen log.log_bytes log.on_first log.disk log.other ∙ state_reads state is calm,
-    subst (λ found. MayFind state found) (logged_order disks.seen log.on_first log.disk log.other) (state_finds state is lucky calm),
+    fault_order disks.seen log.log_bytes log.on_first log.disk log.other ∙ state_reads state is lucky calm,
+    subst (λ found. MayFind state found) (logged_order disks.seen log.on_first log.disk log.other) (state_read state is lucky calm).1,
   )
 
 -- ---- the premises on a disk's failed writes, whatever the state

@@ -7,20 +7,23 @@ use Rattle.xa_log.specs.LogView.{LogView}
 use Rattle.xa_log.specs.declared.fault.OpenFault.{OpenFault}
 use Rattle.xa_log.specs.declared.fault.OpenFault.TheVariants.{Device, Memory}
 use Rattle.xa_log.specs.Chain.{start, last, text, Rests, logged}
+use Rattle.xa_log.specs.Damage.{breaks_off}
 use Rattle.xa_log.specs.Group.{IsFirstPart}
 use Rattle.xa_log.specs.Reading.{is_newer, fault_of}
 use Rattle.xa_log.specs.Pair.{beats, has_log, Behind, IsCalm, CalmTears, pair_fault, fault_pair, logged_pair, logged_of}
-use Rattle.xa_log.specs.Checkpoint.{IsOther, IsQuiet, LeavesOf, SealTears}
+use Rattle.xa_log.specs.Checkpoint.{IsOther, IsQuiet, LeavesOf, LeavesSealed}
 use Rattle.xa_log.specs.Ahead.{IsKnown}
 use Rattle.xa_log.specs.Stands.{Stands, MayStand, Leaves, LeavesLog, Untouched}
 use Rattle.xa_log.specs.TwoFiles.{Pair, MayStandPair, MaySeal}
 use Rattle.xa_log.specs.LogStates.{LogState, Whole, LostAppend, LostCheckpoint, IsIn, KeepsAll}
 use Rattle.xa_log.proofs.Again.{no_fault, rests_front, fits_of}
-use Rattle.xa_log.proofs.Pair.{no_pair_fault, calm_logged}
-use Rattle.xa_log.proofs.Choosing.{no_fault_log, no_fault_newer}
+use Rattle.xa_log.proofs.Pair.{calm_logged}
 
 module _ {D : Type 0} (disks : Ghosts D) (old new : LogView D) (u : Untouched old new)
     (same : disks.seen new.disk ≡ disks.seen old.disk) (left : (c : List ℕ) → disks.may_leave new.disk c → disks.may_leave old.disk c) (same_other : disks.seen new.other ≡ disks.seen old.other) (left_other : (c : List ℕ) → disks.may_leave new.other c → disks.may_leave old.other c) where
+  whole_kept : (bodies : List (List ℕ)) → breaks_off old.format bodies (disks.seen old.disk) ≡ false → breaks_off new.format bodies (disks.seen new.disk) ≡ false
+  whole_kept bodies whole = subst (λ f. breaks_off new.format bodies f ≡ false) (sym same) (subst (λ k. breaks_off k bodies (disks.seen old.disk) ≡ false) (sym u.format) whole)
+
   stands_kept : (bodies : List (List ℕ)) → Stands disks bodies old → Stands disks bodies new
   stands_kept bodies s = record {
     file = subst (λ f. Rests new.format bodies f) (sym same) (subst (λ k. Rests k bodies (disks.seen old.disk)) (sym u.format) s.file);
@@ -30,6 +33,7 @@ module _ {D : Type 0} (disks : Ghosts D) (old new : LogView D) (u : Untouched ol
     number = u.number ∙ s.number;
     durable = λ c now. s.durable c (left c now) ∙ sym same;
     alive = u.lost ∙ s.alive;
+    whole = whole_kept bodies s.whole;
   }
 
   other_kept : (stood : List (List ℕ)) → IsOther disks old.log_bytes stood old.other → IsOther disks new.log_bytes stood new.other
@@ -77,11 +81,10 @@ module _ {D : Type 0} (disks : Ghosts D) (old new : LogView D) (u : Untouched ol
     file = subst (λ f. Rests new.format bodies f) (sym same) (subst (λ k. Rests k bodies (disks.seen old.disk)) (sym u.format) p.file);
     fits = omega (arith, ap (λ (l : List ℕ). length l) same, u.log_bytes, p.fits);
     durable = λ c now. p.durable c (left c now) ∙ sym same;
-    other = subst (λ m. LeavesOf m fresh (disks.seen new.other)) (sym u.log_bytes) (subst (λ f. LeavesOf old.log_bytes fresh f) (sym same_other) p.other);
-    front = ap (λ (f : List ℕ). has_log f) same_other ∙ p.front;
+    whole = whole_kept bodies p.whole;
+    other = subst (λ m. LeavesSealed m fresh (disks.seen new.other)) (sym u.log_bytes) (subst (λ f. LeavesSealed old.log_bytes fresh f) (sym same_other) p.other);
     calm_on = λ lucky. calm_kept fresh (p.calm_on lucky);
-    left = λ c now. subst (λ m. LeavesOf m fresh c) (sym u.log_bytes) (p.left c (left_other c now));
-    left_front = λ c now. p.left_front c (left_other c now);
+    left = λ c now. subst (λ m. LeavesSealed m fresh c) (sym u.log_bytes) (p.left c (left_other c now));
     above = p.above;
     lost = u.lost ∙ p.lost;
   }
@@ -109,29 +112,7 @@ module _ {D : Type 0} (disks : Ghosts D) (log : LogView D) where
   pub left_sealed : (bodies fresh : List (List ℕ)) → MaySeal disks bodies fresh log → (c : List ℕ) → disks.may_leave log.disk c → LeavesLog log.log_bytes log.format bodies c
   left_sealed bodies fresh p c now =
       subst (λ f. LeavesLog log.log_bytes log.format bodies f) (sym (p.durable c now))
-      (record { fits = p.fits; opens = no_fault log.log_bytes log.format (disks.seen log.disk) bodies p.fits (rests_front log.format bodies (disks.seen log.disk) p.file); rests = p.file })
-
--- ---- two files that are read again
-
-module _ (most : ℕ) (first : Bool) (current other : List ℕ) (opens : fault_of most current ≡ None) (short : length other ≤ most) where
-  pub reads_well : is_newer (take 8 other) ≡ false → fault_pair most first current other ≡ None
-  reads_well known = no_pair_fault most (logged current) current other (no_fault_log most current opens) (no_fault_newer most current opens) (fits_of most current opens) refl short known first
-
-module _ {D : Type 0} (disks : Ghosts D) (log : LogView D) where
-  pub pair_reads : (bodies stood : List (List ℕ)) → Pair disks bodies stood log → CalmTears disks.tears ⊎ IsQuiet disks stood log.other → fault_pair log.log_bytes log.on_first (disks.seen log.disk) (disks.seen log.other) ≡ None
-  pair_reads bodies stood p calm =
-      let s = p.current in
-      reads_well log.log_bytes log.on_first (disks.seen log.disk) (disks.seen log.other) (no_fault log.log_bytes log.format (disks.seen log.disk) bodies s.fits (rests_front log.format bodies (disks.seen log.disk) s.file)) p.other.fits
-      (⊎_elim (λ lucky. (p.calm_on lucky).known) (λ q. q.calm.known) calm)
-
-  pub may_stand_reads : (bodies group stood : List (List ℕ)) → MayStandPair disks bodies group stood log → CalmTears disks.tears ⊎ IsQuiet disks stood log.other → fault_pair log.log_bytes log.on_first (disks.seen log.disk) (disks.seen log.other) ≡ None
-  may_stand_reads bodies group stood p calm =
-      reads_well log.log_bytes log.on_first (disks.seen log.disk) (disks.seen log.other) p.current.seen_is.opens p.other.fits (⊎_elim (λ lucky. (p.calm_on lucky).known) (λ q. q.calm.known) calm)
-
-  pub may_seal_reads : (bodies fresh : List (List ℕ)) → MaySeal disks bodies fresh log → SealTears disks.tears ⊎ IsQuiet disks fresh log.other → fault_pair log.log_bytes log.on_first (disks.seen log.disk) (disks.seen log.other) ≡ None
-  may_seal_reads bodies fresh p calm =
-      reads_well log.log_bytes log.on_first (disks.seen log.disk) (disks.seen log.other) (no_fault log.log_bytes log.format (disks.seen log.disk) bodies p.fits (rests_front log.format bodies (disks.seen log.disk) p.file)) p.other.fits
-      (⊎_elim (λ lucky. (p.calm_on lucky).known) (λ q. q.calm.known) calm)
+      (record { fits = p.fits; opens = no_fault log.log_bytes log.format (disks.seen log.disk) bodies p.fits (rests_front log.format bodies (disks.seen log.disk) p.file); rests = p.file; whole = p.whole })
 
 -- ---- what a look leaves
 

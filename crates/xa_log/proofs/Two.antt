@@ -7,7 +7,8 @@ use Rattle.xa_disk.specs.declared.disk.Disk.{Ghosts}
 use Rattle.xa_log.specs.declared.format.Format.{Format}
 use Rattle.xa_log.specs.Chain.{newest, start, last, text, Rests}
 use Rattle.xa_log.specs.Pair.{generation, beats, IsCalm}
-use Rattle.xa_log.specs.Checkpoint.{IsOther, IsQuiet, LeavesOf, LeavesAny, Checkpointed}
+use Rattle.xa_log.specs.Checkpoint.{IsOther, IsQuiet, LeavesOf, LeavesSealed, LeavesAny, Checkpointed}
+use Rattle.xa_log.specs.Damage.{breaks_off}
 use Rattle.xa_log.specs.Stands.{Stands}
 use Rattle.xa_log.specs.TwoFiles.{Pair, Checkpoints, written}
 use Rattle.xa_log.specs.declared.appending.Appended.{Appended}
@@ -41,7 +42,7 @@ pub replaced : {D : Type 0} (disks : Ghosts D) (bodies stood : List (List ℕ)) 
     → Pair disks fresh bodies new × IsQuiet disks bodies new.other
 replaced disks bodies stood old new s format fresh less o d is left disk other most form end digest number lost =
     let now : Checkpointed disks Kept old.log_bytes format stood fresh old.other d = subst (λ x. Checkpointed disks x old.log_bytes format stood fresh old.other d) is left in
-    let was = others_log old.format disks old.log_bytes bodies old.disk s.file s.fits s.durable in
+    let was = others_log old.format disks old.log_bytes bodies old.disk s.file s.whole s.fits s.durable in
     let same : IsOther disks new.log_bytes bodies new.other =
     subst (λ m. IsOther disks m bodies new.other) (sym most) (subst (λ x. IsOther disks old.log_bytes bodies x) (sym other) was.0) in
     let quiet : IsQuiet disks bodies new.other = subst (λ x. IsQuiet disks bodies x) (sym other) was.1 in (
@@ -54,6 +55,7 @@ replaced disks bodies stood old new s format fresh less o d is left disk other m
           number = number;
           durable = subst (λ x. Only (disks.seen x) (disks.may_leave x)) (sym disk) now.2;
           alive = lost ∙ s.alive;
+          whole = subst (λ k. breaks_off k fresh (disks.seen new.disk) ≡ false) (sym form) (subst (λ x. breaks_off format fresh (disks.seen x) ≡ false) (sym disk) now.3);
         };
         other = same;
         calm_on = λ lucky. quiet.calm;
@@ -89,6 +91,9 @@ module _ {D : Type 0} (disks : Ghosts D)
   rests_still : new.disk ≡ old.disk → new.format ≡ old.format → Rests new.format bodies (disks.seen new.disk)
   rests_still disk form = subst (λ k. Rests k bodies (disks.seen new.disk)) (sym form) (subst (λ x. Rests old.format bodies (disks.seen x)) (sym disk) p.current.file)
 
+  whole_still : new.disk ≡ old.disk → new.format ≡ old.format → breaks_off new.format bodies (disks.seen new.disk) ≡ false
+  whole_still disk form = subst (λ k. breaks_off k bodies (disks.seen new.disk) ≡ false) (sym form) (subst (λ x. breaks_off old.format bodies (disks.seen x) ≡ false) (sym disk) p.current.whole)
+
   stays : new.disk ≡ old.disk → new.log_bytes ≡ old.log_bytes → new.format ≡ old.format → new.end ≡ old.end → new.digest ≡ old.digest
       → new.generation ≡ old.generation → new.lost ≡ old.lost → Stands disks bodies new
   stays disk most form end digest number lost = record {
@@ -99,6 +104,7 @@ module _ {D : Type 0} (disks : Ghosts D)
     number = number ∙ p.current.number;
     durable = subst (λ x. Only (disks.seen x) (disks.may_leave x)) (sym disk) p.current.durable;
     alive = lost ∙ p.current.alive;
+    whole = whole_still disk form;
   }
 
   pub refused_pair : (format : Format) (fresh : List (List ℕ)) (o : Appended) → (o ≡ Refused) ⊎ (o ≡ Full) → o ≢ Full → Left format o fresh new.other
@@ -126,11 +132,10 @@ module _ {D : Type 0} (disks : Ghosts D)
         file = rests_still disk form;
         fits = subst (λ m. length (disks.seen new.disk) ≤ m) (sym most) (subst (λ x. length (disks.seen x) ≤ old.log_bytes) (sym disk) p.current.fits);
         durable = subst (λ x. Only (disks.seen x) (disks.may_leave x)) (sym disk) p.current.durable;
-        other = subst (λ m. LeavesOf m fresh (disks.seen new.other)) (sym most) now.0;
+        whole = whole_still disk form;
+        other = subst (λ m. LeavesSealed m fresh (disks.seen new.other)) (sym most) now.0;
         calm_on = now.1;
-        front = now.3;
-        left = λ c l. subst (λ m. LeavesOf m fresh c) (sym most) (now.2 c l);
-        left_front = now.4;
+        left = λ c l. subst (λ m. LeavesSealed m fresh c) (sym most) (now.2 c l);
         above = above fresh less;
         lost = lost;
       })

@@ -7,13 +7,15 @@ use Rattle.xa_log.specs.declared.format.Format.TheVariants.{One, Two}
 use Rattle.xa_log.specs.Chain.{Rests, format_of, logged}
 use Rattle.xa_log.specs.Group.{IsFirstPart}
 use Rattle.xa_log.specs.Reading.{is_newer}
-use Rattle.xa_log.specs.Pair.{beats, has_log, on_first, logged_of}
+use Rattle.xa_log.specs.Damage.{is_damaged}
+use Rattle.xa_log.specs.Pair.{beats, fault_pair, has_log, on_first, logged_of}
 use Rattle.xa_log.specs.Laws.{IsLogOf, BehindLaw, PairLaw, AppendLaw, HeaderLaw, SealLaw, StrayLaw}
 use Rattle.xa_log.proofs.Records.{format_magic, rests_logged}
 use Rattle.xa_log.proofs.Header.{magic_known}
-use Rattle.xa_log.proofs.Pair.{calm_logged, no_pair_fault, pair_log, beats_read, beats_nil, beats_above}
+use Rattle.xa_log.proofs.Pair.{calm_logged, wins_no_fault, alone_no_fault, pair_log, beats_read, beats_nil, beats_above}
 use Rattle.xa_log.proofs.Grouped.{beats_group}
 use Rattle.xa_log.proofs.Parts.{none_calm, none_of, rests_magic}
+use Rattle.xa_log.proofs.Whole.{damaged_headed, whole_file}
 
 has : (most : ℕ) (bodies : List (List ℕ)) (file : List ℕ) → IsLogOf most bodies file → has_log file ≡ true
 has most bodies file l = ap (λ (o : Option Format). is_some o) (ap (λ (x : List ℕ). format_of x) (rests_magic l.format bodies file l.rests) ∙ format_magic l.format)
@@ -24,9 +26,13 @@ known most bodies file l = ap (λ (x : List ℕ). is_newer x) (rests_magic l.for
 its : (most : ℕ) (bodies : List (List ℕ)) (file : List ℕ) → IsLogOf most bodies file → logged file ≡ bodies
 its most bodies file l = rests_logged l.format bodies file l.rests
 
+its_whole : (most : ℕ) (bodies : List (List ℕ)) (file : List ℕ) → IsLogOf most bodies file → is_damaged file ≡ false
+its_whole most bodies file l = whole_file l.format bodies file l.rests l.whole
+
 pub pair_law : PairLaw
 pair_law most first bodies stood current other l leaves calm wins = (
-  no_pair_fault most bodies current other (has most bodies current l) (known most bodies current l) l.fits (its most bodies current l) leaves.fits calm.known first,
+  wins_no_fault most bodies current other (has most bodies current l) (known most bodies current l) l.fits (its most bodies current l) leaves.fits calm.known calm.headed
+      (its_whole most bodies current l) first (beats_read first bodies stood other wins (leaves.reads calm)),
   pair_log most bodies current other (has most bodies current l) (known most bodies current l) l.fits
       (its most bodies current l) leaves.fits calm.known first (beats_read first bodies stood other wins (leaves.reads calm)),
 )
@@ -38,7 +44,7 @@ pub append_law : AppendLaw
 append_law most first format bodies group stood current other left plain leaves calm wins =
     let part : IsFirstPart format bodies group current = left.reads plain in
     let it =
-    pair_law most first (bodies ++ take part.many group) stood current other (record { format = format; fits = left.fits; rests = part.rests }) leaves calm
+    pair_law most first (bodies ++ take part.many group) stood current other (record { format = format; fits = left.fits; rests = part.rests; whole = part.whole }) leaves calm
     (beats_group first bodies (take part.many group) stood wins) in
     (it.0, record { many = part.many; within = part.within; is = it.1 })
 
@@ -59,20 +65,36 @@ other_way : (first : Bool) (current other : List ℕ) → logged_of first curren
 other_way true current other = refl
 other_way false current other = refl
 
+fault_way : (most : ℕ) (first : Bool) (current other : List ℕ) → fault_pair most first current other ≡ fault_pair most (not first) other current
+fault_way most true current other = refl
+fault_way most false current other = refl
+
 pub seal_law : SealLaw
-seal_law most first bodies fresh current other l leaves calm above = (
-  no_pair_fault most bodies current other (has most bodies current l) (known most bodies current l) l.fits (its most bodies current l) leaves.fits calm.known first,
-  ⊎_elim
-      (λ is. elim (cases_Bool (has_log other)) [
-        | inl log ↦ inr (other_way first current other
-            ∙ pair_log most fresh other current log calm.known leaves.fits is l.fits (known most bodies current l) (not first)
-            (ap (λ (x : List (List ℕ)). beats (not first) fresh x) (its most bodies current l) ∙ beats_above (not first) fresh bodies above))
-        | inr none ↦ inl (alone first current other (has most bodies current l) none ∙ its most bodies current l)
-      ])
-      (λ none. inl (pair_log most bodies current other (has most bodies current l) (known most bodies current l) l.fits (its most bodies current l) leaves.fits calm.known first
-      (ap (λ (x : List (List ℕ)). beats first bodies x) none ∙ beats_nil first bodies)))
-      (leaves.reads calm),
-)
+seal_law most first bodies fresh current other l leaves calm above =
+    let log = has most bodies current l in
+    let old = known most bodies current l in
+    let mine = its most bodies current l in
+    let whole = its_whole most bodies current l in
+    let fits : length other ≤ most = leaves.0.fits in
+    ⊎_elim
+    (λ is. elim (cases_Bool (has_log other)) [
+      | inl there ↦
+          let wins : beats (not first) fresh (logged current) ≡ true = ap (λ (x : List (List ℕ)). beats (not first) fresh x) mine ∙ beats_above (not first) fresh bodies above in (
+            fault_way most first current other
+                ∙ wins_no_fault most fresh other current there calm.known fits is l.fits old (damaged_headed current whole) (leaves.2 calm) (not first) wins,
+            inr (other_way first current other ∙ pair_log most fresh other current there calm.known fits is l.fits old (not first) wins),
+          )
+      | inr none ↦ (
+        alone_no_fault most bodies current other log old l.fits mine fits calm.known calm.headed whole first none,
+        inl (alone first current other log none ∙ mine),
+      )
+    ])
+    (λ none.
+    let wins : beats first bodies (logged other) ≡ true = ap (λ (x : List (List ℕ)). beats first bodies x) none ∙ beats_nil first bodies in (
+      wins_no_fault most bodies current other log old l.fits mine fits calm.known calm.headed whole first wins,
+      inl (pair_log most bodies current other log old l.fits mine fits calm.known first wins),
+    ))
+    (leaves.0.reads calm)
 
 begins_with : (format : Format) (bodies : List (List ℕ)) (file : List ℕ) → Rests format bodies file → file ≡ 88 ∷ drop 1 file
 begins_with One bodies file rests = rests.split ∙ ap (λ (l : List ℕ). 88 ∷ drop 1 l) (sym rests.split)

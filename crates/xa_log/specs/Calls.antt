@@ -13,7 +13,7 @@ use Rattle.xa_log.specs.declared.window.Span.{Span}
 use Rattle.xa_log.specs.declared.appending.Appended.{Appended}
 use Rattle.xa_log.specs.declared.appending.Appended.TheVariants.{Kept, Refused, Lost, Full}
 use Rattle.xa_log.specs.declared.fault.OpenFault.{OpenFault}
-use Rattle.xa_log.specs.declared.fault.OpenFault.TheVariants.{NotALog, TooNew, TooLong, Device, Memory}
+use Rattle.xa_log.specs.declared.fault.OpenFault.TheVariants.{NotALog, TooNew, TooLong, Damaged, Device, Memory}
 use Rattle.xa_log.specs.declared.record.TheConstants.{MOST_RECORD}
 use Rattle.xa_log.specs.declared.window.TheConstants.{WINDOW, LEAST_READ}
 
@@ -83,6 +83,7 @@ LooksAt Memory most old new = (new ≡ old) ⊎ OnlyReads most (asked old) new
 LooksAt NotALog most old new = OnlyReads most (asked old) new
 LooksAt TooNew most old new = OnlyReads most (asked old) new
 LooksAt TooLong most old new = new ≡ asked old
+LooksAt Damaged most old new = OnlyReads most (asked old) new
 
 -- the calls of a look at a log: a sync, a length, and reads of at most so many bytes together
 abbrev pub Looks : {T : Type 0} → Result T OpenFault → ℕ → Counts → Counts → Type 0
@@ -201,6 +202,7 @@ MakesAt Memory old new = new ≡ old
 MakesAt NotALog old new = new ≡ with_length old
 MakesAt TooNew old new = ⊥
 MakesAt TooLong old new = new ≡ old
+MakesAt Damaged old new = ⊥
 
 -- the calls that make a log on the first of two disks: a length, a write and a sync
 abbrev pub Makes : {T : Type 0} → Result T OpenFault → Counts → Counts → Type 0
@@ -212,6 +214,7 @@ MakesSecondAt Memory old new = new ≡ old
 MakesSecondAt NotALog old new = new ≡ with_length old
 MakesSecondAt TooNew old new = ⊥
 MakesSecondAt TooLong old new = new ≡ old
+MakesSecondAt Damaged old new = ⊥
 
 -- and on the second one: a length and a sync
 abbrev pub MakesSecond : {T : Type 0} → Result T OpenFault → Counts → Counts → Type 0

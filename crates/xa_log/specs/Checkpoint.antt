@@ -1,5 +1,5 @@
 -- What a checkpoint's parts do to the file that they write.
-use Rattle.std.specs.Prelude.{◌≡◌, ◌⊎◌, ℕ, ◌+◌, ◌-◌, ◌≤◌, min, true, List, [], ◌∷◌, ◌++◌, length, take, drop, replicate}
+use Rattle.std.specs.Prelude.{◌≡◌, ◌⊎◌, ℕ, ◌+◌, ◌-◌, ◌≤◌, min, true, false, List, [], ◌∷◌, ◌++◌, length, take, drop, replicate}
 use Rattle.std.specs.List.{AllByRecursion}
 use Rattle.std.specs.Int.{w32, to_be_bytes}
 use Rattle.xa_disk.specs.Disk.{Only}
@@ -12,6 +12,7 @@ use Rattle.xa_log.specs.declared.format.TheConstants.{PREAMBLE_BYTES}
 use Rattle.xa_limits.specs.declared.TheConstants.{AROUND_BODY, FIRST_OFFSET, LENGTH_BYTES}
 use Rattle.xa_log.specs.declared.checkpointing.TheConstants.{CLEARED_BYTES}
 use Rattle.xa_log.specs.Chain.{start, closing, preamble, record_of, records, text, behind_text, IsBody, Rests}
+use Rattle.xa_log.specs.Damage.{breaks_off, is_damaged}
 use Rattle.xa_log.specs.Pair.{has_log, IsCalm, Behind, AllOrNoBodies, CalmTears}
 
 -- a record, and so many zeros
@@ -48,6 +49,15 @@ pub record IsReady (format : Format) (bodies : List (List ℕ)) (file : List ℕ
   pub sizes : AllByRecursion (IsBody format) bodies
   pub some : 1 ≤ length bodies
 
+-- one with a zero behind its closing length, where the file goes on
+pub record IsComplete (format : Format) (bodies : List (List ℕ)) (file : List ℕ) : Type 0 where
+  pub ready : IsReady format bodies file
+  pub cleared : (ready.rest ≡ []) ⊎ (take 1 ready.rest ≡ 0 ∷ [])
+
+-- So many zeros go behind a checkpoint's closing length that one is there, or the file ends before it.
+abbrev pub IsTailed : ℕ → ℕ → Format → List (List ℕ) → Type 0
+IsTailed more most format bodies = (1 ≤ more) ⊎ (most ≤ PREAMBLE_BYTES + records_bytes format bodies)
+
 abbrev pub first_length : List (List ℕ) → ℕ
 first_length [] = 0
 first_length (body ∷ bodies) = length body
@@ -76,9 +86,10 @@ pub record LeavesNone (most : ℕ) (format : Format) (c : List ℕ) : Type 0 whe
   pub fits : length c ≤ most
   pub front : take PREAMBLE_BYTES c ≡ preamble format
 
--- an image of a file from the seal on: its header is whole
+-- an image of a file from the seal on: its header is whole, and without chance its log doesn't break off
 abbrev pub LeavesSealed : ℕ → List (List ℕ) → List ℕ → Type 0
-LeavesSealed most bodies c = LeavesOf most bodies c × (has_log c ≡ true)
+LeavesSealed most bodies c =
+    LeavesOf most bodies c × (has_log c ≡ true) × (IsCalm bodies c → is_damaged c ≡ false)
 
 -- An image of a file at any moment of a checkpoint: until the header is synced it has without chance what stood there
 -- or nothing, until the seal nothing, whatever was left, and from the seal on without chance these bodies or nothing.
@@ -96,15 +107,14 @@ abbrev pub Checkpointed : {D : Type 0} → Ghosts D → Appended → ℕ → For
     → D → D → Type 0
 Checkpointed disks Kept most format stood bodies old new =
     Rests format bodies (disks.seen new) × (length (disks.seen new) ≤ most)
-    × Only (disks.seen new) (disks.may_leave new)
+    × Only (disks.seen new) (disks.may_leave new) × (breaks_off format bodies (disks.seen new) ≡ false)
 -- by a fault in the first part, or behind it
 Checkpointed disks Refused most format stood bodies old new =
     (IsOther disks most stood new
     × (CalmTears disks.tears → IsCalm stood (disks.seen old) → IsCalm stood (disks.seen new)))
     ⊎ (IsOther disks most [] new × IsQuiet disks [] new)
 Checkpointed disks Lost most format stood bodies old new =
-    LeavesOf most bodies (disks.seen new) × (SealTears disks.tears → IsCalm bodies (disks.seen new))
-    × ((c : List ℕ) → disks.may_leave new c → LeavesOf most bodies c)
     -- the seal is behind the first 8 bytes, which were synced
-    × (has_log (disks.seen new) ≡ true) × ((c : List ℕ) → disks.may_leave new c → has_log c ≡ true)
+    LeavesSealed most bodies (disks.seen new) × (SealTears disks.tears → IsCalm bodies (disks.seen new))
+    × ((c : List ℕ) → disks.may_leave new c → LeavesSealed most bodies c)
 Checkpointed disks Full most format stood bodies old new = ⊥

@@ -4,6 +4,7 @@ use Rattle.std.specs.List.{AllByRecursion}
 use Rattle.xa_limits.specs.declared.TheConstants.{AROUND_BODY, LENGTH_BYTES}
 use Rattle.xa_log.specs.Answers.{FailedPut, FailedPutAhead}
 use Rattle.xa_log.specs.Chain.{start, last, text, closing, record_of, records, body_at, chains_on, behind_text, IsBody, Rests}
+use Rattle.xa_log.specs.Damage.{breaks_off, AreAppended}
 use Rattle.xa_log.specs.Reading.{bodies_of}
 use Rattle.xa_log.specs.declared.format.Format.{Format}
 use Rattle.xa_log.specs.declared.group.Group.{Group}
@@ -44,38 +45,45 @@ pub record HasFirstPart (bodies group found : List (List ℕ)) : Type 0 where
   pub within : many ≤ length group
   pub is : found ≡ bodies ++ take many group
 
--- a log of the bodies and the first so many of the group
+-- a log of the bodies and the first so many of the group, that doesn't break off
 pub record IsFirstPart (format : Format) (bodies group : List (List ℕ)) (file : List ℕ) : Type 0 where
   pub many : ℕ
   pub within : many ≤ length group
   pub rests : Rests format (bodies ++ take many group) file
+  pub whole : breaks_off format (bodies ++ take many group) file ≡ false
 
 -- ---- chance
 
--- Without chance: after the bodies no records chain but the group's, in their order and from the first on.
+-- Without chance: after the bodies no records chain but the group's, in their order and from the first on; and where none
+-- does, the log doesn't break off: what a torn append leaves behind a snapshot isn't what a body of a snapshot begins with.
 abbrev pub IsPlain : Format → List (List ℕ) → List (List ℕ) → List ℕ → Type 0
-IsPlain format bodies [] file = chains_on format bodies file ≡ false
+IsPlain format bodies [] file = (chains_on format bodies file ≡ false) × (breaks_off format bodies file ≡ false)
 IsPlain format bodies (body ∷ group) file =
-    chains_on format bodies file ≡ true
+    (chains_on format bodies file ≡ false → breaks_off format bodies file ≡ false)
+    × (chains_on format bodies file ≡ true
     → (take (AROUND_BODY + length body) (behind_text format bodies file) ≡ record_of (last (start format) bodies) body)
-    × IsPlain format (bodies ++ body ∷ []) group file
+    × IsPlain format (bodies ++ body ∷ []) group file)
 
--- the records that chain after the bodies have the group's bodies, in their order and from the first on
+-- the records that chain after the bodies have the group's bodies, in their order and from the first on, and the log
+-- doesn't break off behind them
 abbrev pub HasBodiesOf : Format → List (List ℕ) → List (List ℕ) → List ℕ → Type 0
-HasBodiesOf format bodies [] file = chains_on format bodies file ≡ false
+HasBodiesOf format bodies [] file = (chains_on format bodies file ≡ false) × (breaks_off format bodies file ≡ false)
 HasBodiesOf format bodies (body ∷ group) file =
-    chains_on format bodies file ≡ true
-    → (body_at (behind_text format bodies file) ≡ body) × HasBodiesOf format (bodies ++ body ∷ []) group file
+    (chains_on format bodies file ≡ false → breaks_off format bodies file ≡ false)
+    × (chains_on format bodies file ≡ true
+    → (body_at (behind_text format bodies file) ≡ body) × HasBodiesOf format (bodies ++ body ∷ []) group file)
 
 -- Of bytes that is enough: lengths and digests follow.
 abbrev pub PlainByBody : Type 0
 PlainByBody = (format : Format) (bodies group : List (List ℕ)) (file : List ℕ)
     → ((i : ℕ) → slice_index file i < 256) → HasBodiesOf format bodies group file → IsPlain format bodies group file
 
--- The premise on a disk's failed writes: what a lost append of this group leaves to a read is without chance.
+-- The premise on a disk's failed writes: what a lost append of this group leaves to a read is without chance, where the log
+-- didn't break off before it.
 abbrev pub NoChance : (List ℕ → ℕ → List ℕ → List ℕ → Type 0) → List (List ℕ) → Type 0
 NoChance tears group = (format : Format) (bodies : List (List ℕ)) (old mid new : List ℕ) (more : ℕ)
-    → Rests format bodies old → AllByRecursion (IsBody format) group
+    → Rests format bodies old → breaks_off format bodies old ≡ false
+    → 1 ≤ length group → AllByRecursion (IsBody format) group → AreAppended bodies group
     → FailedPutAhead tears old (length (text format bodies))
     (closed (last (start format) bodies) group) (closed_by more (last (start format) bodies) group) mid
     → FailedPut tears mid (length (text format bodies)) (replicate (group_bytes group + LENGTH_BYTES) 0) new

@@ -1,24 +1,27 @@
 -- Which log two files have, from what an image of each is.
-use Rattle.std.specs.Prelude.{◌≡◌, ◌⊎◌, ℕ, ◌+◌, ◌≤◌, ◌<◌, Bool, true, false, List, [], ◌∷◌, length, take, None}
+use Rattle.std.specs.Prelude.{◌≡◌, ◌⊎◌, ℕ, ◌+◌, ◌≤◌, ◌<◌, Bool, true, false, List, [], ◌∷◌, length, take, slice_index, None}
+use Rattle.std.specs.List.{AllByRecursion}
 use Rattle.xa_log.specs.declared.format.Format.{Format}
 use Rattle.xa_log.specs.declared.format.TheConstants.{PREAMBLE_BYTES}
 use Rattle.xa_disk.specs.Disk.{put, Torn}
 use Rattle.xa_disk.specs.declared.disk.Disk.{Ghosts}
-use Rattle.xa_log.specs.Chain.{text, Rests, body_at, behind_text, chains_on, logged}
-use Rattle.xa_log.specs.Group.{HasFirstPart, IsPlain}
+use Rattle.xa_log.specs.Chain.{start, last, text, Rests, body_at, behind_text, chains_on, logged}
+use Rattle.xa_log.specs.Group.{closed_by, HasFirstPart, IsPlain}
 use Rattle.xa_log.specs.Pair.{generation, has_log, beats, logged_of, fault_pair, IsCalm, Behind}
-use Rattle.xa_log.specs.Checkpoint.{IsCleared, LeavesOf, LeavesNone}
+use Rattle.xa_log.specs.Checkpoint.{IsCleared, LeavesOf, LeavesNone, LeavesSealed}
+use Rattle.xa_log.specs.Damage.{breaks_off, is_appended}
 use Rattle.xa_log.specs.declared.checkpointing.TheConstants.{CLEARED_BYTES}
 use Rattle.xa_limits.specs.declared.TheConstants.{LENGTH_BYTES}
 use Rattle.xa_log.specs.Stands.{Leaves}
 use Rattle.xa_log.specs.TwoFiles.{Pair, IsOpenPair, NoStray, first_of, second_of}
 use Rattle.xa_log.specs.LogView.{LogView}
 
--- an image that is a log of these bodies
+-- an image that is a log of these bodies, and doesn't break off
 pub record IsLogOf (most : ℕ) (bodies : List (List ℕ)) (file : List ℕ) : Type 0 where
   pub format : Format
   pub fits : length file ≤ most
   pub rests : Rests format bodies file
+  pub whole : breaks_off format bodies file ≡ false
 
 -- any image of the other file that is behind the first 12 bytes as what stood there
 abbrev pub BehindLaw : Type 0
@@ -48,7 +51,7 @@ HeaderLaw = (most : ℕ) (first : Bool) (format : Format) (bodies : List (List �
 -- from the seal on
 abbrev pub SealLaw : Type 0
 SealLaw = (most : ℕ) (first : Bool) (bodies fresh : List (List ℕ)) (current other : List ℕ)
-    → IsLogOf most bodies current → LeavesOf most fresh other → IsCalm fresh other
+    → IsLogOf most bodies current → LeavesSealed most fresh other → IsCalm fresh other
     → generation bodies < generation fresh
     → (fault_pair most first current other ≡ None)
     × ((logged_of first current other ≡ bodies) ⊎ (logged_of first current other ≡ fresh))
@@ -75,3 +78,17 @@ StaleLaw = (most : ℕ) (format : Format) (bodies : List (List ℕ)) (size file 
     → IsCleared most format bodies file → length (text format bodies) + CLEARED_BYTES ≤ most
     → length size ≡ LENGTH_BYTES → chains_on format bodies (put file (length (text format bodies)) size) ≡ true
     → take 1 (body_at (behind_text format bodies (put file (length (text format bodies)) size))) ≡ 0 ∷ []
+
+-- Each byte is the one's or the other's, or a zero; where one of the two has ended that is a zero too. So is a file whose
+-- write was torn between bytes, or between sectors of any size, and then cleared or not.
+pub record IsMixed (old new file : List ℕ) : Type 0 where
+  pub no_shorter : length old ≤ length file
+  pub each : (i : ℕ) → (slice_index file i ≡ slice_index old i) ⊎ (slice_index file i ≡ slice_index new i) ⊎ (slice_index file i ≡ 0)
+
+-- An append that is torn so leaves no snapshot that breaks off: that takes a byte that neither stood there nor was written.
+abbrev pub MixedLaw : Type 0
+MixedLaw = (format : Format) (bodies group : List (List ℕ)) (more : ℕ) (old file : List ℕ)
+    → Rests format bodies old → 1 ≤ length bodies → breaks_off format bodies old ≡ false
+    → 1 ≤ length group → AllByRecursion (λ body. is_appended (slice_index body 0) ≡ true) group
+    → IsMixed old (put old (length (text format bodies)) (closed_by more (last (start format) bodies) group)) file
+    → breaks_off format bodies file ≡ false

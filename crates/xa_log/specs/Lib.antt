@@ -1,5 +1,8 @@
 pub mod Chain
 pub mod Ahead
+pub mod Generation
+pub mod Damage
+pub mod Behind
 pub mod Buffer
 pub mod Answers
 pub mod Calls
@@ -18,5 +21,7 @@ pub mod LogView
 pub mod LogFields
 pub mod Looking
 pub mod Worked
-pub mod Missing
+pub mod Finding
+pub mod Standing
+pub mod Unfit
 pub mod Written

@@ -5,7 +5,7 @@ use Rattle.xa_disk.specs.Disk.{Same}
 use Rattle.xa_disk.specs.Time.{TimePasses}
 use Rattle.xa_disk.specs.declared.disk.Disk.{Ghosts}
 use Rattle.xa_log.specs.Ahead.{IsKnown}
-use Rattle.xa_log.specs.Checkpoint.{IsQuiet, LeavesOf, SealTears}
+use Rattle.xa_log.specs.Checkpoint.{IsQuiet, LeavesOf, LeavesSealed, SealTears}
 use Rattle.xa_log.specs.Group.{HasFirstPart, IsPlain, NoChance}
 use Rattle.xa_log.specs.Pair.{CalmTears, IsCalm, logged_pair, pair_fault}
 use Rattle.xa_log.specs.Stands.{Leaves, LeavesLog, MayStand, Stands}
@@ -74,11 +74,17 @@ IsPlainIn (LostCheckpoint bodies fresh) format c = Unit {0}
 abbrev pub IsWithoutChance : LogState → Format → List ℕ → List ℕ → Type 0
 IsWithoutChance state format current other = IsPlainIn state format current × IsCalm (beside state) other
 
+-- of the other file
+abbrev pub LeavesBeside : LogState → ℕ → List ℕ → Type 0
+LeavesBeside (Whole bodies stood) most c = LeavesOf most stood c
+LeavesBeside (LostAppend bodies group stood) most c = LeavesOf most stood c
+LeavesBeside (LostCheckpoint bodies fresh) most c = LeavesSealed most fresh c
+
 -- Images of the first and of the second file of a log in this state: each is as the state says of it, and without
 -- chance an opening takes the two, and finds what a look may find.
 pub record LeavesBoth {D : Type 0} (state : LogState) (log : LogView D) (first second : List ℕ) : Type 0 where
   pub current : LeavesCurrent state log.log_bytes log.format (if log.on_first then first else second)
-  pub other : LeavesOf log.log_bytes (beside state) (if log.on_first then second else first)
+  pub other : LeavesBeside state log.log_bytes (if log.on_first then second else first)
   pub opens :
       IsWithoutChance state log.format
       (if log.on_first then first else second) (if log.on_first then second else first)

@@ -7,6 +7,7 @@ use Rattle.xa_log.specs.declared.heads.Head.{Head}
 use Rattle.xa_log.specs.declared.found.Found.{Found}
 use Rattle.xa_log.specs.declared.reading.Scan.{Scan}
 use Rattle.xa_log.specs.Chain.{start, format_of}
+use Rattle.xa_log.specs.Damage.{is_headless}
 use Rattle.xa_log.specs.Calls.{FetchedWithin, FetchedNext}
 use Rattle.xa_log.specs.Reading.{is_newer, Finds, Fits, IsScan}
 use Rattle.xa_log.specs.Pair.{number_in, generation, is_nil, has_log, on_first}
@@ -52,6 +53,7 @@ IsHead file window None = format_of (take FORMAT_BYTES file) ≡ None
 IsHead file window (Some head) =
     (format_of (take FORMAT_BYTES file) ≡ Some head.format)
     × Finds head.format (start head.format) file FIRST_OFFSET window head.first
+    × (head.lost ≡ is_headless file)
 
 -- that of a file of this length
 abbrev pub HasHead : ℕ → Option Head → Type 0

@@ -1,27 +1,17 @@
 -- Two files, of which one has the log: which of them is the current one.
-use Rattle.std.specs.Prelude.{◌≡◌, ◌⊎◌, ℕ, ◌-◌, Bool, true, false, ◌&&◌, ◌||◌, not, nat_le, nat_lt, ◌==◌}
+use Rattle.std.specs.Prelude.{◌≡◌, ◌⊎◌, ℕ, Bool, true, false, ◌&&◌, ◌||◌, not, nat_lt, ◌==◌}
 use Rattle.std.specs.Prelude.{if◌then◌else◌, List, [], ◌∷◌, length, take, drop, Option, Some, None, is_some}
-use Rattle.std.specs.Int.{w32, from_be_bytes}
 use Rattle.xa_disk.specs.Disk.{Torn}
 use Rattle.xa_log.specs.declared.fault.OpenFault.{OpenFault}
-use Rattle.xa_log.specs.declared.fault.OpenFault.TheVariants.{NotALog, TooNew, TooLong}
+use Rattle.xa_log.specs.declared.fault.OpenFault.TheVariants.{NotALog, TooNew, TooLong, Damaged}
 use Rattle.xa_log.specs.declared.format.Format.{Format}
 use Rattle.xa_log.specs.declared.format.TheConstants.{PREAMBLE_BYTES}
 use Rattle.xa_limits.specs.declared.TheConstants.{FORMAT_BYTES}
-use Rattle.xa_log.specs.declared.looking.TheConstants.{NUMBER_OFFSET, NUMBER_END}
 use Rattle.xa_log.specs.Chain.{preamble, format_of, body_at, begins, logged}
 use Rattle.xa_log.specs.Reading.{is_newer}
-
--- the number in bytes 1 to 4 of a body, 0 in a shorter one
-unfoldable pub number_in : List ℕ → ℕ
-number_in body =
-    if nat_le NUMBER_END (length body)
-    then from_be_bytes w32 (take (NUMBER_END - NUMBER_OFFSET) (drop NUMBER_OFFSET body)) else 0
-
--- a log's generation: the number in its first body, 0 where it has none
-abbrev pub generation : List (List ℕ) → ℕ
-generation [] = 0
-generation (body ∷ bodies) = number_in body
+use Rattle.xa_log.specs.Damage.{is_damaged, is_headless}
+unfoldable pub use Rattle.xa_log.specs.Generation.{number_in}
+pub use Rattle.xa_log.specs.Generation.{generation}
 
 abbrev pub is_nil : List (List ℕ) → Bool
 is_nil [] = true
@@ -42,16 +32,25 @@ has_log file = is_some (format_of (take FORMAT_BYTES file))
 abbrev pub on_first : List ℕ → List ℕ → Bool
 on_first first second = has_log first && (not (has_log second) || beats true (logged first) (logged second))
 
--- the bodies of the current file
+-- the current file
+abbrev pub current_of : List ℕ → List ℕ → List ℕ
+current_of first second = if on_first first second then first else second
+
+-- its bodies
 abbrev pub logged_pair : List ℕ → List ℕ → List (List ℕ)
 logged_pair first second = if on_first first second then logged first else logged second
+
+-- either of two files breaks off before its first record, or the current one behind some
+abbrev pub is_broken : List ℕ → List ℕ → Bool
+is_broken first second = is_headless first || (is_headless second || is_damaged (current_of first second))
 
 -- why two files have no log of at most this length
 abbrev pub pair_fault : ℕ → List ℕ → List ℕ → Option OpenFault
 pair_fault most first second =
     if nat_lt most (length first) || nat_lt most (length second) then Some TooLong
     else (if is_newer (take FORMAT_BYTES first) || is_newer (take FORMAT_BYTES second) then Some TooNew
-    else (if has_log first || has_log second then None else Some NotALog))
+    else (if has_log first || has_log second
+    then (if is_broken first second then Some Damaged else None) else Some NotALog))
 
 -- the same of the current file and the other one, where the flag says whether the current one is the first
 abbrev pub logged_of : Bool → List ℕ → List ℕ → List (List ℕ)
@@ -69,6 +68,8 @@ pub record IsCalm (stood : List (List ℕ)) (file : List ℕ) : Type 0 where
   pub known : is_newer (take FORMAT_BYTES file) ≡ false
   pub only : begins file ≡ true → take 1 stood ≡ body_at (drop FORMAT_BYTES file) ∷ []
   pub many : begins file ≡ true → length (logged file) ≡ length stood
+  -- nor does it show a first record that doesn't chain
+  pub headed : is_headless file ≡ false
 
 -- what stands behind the first 12 bytes is what stood behind them in a log of these bodies, or they are none
 abbrev pub Behind : List (List ℕ) → List ℕ → Type 0

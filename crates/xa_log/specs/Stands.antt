@@ -3,6 +3,7 @@ use Rattle.std.specs.Prelude.{◌≡◌, ◌≤◌, ℕ, ◌+◌, ◌==◌, max,
 use Rattle.xa_disk.specs.Disk.{Only}
 use Rattle.xa_disk.specs.declared.disk.Disk.{Ghosts}
 use Rattle.xa_log.specs.Chain.{start, last, text, behind_text, Rests}
+use Rattle.xa_log.specs.Damage.{breaks_off}
 use Rattle.xa_log.specs.Group.{group_bytes, IsFirstPart, IsPlain, NoChance}
 use Rattle.xa_log.specs.Pair.{number_in, generation}
 use Rattle.xa_log.specs.Reading.{fault_of}
@@ -21,6 +22,7 @@ pub record Stands {D : Type 0} (disks : Ghosts D) (bodies : List (List ℕ)) (lo
   pub number : log.generation ≡ generation bodies
   pub durable : Only (disks.seen log.disk) (disks.may_leave log.disk)
   pub alive : log.lost ≡ false
+  pub whole : breaks_off log.format bodies (disks.seen log.disk) ≡ false
 
 -- What a crash leaves of a log of at most so many bytes while a group is appended to these bodies: a log that `open`
 -- accepts, and that begins with the bodies; without chance it is the bodies and some first part of the group.
@@ -35,6 +37,7 @@ pub record LeavesLog (most : ℕ) (format : Format) (bodies : List (List ℕ)) (
   pub fits : length file ≤ most
   pub opens : fault_of most file ≡ None
   pub rests : Rests format bodies file
+  pub whole : breaks_off format bodies file ≡ false
 
 -- The append of a group to these was lost: without chance, a read and a crash give the bodies and some first part of it.
 pub record MayStand {D : Type 0} (disks : Ghosts D) (bodies group : List (List ℕ)) (log : LogView D) : Type 0 where

@@ -5,7 +5,8 @@ use Rattle.xa_disk.specs.declared.disk.Disk.{Ghosts}
 use Rattle.xa_limits.specs.declared.TheConstants.{LENGTH_BYTES}
 use Rattle.xa_log.specs.Chain.{newest, start, last, text, Rests, logged}
 use Rattle.xa_log.specs.Pair.{generation, beats, has_log, IsCalm, CalmTears}
-use Rattle.xa_log.specs.Checkpoint.{IsOther, IsQuiet, LeavesOf, SealTears}
+use Rattle.xa_log.specs.Checkpoint.{IsOther, IsQuiet, LeavesSealed, SealTears}
+use Rattle.xa_log.specs.Damage.{breaks_off}
 use Rattle.xa_log.specs.Stands.{Stands, MayStand}
 use Rattle.xa_log.specs.declared.appending.Appended.{Appended}
 use Rattle.xa_log.specs.declared.appending.Appended.TheVariants.{Kept, Refused, Lost, Full}
@@ -34,11 +35,10 @@ pub record MaySeal {D : Type 0} (disks : Ghosts D) (bodies fresh : List (List �
   pub file : Rests log.format bodies (disks.seen log.disk)
   pub fits : length (disks.seen log.disk) ≤ log.log_bytes
   pub durable : Only (disks.seen log.disk) (disks.may_leave log.disk)
-  pub other : LeavesOf log.log_bytes fresh (disks.seen log.other)
-  pub front : has_log (disks.seen log.other) ≡ true
+  pub whole : breaks_off log.format bodies (disks.seen log.disk) ≡ false
+  pub other : LeavesSealed log.log_bytes fresh (disks.seen log.other)
   pub calm_on : SealTears disks.tears → IsCalm fresh (disks.seen log.other)
-  pub left : (c : List ℕ) → disks.may_leave log.other c → LeavesOf log.log_bytes fresh c
-  pub left_front : (c : List ℕ) → disks.may_leave log.other c → has_log c ≡ true
+  pub left : (c : List ℕ) → disks.may_leave log.other c → LeavesSealed log.log_bytes fresh c
   pub above : generation bodies < generation fresh
   pub lost : log.lost ≡ true
 

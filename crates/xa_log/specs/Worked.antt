@@ -1,10 +1,12 @@
 -- Worked logs of two files, in bytes: in one of format 1 the first boot's record with a branch prepared, and behind the
 -- checkpoint of the second boot, in one of format 2, its record with the branch held. The digests are sha256sum's.
-use Rattle.std.specs.Prelude.{◌≡◌, List, [], ◌∷◌, ◌++◌, ℕ, true, false, Some, None, slice_set}
-use Rattle.xa_log.specs.declared.fault.OpenFault.TheVariants.{NotALog, TooNew, TooLong}
+use Rattle.std.specs.Prelude.{◌≡◌, List, [], ◌∷◌, ◌++◌, ℕ, true, false, Some, None, take, slice_set}
+use Rattle.xa_log.specs.declared.fault.OpenFault.TheVariants.{NotALog, TooNew, TooLong, Damaged}
 use Rattle.xa_log.specs.declared.format.Format.TheVariants.{One, Two}
-use Rattle.xa_log.specs.Chain.{magic, preamble, logged}
+use Rattle.xa_log.specs.Chain.{magic, start, record_of, preamble, logged}
 use Rattle.xa_log.specs.Pair.{beats, on_first, logged_pair, pair_fault}
+use Rattle.xa_log.specs.Unfit.{unfit_of}
+use Rattle.xa_log.specs.declared.unfit.Unfit.TheVariants.{Neither, MissingFirst, MissingSecond, StrayFirst, StraySecond}
 
 abbrev pub opened : List ℕ
 opened = 1 ∷ 0 ∷ 0 ∷ 0 ∷ 1 ∷ []
@@ -131,3 +133,49 @@ Faults =
     × (pair_fault 113 first_file newer ≡ Some TooLong) × (pair_fault 114 newer second_file ≡ Some TooLong)
     × (pair_fault 114 first_file newer ≡ Some TooNew) × (pair_fault 114 newer [] ≡ Some TooNew)
     × (pair_fault 114 [] [] ≡ Some NotALog)
+
+-- One bit of a body flipped, or the file cut behind a record: in the snapshot of the second generation it is told, unless
+-- the next body begins with 0 or the file ends behind a length. In a log of the first generation it isn't.
+abbrev pub Damages : Type 0
+Damages =
+    (pair_fault 115 first_file second_file ≡ None) × (pair_fault 115 first_file (slice_set second_file 60 171) ≡ Some Damaged)
+    × (pair_fault 115 first_file (take 49 second_file) ≡ Some Damaged)
+    × (pair_fault 115 first_file (slice_set second_file 53 0) ≡ None)
+    × (pair_fault 115 first_file (take 53 second_file) ≡ None) × (pair_fault 115 (slice_set first_file 60 171) [] ≡ None)
+
+-- a log of format 1 whose name a torn write replaced
+abbrev pub renamed : List ℕ
+renamed = magic Two ++ record_of (start One) again ++ 0 ∷ 0 ∷ 0 ∷ 0 ∷ []
+
+-- One bit of the first record flipped, of its digest, of its number, of its length: that is told in a log of the second
+-- generation, beside the first one. Its length zeroed it is a checkpoint without its seal, and another name comes of a torn
+-- header; in a log of the first generation it may be a torn append.
+abbrev pub LostFirst : Type 0
+LostFirst =
+    (pair_fault 115 first_file (slice_set second_file 17 165) ≡ Some Damaged)
+    × (pair_fault 115 (slice_set second_file 16 3) first_file ≡ Some Damaged)
+    × (pair_fault 115 first_file (slice_set second_file 11 4) ≡ Some Damaged)
+    × (pair_fault 115 first_file unsealed ≡ None) × (pair_fault 115 first_file renamed ≡ None)
+    × (pair_fault 115 (slice_set first_file 17 125) [] ≡ None)
+
+-- ---- which of two files isn't a log's
+
+-- what is left of XARMLOG2, and what is none of it
+abbrev pub cut_name : List ℕ
+cut_name = 88 ∷ 65 ∷ 0 ∷ 0 ∷ 76 ∷ []
+
+abbrev pub other_name : List ℕ
+other_name = 88 ∷ 65 ∷ 82 ∷ 77 ∷ 76 ∷ 79 ∷ 71 ∷ 120 ∷ []
+
+-- The second file is missing from the second generation on, the first one beside any log. Neither is where an opening
+-- says that one is too long, or too new.
+abbrev pub Unfits : Type 0
+Unfits =
+    (unfit_of 115 first_file second_file ≡ Neither) × (unfit_of 115 [] [] ≡ Neither)
+    × (unfit_of 115 first_file [] ≡ Neither) × (unfit_of 115 first_file cut_name ≡ Neither)
+    × (unfit_of 115 second_file [] ≡ MissingSecond) × (unfit_of 115 second_file cut_name ≡ MissingSecond)
+    × (unfit_of 115 [] first_file ≡ MissingFirst) × (unfit_of 115 cut_name (magic One) ≡ MissingFirst)
+    × (unfit_of 115 other_name second_file ≡ StrayFirst) × (unfit_of 115 other_name [] ≡ StrayFirst)
+    × (unfit_of 115 first_file other_name ≡ StraySecond) × (unfit_of 115 [] other_name ≡ StraySecond)
+    × (unfit_of 113 first_file other_name ≡ Neither) × (unfit_of 115 newer other_name ≡ Neither)
+    × (unfit_of 115 other_name newer ≡ Neither)

@@ -12,6 +12,7 @@ use Rattle.xa_log.specs.Answers.{LeftWritten}
 use Rattle.xa_log.specs.Buffer.{KeepsRoom}
 use Rattle.xa_log.specs.Calls.{WritesAhead}
 use Rattle.xa_log.specs.Chain.{IsBody, last}
+use Rattle.xa_log.specs.Damage.{AreAppended}
 use Rattle.xa_log.specs.Group.{as_one, closed, closed_by, first_of_group, group_bytes}
 use Rattle.xa_log.specs.Pair.{number_in}
 use Rattle.xa_log.specs.Stands.{Answers, Leaves, Moves, Renumbers, Stands}
@@ -71,10 +72,11 @@ pub record HasWritten {D : Type 0} (disks : Ghosts D) (group : List (List ℕ)) 
 -- which calls were made.
 pub record AppendsGroup {D : Type 0} (disks : Ghosts D) (group : List (List ℕ)) (o : Appended) (old new : LogView D)
     : Type 0 where
-  pub answer : disks.honest → (stand : List (List ℕ)) → Stands disks stand old → Answers disks o stand group new
+  pub answer : disks.honest → (stand : List (List ℕ)) → Stands disks stand old → AreAppended stand group
+      → Answers disks o stand group new
   pub any_moment : disks.honest → (stand : List (List ℕ)) → Stands disks stand old
       → LeavesOnly disks old.disk new.disk (Leaves old.log_bytes old.format stand group)
-  pub pair : disks.honest → (stand stood : List (List ℕ)) → Pair disks stand stood old
+  pub pair : disks.honest → (stand stood : List (List ℕ)) → Pair disks stand stood old → AreAppended stand group
       → AppendsTo disks o stand group stood new
   pub moves : Moves o (as_one group) old new
   pub numbers : Renumbers o (first_of_group group) old new

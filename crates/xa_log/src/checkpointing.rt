@@ -11,7 +11,7 @@ ghost use Rattle.xa_log.specs.Answers.{PutBecame, FailedPut, HasCause};
 ghost use Rattle.xa_log.specs.Buffer.{EachFits};
 ghost use Rattle.xa_log.specs.Calls.{PutCalls, RecordsCalls, AppendCalls, CheckpointCalls};
 ghost use Rattle.xa_log.specs.Pair.{IsCalm, CalmTears};
-ghost use Rattle.xa_log.specs.Checkpoint.{behind_preamble, bytes_behind, tailed, records_bytes, behind_front, first_length, IsReady};
+ghost use Rattle.xa_log.specs.Checkpoint.{behind_preamble, bytes_behind, tailed, records_bytes, behind_front, first_length, IsComplete, IsTailed};
 ghost use Rattle.xa_log.specs.Checkpoint.{IsOther, LeavesOf, LeavesNone, LeavesSealed, LeavesAny, Checkpointed};
 
 use crate::appending::{Appended, put_or_clear, put_synced};
@@ -150,7 +150,7 @@ pub(crate) fn put_seal<D: Disk>(disk: &mut D, size: u32) -> Appended
         → PutBecame D.tears result FIRST_OFFSET (to_be_bytes w32 size)
         (D.seen disk.old) (D.seen disk.new) (D.may_leave disk.new) }
     ensures any_moment { D.honest → (most : ℕ) (format : Format) (bodies : List (List ℕ))
-        → IsReady format bodies (D.seen disk.old)
+        → IsComplete format bodies (D.seen disk.old)
         → size ≡ first_length bodies → length (D.seen disk.old) ≤ most → Only (D.seen disk.old) (D.may_leave disk.old)
         → LeavesOnly D.Disk disk.old disk.new (LeavesSealed most bodies) }
     ensures time { D.honest
@@ -178,11 +178,11 @@ pub(crate) fn checkpoint_on<D: Disk>(
     requires fits { PREAMBLE_BYTES + (records_bytes format bodies.now + more) < 2 ^ 64 }
     ensures digest { result.0 ≡ Appended.Kept → result.1 ≡ last (start format) bodies.now }
     ensures answer { D.honest → (most : ℕ) (stood : List (List ℕ))
-        → PREAMBLE_BYTES + (records_bytes format bodies.now + more) ≤ most
+        → PREAMBLE_BYTES + (records_bytes format bodies.now + more) ≤ most → IsTailed more most format bodies.now
         → IsOther D.Disk most stood disk.old
         → Checkpointed D.Disk result.0 most format stood bodies.now disk.old disk.new }
     ensures any_moment { D.honest → (most : ℕ) (stood : List (List ℕ))
-        → PREAMBLE_BYTES + (records_bytes format bodies.now + more) ≤ most
+        → PREAMBLE_BYTES + (records_bytes format bodies.now + more) ≤ most → IsTailed more most format bodies.now
         → IsOther D.Disk most stood disk.old
         → LeavesOnly D.Disk disk.old disk.new (LeavesAny most format stood bodies.now) }
     ensures grows { D.honest → length (D.seen disk.old) ≤ length (D.seen disk.new) }

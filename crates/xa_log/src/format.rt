@@ -1,6 +1,6 @@
 ghost use Rattle.std.specs.Prelude.{◌≡◌, ◌≤◌, length, MatchResult, Some};
 ghost use Rattle.xa_log.specs.Chain.{magic, newest, start, preamble, format_of, format_number, most_body};
-ghost use Rattle.xa_log.specs.Reading.{front_fault};
+ghost use Rattle.xa_log.specs.{Damage.other_than, Reading.front_fault};
 
 use crate::OpenFault;
 use sha2::{Digest, Sha256};
@@ -47,6 +47,16 @@ impl Format {
         match self {
             Format::One => MOST_BODY_OF_ONE,
             Format::Two => MOST_BODY,
+        }
+    }
+
+    // The other one.
+    pub(crate) fn other(self) -> Format
+        ensures { result ≡ other_than self }
+    {
+        match self {
+            Format::One => Format::Two,
+            Format::Two => Format::One,
         }
     }
 

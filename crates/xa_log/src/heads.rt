@@ -1,25 +1,28 @@
 //! The first record of a log, which has its generation.
-ghost use Rattle.std.specs.Prelude.{◌≡◌, ◌⊎◌, ◌+◌, List, ℕ, length, IfOk, IfErr, MatchResult};
+ghost use Rattle.std.specs.Prelude.{◌≡◌, ◌⊎◌, ◌||◌, ◌+◌, List, ℕ, length, IfOk, IfErr, MatchResult};
 ghost use Rattle.xa_disk.specs.{Disk.Same, Time.TimePasses, declared.counts.Counts.Counts};
 ghost use Rattle.xa_log.specs.Answers.{CountsDevice, CountsDeviceOf};
 ghost use Rattle.xa_log.specs.Calls.{Fetched, FetchedWithin, MOST_BRIEF, brief};
-ghost use Rattle.xa_log.specs.Pair.{generation};
+ghost use Rattle.xa_log.specs.{Damage.is_headless, Pair.generation};
 ghost use Rattle.xa_log.specs.Looking.{IsFront, HasFront, Tells, IsHead, HasHead, FetchedHead};
 ghost use Rattle.xa_log.specs.declared.window.TheConstants.{WINDOW};
 
 use crate::OpenFault;
+use crate::damage::{BOOT_RECORD, is_lost_first};
 use crate::format::Format;
 use crate::found::{Found, next_record};
 use crate::looking::{Front, number_of};
 use std::alloc::Global;
 use xa_disk::Disk;
-use xa_limits::FIRST_OFFSET;
+use xa_limits::{FIRST_OFFSET, FORMAT_BYTES};
 
 /// A file that is a log: its format, and its first record, if it has one.
 #[derive(Debug, Drop)]
 pub struct Head {
     pub format: Format,
     pub first: Option<Found>,
+    /// Whether there is none, but the first record of a checkpoint is shown (`is_headless`).
+    pub lost: bool,
 }
 
 // The generation that a log's first record tells, 0 where there is none.
@@ -30,6 +33,24 @@ pub(crate) fn number_in_first(first: &Option<Found>) -> usize
         Some(found) => number_of(&found.body),
         None => 0,
     }
+}
+
+// Whether a file, if it is a log, shows the first record of a checkpoint that doesn't chain.
+pub(crate) fn has_lost_first(head: &Option<Head>) -> bool
+    ensures { (file window : List ℕ) → IsHead file window head.now → result ≡ is_headless file }
+{
+    match head {
+        Some(head) => head.lost,
+        None => false,
+    }
+}
+
+// Whether either of two does.
+pub(crate) fn is_either_lost(first: &Option<Head>, second: &Option<Head>) -> bool
+    ensures { (a window b other_window : List ℕ) → IsHead a window first.now → IsHead b other_window second.now
+        → result ≡ (is_headless a || is_headless b) }
+{
+    has_lost_first(first) || has_lost_first(second)
 }
 
 // What of a file tells whether it is the current one of two, if it is a log: its first record alone, which has the
@@ -62,8 +83,17 @@ pub(crate) fn head_of<D: Disk>(
         Some(format) => {
             let start = format.first_digest();
             let span = front.span;
+            let shown = is_lost_first(
+                &window[FORMAT_BYTES..span.have.min(FORMAT_BYTES + BOOT_RECORD)],
+                format,
+            );
             let first = next_record(alloc, disk, window, span, FIRST_OFFSET, len, format, &start)?;
-            Ok(Some(Head { format, first }))
+            let lost = shown && first.is_none();
+            Ok(Some(Head {
+                format,
+                first,
+                lost,
+            }))
         }
     }
 }

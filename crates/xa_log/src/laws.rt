@@ -1,7 +1,7 @@
 //! What can be said of every log, and of logs on disks in memory.
 ghost use Rattle.std.specs.Prelude.{List, ℕ};
 ghost use Rattle.xa_log.specs.{Group.NoChance, Group.PlainByBody, Pair.CalmTears, Checkpoint.SealTears};
-ghost use Rattle.xa_log.specs.Laws.{BehindLaw, PairLaw, AppendLaw, HeaderLaw, SealLaw, OpenedLaw, StrayLaw, StaleLaw};
+ghost use Rattle.xa_log.specs.Laws.{BehindLaw, PairLaw, AppendLaw, HeaderLaw, SealLaw, OpenedLaw, StrayLaw, StaleLaw, MixedLaw};
 
 use xa_disk::{Disk, MemDisk};
 
@@ -49,4 +49,9 @@ pub fn plain_by_body()
 /// Behind a checkpoint no stale record comes back by a length alone.
 pub fn no_stale_record()
     ensures { StaleLaw }
+{}
+
+/// An append that is torn between bytes leaves behind a snapshot what stood there or what was written, so no damage.
+pub fn torn_append_is_whole()
+    ensures { MixedLaw }
 {}

@@ -9,17 +9,22 @@
 //!   `Appended`, what became of it
 //! - `ahead`: how far a file is made ready ahead of its log, by pieces of `READY_BYTES`
 //! - `checkpointing`: how a checkpoint goes to the other disk, in its three parts; `end_of`, whether it fits
-//! - `opening`: making and reading a log on disks that are lent: `create_on`, `open_on`, `read_log`
+//! - `opening`: making and reading a log on disks that are lent: `create_on`, `open_on`, `read_log`,
+//!   `read_log_damage`
 //! - `opened`: `Opened`, a log that was made or read so, without its disks
 //! - `looking`: which of two files is the current one, by the number in its first body, `heads`; `generation`: that
-//!   number, of bodies; `missing`: `missing_file`, which one is missing
+//!   number, of bodies; `finding`: `find_damage`, where two files are damaged
+//! - `standing`: what stands in a file, by its beginning; `unfit`: `unfit_file`, which of two files is missing or is no
+//!   log's, with what a crash makes of two that fit, `fit_has_no_stray`, `interrupted_stays_fit`, `interrupted_is_no_stray`
 //! - `reading`, `window`: reading a file record by record, and in pieces; `found`: one record, by way of a window or
-//!   straight into its body
+//!   straight into its body; `behind`: what stands behind the last one
+//! - `damage`: whether a log breaks off in the records that a checkpoint wrote, `LEAST_APPENDED`, `MOST_APPENDED`
 //! - `format`: `Format`, a file's first bytes and its limit of bodies; `record`: the bytes of a record
 //! - `fault`: `OpenFault`, why a file's bytes aren't taken as a log
 //! - `laws`: `pair_is_current`, `pair_is_current_or_new` and `opened_is_pair`, which log two files have;
 //!   `memory_without_chance`, `memory_without_chance_beside` and `plain_by_body`, what is without chance;
-//!   `stray_is_possible`, what isn't; `no_stale_record`, what a checkpoint leaves after its records
+//!   `stray_is_possible`, what isn't; `no_stale_record`, what a checkpoint leaves after its records, and `torn_append_is_whole`,
+//!   what a torn append leaves there
 //! - `worked`: `worked_pairs`, worked rows
 //!
 //! docs/LOG.md has the format and what each device fault leaves.
@@ -27,8 +32,11 @@
 
 mod ahead;
 mod appending;
+mod behind;
 mod checkpointing;
+mod damage;
 mod fault;
+mod finding;
 mod format;
 mod found;
 mod generation;
@@ -39,7 +47,6 @@ mod log;
 mod log_group;
 mod looking;
 mod making;
-mod missing;
 mod opened;
 mod opening;
 mod planning;
@@ -47,6 +54,8 @@ mod reading;
 mod record;
 mod rescanning;
 mod reserving;
+mod standing;
+mod unfit;
 mod window;
 mod worked;
 mod written;
@@ -54,20 +63,24 @@ mod written;
 pub use ahead::READY_BYTES;
 pub use appending::Appended;
 pub use checkpointing::{CLEARED_BYTES, end_of};
+pub use damage::{BOOT_RECORD, LEAST_APPENDED, MOST_APPENDED};
 pub use fault::OpenFault;
+pub use finding::{Damage, find_damage};
 pub use format::{Format, PREAMBLE_BYTES};
 pub use generation::{generation_of_bodies, generation_of_snapshot};
 pub use group::Group;
 pub use laws::{
     memory_without_chance, memory_without_chance_beside, no_stale_record, opened_is_pair,
     pair_is_current, pair_is_current_or_new, plain_by_body, stray_is_possible,
+    torn_append_is_whole,
 };
 pub use log::Log;
 pub use looking::{NUMBER_END, NUMBER_OFFSET};
-pub use missing::{Missing, missing_file};
 pub use opened::Opened;
-pub use opening::{create_on, open_on, read_log};
+pub use opening::{create_on, open_on, read_log, read_log_damage};
 pub use record::{MOST_RECORD, SHORT_RECORD};
+pub use standing::{Standing, interrupted_is_no_stray};
+pub use unfit::{Unfit, fit_has_no_stray, interrupted_stays_fit, unfit_file};
 pub use window::{LEAST_READ, WINDOW};
 pub use worked::worked_pairs;
 pub use written::Written;

@@ -5,7 +5,7 @@ ghost use Rattle.std.specs.List.{AllByRecursion};
 ghost use Rattle.xa_log.specs.Calls.{CheckpointCalls};
 ghost use Rattle.xa_log.specs.Chain.{newest, format_number, most_body, text, IsBody};
 ghost use Rattle.xa_log.specs.Checkpoint.{IsOther, IsQuiet, IsCleared, LeavesAny};
-ghost use Rattle.xa_log.specs.{Pair.generation, Answers.HasCause};
+ghost use Rattle.xa_log.specs.{Pair.generation, Answers.HasCause, Damage.AreAppended};
 ghost use Rattle.xa_limits.specs.declared.TheConstants.{AROUND_CLOSED, MOST_BODY};
 
 use crate::appending::Appended;
@@ -72,7 +72,7 @@ impl<D: Disk> Log<D> {
         requires body { IsBody self.old.format body.now }
         requires holds { Holds self.old (length body.now) }
         ensures answer { D.honest → (bodies : List (List ℕ)) → Stands D.Disk bodies self.old
-            → Answers D.Disk result bodies (body.now ∷ []) self.new }
+            → AreAppended bodies (body.now ∷ []) → Answers D.Disk result bodies (body.now ∷ []) self.new }
         // A crash at any moment of the call leaves a log; without chance, of the bodies with the new one or without.
         ensures any_moment { D.honest → (bodies : List (List ℕ)) → Stands D.Disk bodies self.old
             → LeavesOnly D.Disk self.old.disk self.new.disk
@@ -91,7 +91,7 @@ impl<D: Disk> Log<D> {
         ensures other { (self.new.other ≡ self.old.other) × (self.new.on_first ≡ self.old.on_first) }
         // The other file needs no look: what was said of the two stays.
         ensures pair { D.honest → (bodies stood : List (List ℕ)) → Pair D.Disk bodies stood self.old
-            → AppendsTo D.Disk result bodies (body.now ∷ []) stood self.new }
+            → AreAppended bodies (body.now ∷ []) → AppendsTo D.Disk result bodies (body.now ∷ []) stood self.new }
         ensures writes { D.honest → result ≡ Appended.Kept → Writes D.Disk (body.now ∷ []) self.old self.new }
         ensures known { D.honest → IsKnown D.Disk self.old → IsKnown D.Disk self.new }
         ensures room { KeepsRoom self.old self.new }

@@ -6,7 +6,7 @@ ghost use Rattle.xa_disk.specs.{Counts.top, Time.LeavesOnly};
 ghost use Rattle.xa_limits.specs.declared.TheConstants.{AROUND_CLOSED, MOST_BODY};
 ghost use Rattle.xa_log.specs.Calls.{SettlesBy};
 ghost use Rattle.xa_log.specs.Ahead.{AppendsBy, IsKnown, Writes};
-ghost use Rattle.xa_log.specs.{Buffer.Holds, Buffer.KeepsRoom, Chain.IsBody};
+ghost use Rattle.xa_log.specs.{Buffer.Holds, Buffer.KeepsRoom, Chain.IsBody, Damage.AreAppended};
 ghost use Rattle.xa_log.specs.Group.{as_one, bodies_in, first_of_group};
 ghost use Rattle.xa_log.specs.{LogStates.KeepsAll, LogView.LogView};
 ghost use Rattle.xa_log.specs.Stands.{Answers, Leaves, Moves, Renumbers, Stands, Untouched};
@@ -53,6 +53,7 @@ impl<D: Disk> Log<D> {
         requires sizes { AllByRecursion (IsBody self.old.format) (bodies_in group) }
         requires holds { Holds self.old (as_one (bodies_in group)) }
         ensures answer { D.honest → (stand : List (List ℕ)) → Stands D.Disk stand self.old
+            → AreAppended stand (bodies_in group.entry)
             → Answers D.Disk result stand (bodies_in group.entry) self.new }
         // A crash at any moment of the call leaves a log; without chance, of the bodies and some first part of the new ones.
         ensures any_moment { D.honest → (stand : List (List ℕ)) → Stands D.Disk stand self.old
@@ -75,6 +76,7 @@ impl<D: Disk> Log<D> {
         ensures other { (self.new.other ≡ self.old.other) × (self.new.on_first ≡ self.old.on_first) }
         // The other file needs no look: what was said of the two stays.
         ensures pair { D.honest → (stand stood : List (List ℕ)) → Pair D.Disk stand stood self.old
+            → AreAppended stand (bodies_in group.entry)
             → AppendsTo D.Disk result stand (bodies_in group.entry) stood self.new }
         ensures writes { D.honest → result ≡ Appended.Kept
             → Writes D.Disk (bodies_in group.entry) self.old self.new }

@@ -13,7 +13,7 @@ ghost use Rattle.xa_log.specs.Looking.{IsHead, HasHead, FetchedHead, Chooses, Is
 use crate::OpenFault;
 use crate::format::Format;
 use crate::found::Found;
-use crate::heads::{Head, number_in_first, read_heads};
+use crate::heads::{Head, is_either_lost, number_in_first, read_heads};
 use crate::reading::{Scan, read_front, read_records, synced_length};
 use crate::record::size_of;
 use crate::window::{Span, WINDOW};
@@ -37,7 +37,11 @@ pub struct Front {
 }
 
 // Syncs and measures one file and then the other, before a byte of either is read: so what is found outlasts a crash.
-fn measure<D: Disk>(first: &mut D, second: &mut D, log_bytes: u64) -> Result<(u64, u64), OpenFault>
+pub(crate) fn measure<D: Disk>(
+    first: &mut D,
+    second: &mut D,
+    log_bytes: u64,
+) -> Result<(u64, u64), OpenFault>
     ensures value { D.honest
         → MatchResult result (λ r. AreShort log_bytes (D.seen first.old) (D.seen second.old) r.0 r.1)
         (λ e. Explains e (pair_fault log_bytes (D.seen first.old) (D.seen second.old))) }
@@ -148,7 +152,7 @@ fn choose(first: Option<Head>, second: Option<Head>) -> Option<(bool, Head)>
 }
 
 // Reads how both files begin. `TooNew` where either is of a later format.
-fn read_fronts<D: Disk>(
+pub(crate) fn read_fronts<D: Disk>(
     first: &mut D,
     second: &mut D,
     window: &mut [u8],
@@ -187,7 +191,7 @@ fn read_fronts<D: Disk>(
 }
 
 // Reads the log of the current one of two files that begin so. The other one isn't touched. Gives their lengths back.
-fn read_current<D: Disk>(
+pub(crate) fn read_current<D: Disk>(
     alloc: Global,
     first: &mut D,
     second: &mut D,
@@ -271,7 +275,14 @@ pub(crate) fn read_pair<D: Disk>(
     let lens = measure(first, second, log_bytes)?;
     let fronts = read_fronts(first, second, window, other_window, lens)?;
     let heads = read_heads(alloc, first, second, window, other_window, lens, fronts)?;
-    read_current(alloc, first, second, window, other_window, lens, heads)
+    if is_either_lost(&heads.0, &heads.1) {
+        return Err(OpenFault::Damaged);
+    }
+    let read = read_current(alloc, first, second, window, other_window, lens, heads)?;
+    if read.1.broken {
+        return Err(OpenFault::Damaged);
+    }
+    Ok(read)
 }
 
 // The same of the current file and the other one, in the order of the two, by way of the front of a buffer.

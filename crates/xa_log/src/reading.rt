@@ -1,16 +1,18 @@
 //! Reading a log's records from a disk, through a window.
 ghost use Rattle.std.specs.Prelude.{◌≡◌, ◌⊎◌, ◌+◌, ◌-◌, ◌≤◌, ◌<◌, ◌^◌, ◌++◌, ◌∷◌, [], ℕ};
-ghost use Rattle.std.specs.Prelude.{min, length, take, slice_index, OnOk, IfOk, IfErr, IfSome, None, Some, MatchResult};
+ghost use Rattle.std.specs.Prelude.{◌&&◌, ◌||◌, not, min, length, take, slice_index, OnOk, IfOk, IfErr, IfSome, None, Some, MatchResult};
 ghost use Rattle.xa_disk.specs.Disk.{Same, Only, CountsFault};
 ghost use Rattle.xa_disk.specs.{Time.TimePasses, declared.counts.Counts.Counts};
 ghost use Rattle.xa_log.specs.Calls.{Fetched, FetchedSome, FetchedNext, Looks, asked};
 ghost use Rattle.xa_disk.specs.Counts.{with_sync};
 ghost use Rattle.xa_log.specs.Chain.{magic, start, logged};
-ghost use Rattle.xa_log.specs.Answers.{CountsDevice};
+ghost use Rattle.xa_log.specs.{Answers.CountsDevice, Damage.is_damaged};
 ghost use Rattle.xa_log.specs.Reading.{Finds, Fits, IsScan, Ends, bodies_of, fault_of, Explains};
 ghost use Rattle.xa_log.specs.Window.{Caches, Covers};
 
 use crate::OpenFault;
+use crate::behind::{Behind, look_behind};
+use crate::damage::{BOOT_RECORD, is_broken, is_lost_first};
 use crate::format::Format;
 use crate::found::{Found, next_record};
 use crate::window::{Span, WINDOW, fill};
@@ -25,6 +27,8 @@ pub struct Scan {
     pub bodies: Vec<Vec<u8>>,
     pub end: u64,
     pub digest: [u8; DIGEST_BYTES],
+    /// Whether it breaks off in its snapshot (`is_cut`).
+    pub broken: bool,
 }
 
 // The records from the first one on, which was read, with what a window has of the file by then.
@@ -58,22 +62,26 @@ pub(crate) fn read_records<D: Disk>(
     let mut bodies = Vec::new(alloc);
     let mut end = FIRST_OFFSET;
     let mut digest = format.first_digest();
+    let mut behind = Behind::Length;
     let mut next = first;
     'records: loop {
         match next {
             None => {
+                let broken = is_broken(format, &bodies, behind);
                 return Ok(Scan {
                     format,
                     bodies,
                     end,
                     digest,
+                    broken,
                 });
             }
             Some(found) => {
                 end += AROUND_BODY as u64 + found.body.len() as u64;
                 digest = found.digest;
-                let span = found.span;
                 bodies.push(found.body)?;
+                let (span, byte) = look_behind(disk, window, found.span, end, len)?;
+                behind = byte;
                 next = next_record(alloc, disk, window, span, end, len, format, &digest)?;
             }
         }
@@ -124,20 +132,21 @@ pub(crate) fn synced_length<D: Disk>(disk: &mut D) -> Result<u64, DiskFault>
     disk.length()
 }
 
-// Syncs, asks the length, and reads the log that the disk is.
+// Syncs, asks the length, and reads the log that the disk is; with whether it is damaged.
 pub(crate) fn read_whole<D: Disk>(
     alloc: Global,
     disk: &mut D,
     window: &mut [u8],
     log_bytes: u64,
-) -> Result<Scan, OpenFault>
+) -> Result<(Scan, bool), OpenFault>
     requires { length window.old ≡ WINDOW }
     ensures value { D.honest
-        → MatchResult result (λ s. (fault_of log_bytes (D.seen disk.old) ≡ None) × IsScan (D.seen disk.old) s)
+        → MatchResult result (λ r. (fault_of log_bytes (D.seen disk.old) ≡ None) × IsScan (D.seen disk.old) r.0)
         (λ e. Explains e (fault_of log_bytes (D.seen disk.old))) }
-    ensures logged { D.honest → IfOk result (λ s. logged (D.seen disk.old) ≡ bodies_of s.bodies.items) }
+    ensures logged { D.honest → IfOk result (λ r. logged (D.seen disk.old) ≡ bodies_of r.0.bodies.items) }
+    ensures damaged { D.honest → IfOk result (λ r. r.1 ≡ is_damaged (D.seen disk.old)) }
     ensures durable { D.honest → OnOk result (Only (D.seen disk.new) (D.may_leave disk.new)) }
-    ensures fits { IfOk result (λ s. s.end ≤ log_bytes) }
+    ensures fits { IfOk result (λ r. r.0.end ≤ log_bytes) }
     ensures same { D.honest → D.seen disk.new ≡ D.seen disk.old }
     ensures time { D.honest → TimePasses D.Disk Same disk.old disk.new }
     ensures count { CountsDevice result (D.failures disk.old) (D.failures disk.new) }
@@ -154,6 +163,20 @@ pub(crate) fn read_whole<D: Disk>(
     let span = read_front(disk, window, len)?;
     let format = Format::of(&window[..FORMAT_BYTES])?;
     let start = format.first_digest();
+    let shown = is_lost_first(
+        &window[FORMAT_BYTES..span.have.min(FORMAT_BYTES + BOOT_RECORD)],
+        format,
+    );
     let first = next_record(alloc, disk, window, span, FIRST_OFFSET, len, format, &start)?;
-    read_records(alloc, disk, window, format, first, len)
+    let chains = first.is_some();
+    let scan = read_records(alloc, disk, window, format, first, len)?;
+    let damaged = is_either_broken(shown, chains, scan.broken);
+    Ok((scan, damaged))
+}
+
+// Whether a log breaks off before its first record, by whether it is shown and whether it chains, or behind some.
+fn is_either_broken(shown: bool, chains: bool, broken: bool) -> bool
+    ensures { result ≡ ((shown && not chains) || broken) }
+{
+    (shown && !chains) || broken
 }

@@ -67,8 +67,8 @@ impl<D: Disk> Log<D> {
             → IsCalmBeside D.Disk state self.old
             → IfOk result
             (λ r. MayFind state (bodies_of r.items) × IsReadPair D.Disk (bodies_of r.items) self.new) }
-        // And it finds a log, if device and memory serve.
-        ensures readable { D.honest → (state : LogState) → IsIn D.Disk state self.old
+        // And it finds a log, that isn't damaged, if device and memory serve.
+        ensures readable { D.honest → (state : LogState) → IsIn D.Disk state self.old → LostTears D.tears state
             → IsCalmBeside D.Disk state self.old
             → IfErr result (λ e. (e ≡ OpenFault.Device) ⊎ (e ≡ OpenFault.Memory)) }
         // A crash at any moment of the call leaves of both files what one before the call could have left.

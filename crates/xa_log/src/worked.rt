@@ -1,7 +1,7 @@
-ghost use Rattle.xa_log.specs.Worked.{GreaterGeneration, BeforeTheSeal, StaleTail, Ties, OneLog, SecondFormat, Faults};
+ghost use Rattle.xa_log.specs.Worked.{GreaterGeneration, BeforeTheSeal, StaleTail, Ties, OneLog, SecondFormat, Faults, Damages, LostFirst, Unfits};
 
 /// Worked rows of two files, computed on the definitions alone: which of them is current, what is left behind a
-/// checkpoint's records, and why none is.
+/// checkpoint's records, why none is, and where damage is told.
 pub fn worked_pairs()
     ensures greater { GreaterGeneration }
     ensures unsealed { BeforeTheSeal }
@@ -10,4 +10,7 @@ pub fn worked_pairs()
     ensures one_log { OneLog }
     ensures second_format { SecondFormat }
     ensures faults { Faults }
+    ensures damages { Damages }
+    ensures lost_first { LostFirst }
+    ensures unfits { Unfits }
 {}

@@ -3,6 +3,7 @@ use Rattle.std.proofs.Common.{◌≡◌, ◌≢◌, ◌≤◌, ◌<◌, ◌+◌,
 use Rattle.xa_disk.specs.Time.{LeavesOnly}
 use Rattle.xa_disk.specs.declared.disk.Disk.{Ghosts}
 use Rattle.xa_log.specs.Ahead.{AppendsBy}
+use Rattle.xa_log.specs.Damage.{AreAppended}
 use Rattle.xa_log.specs.Group.{as_one}
 use Rattle.xa_log.specs.Stands.{Stands, Leaves, Moves}
 use Rattle.xa_log.specs.TwoFiles.{Pair, AppendsTo}
@@ -16,7 +17,7 @@ use Rattle.xa_manager.specs.Turns.{HasAppended}
 pub has_appended : {D : Type 0} (disks : Ghosts D) (group : List (List ℕ)) (a : Appending) (r : Appended) (old new : LogView D)
     → r ≡ as_appended a → new.log_bytes ≡ old.log_bytes → (new.other ≡ old.other) × (new.on_first ≡ old.on_first)
     → Moves r (as_one group) old new
-    → (disks.honest → (bodies stood : List (List ℕ)) → Pair disks bodies stood old → AppendsTo disks r bodies group stood new)
+    → (disks.honest → (bodies stood : List (List ℕ)) → Pair disks bodies stood old → AreAppended bodies group → AppendsTo disks r bodies group stood new)
     → AppendsBy disks (as_one group) r old new
     → (disks.honest → (bodies : List (List ℕ)) → Stands disks bodies old
     → LeavesOnly disks old.disk new.disk (Leaves old.log_bytes old.format bodies group))
@@ -25,7 +26,7 @@ has_appended disks group a r old new is bytes other moves pair calls leaves = re
   log_bytes = bytes;
   other = other;
   moves = subst (λ (x : Appended). Moves x (as_one group) old new) is moves;
-  pair = λ honest bodies stood p. subst (λ (x : Appended). AppendsTo disks x bodies group stood new) is (pair honest bodies stood p);
+  pair = λ honest bodies stood p kinds. subst (λ (x : Appended). AppendsTo disks x bodies group stood new) is (pair honest bodies stood p kinds);
   calls = subst (λ (x : Appended). AppendsBy disks (as_one group) x old new) is calls;
   leaves = leaves;
 }

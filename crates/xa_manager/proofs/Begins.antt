@@ -1,5 +1,5 @@
 -- What the next boot begins with, of the log that was read.
-use Rattle.std.proofs.Common.{◌≡◌, ◌+◌, ◌<◌, ℕ, Bool, true, List, map, length, Option, Some, None, refl, ap, sym, ◌∙◌, subst}
+use Rattle.std.proofs.Common.{◌≡◌, ◌+◌, ◌<◌, ◌≤◌, ℕ, Bool, true, List, [], map, length, Option, Some, None, refl, ap, sym, ◌∙◌, subst}
 use Rattle.std.specs.Prelude.{Ok, IfSome}
 use Rattle.std.specs.List.{AllByRecursion}
 use Rattle.std.proofs.lemmas.List.{length-map}
@@ -21,7 +21,7 @@ use Rattle.xa_manager.specs.declared.boots.Planned.{Planned}
 use Rattle.xa_manager.specs.Opening.{ComeTo, has_boot_room}
 use Rattle.xa_manager.specs.Refused.{LogsFirst, LogsBoot}
 use Rattle.xa_manager.specs.Rereading.{IsReady, IsNext}
-use Rattle.xa_manager.proofs.Generations.{newer}
+use Rattle.xa_manager.proofs.Generations.{first_number, newer}
 use Rattle.xa_manager.proofs.LogLengths.{text_size}
 use Rattle.xa_manager.proofs.NextBoots.{are_bodies}
 
@@ -69,6 +69,13 @@ pub first_newer : (moment : ℕ) (bodies : List (List ℕ)) (d : Durable) (next 
 first_newer moment bodies d next xs it e =
     subst (λ (l : List (List ℕ)). generation l < generation xs) it.comes.bodies_are.spelling
     (subst (λ (l : List (List ℕ)). generation (map spelled it.comes.records) < generation l) (sym (first_bodies moment bodies d next xs it e)) (newer it.comes.records d it.comes.folded it.boots))
+
+-- those of a log without records begin the first generation
+pub first_few : (moment : ℕ) (bodies : List (List ℕ)) (d : Durable) (next : NextBoot) (xs : List (List ℕ)) → IsPlanned bodies d moment next → xs ≡ next.bodies.items
+    → bodies ≡ [] → generation xs ≤ 1
+first_few moment bodies d next xs it e none =
+    subst (λ (l : List (List ℕ)). generation l ≤ 1) (sym (first_bodies moment bodies d next xs it e))
+    (first_number it.comes.records d (it.comes.bodies_are.spelling ∙ none) it.comes.folded)
 
 -- so do those of each boot that is planned
 pub next_newer : (moment : ℕ) (bodies : List (List ℕ)) (d : Durable) (o : Option NextBoot) → LogRebuilt bodies (Ok d) → IsNext d moment o

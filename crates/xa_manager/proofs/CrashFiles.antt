@@ -78,7 +78,7 @@ checkpoint_files {D} disks log rs t boot stood current other p above h k is one 
   where
     l : IsLogOf log.log_bytes (map spelled rs) current
     l = subst (λ (x : List ℕ). IsLogOf log.log_bytes (map spelled rs) x) (sym (p.current.durable current one))
-        (record { format = log.format; fits = p.current.fits; rests = p.current.file })
+        (record { format = log.format; fits = p.current.fits; rests = p.current.file; whole = p.current.whole })
 
     old : AreFilesOf log.log_bytes log.on_first (map spelled rs) current other → StandFor log current other t
     old f = first_for log.log_bytes log.on_first rs t 0 current other h k (omega arith) f
@@ -92,7 +92,7 @@ checkpoint_files {D} disks log rs t boot stood current other p above h k is one 
     by (inl leaves) = inl (λ calm. old (files_of_other log.log_bytes log.on_first (map spelled rs) stood current other l leaves calm p.older))
     by (inr (inl none)) = inr (inl (old (files_of_none log.log_bytes log.on_first newest (map spelled rs) current other l none)))
     by (inr (inr leaves)) = inr (inr (λ calm. ⊎_elim old fresh
-        (files_of_seal log.log_bytes log.on_first (map spelled rs) (snapshot_bodies t boot) current other l leaves.0 calm above)))
+        (files_of_seal log.log_bytes log.on_first (map spelled rs) (snapshot_bodies t boot) current other l leaves calm above)))
 
 -- ---- what the log stands for
 

@@ -1,7 +1,7 @@
 -- Which log two images have.
 use Rattle.std.proofs.Common.{◌≡◌, ◌⊎◌, inl, inr, ⊎_elim, ℕ, ◌≤◌, ◌<◌, Bool, true, List, [], ◌++◌, length, take, sym, ◌∙◌, cond, None}
 use Rattle.xa_log.specs.declared.format.Format.{Format}
-use Rattle.xa_log.specs.Checkpoint.{LeavesOf, LeavesNone}
+use Rattle.xa_log.specs.Checkpoint.{LeavesOf, LeavesNone, LeavesSealed}
 use Rattle.xa_log.specs.Group.{IsFirstPart}
 use Rattle.xa_log.specs.Laws.{IsLogOf}
 use Rattle.xa_log.specs.Pair.{generation, beats, logged_pair, pair_fault, Behind, IsCalm}
@@ -41,11 +41,11 @@ pub files_of_group : (most : ℕ) (first : Bool) (format : Format) (bodies group
     → length current ≤ most → (part : IsFirstPart format bodies group current) → length other ≤ most → Behind stood other → IsCalm stood other
     → beats first bodies stood ≡ true → AreFilesOf most first (bodies ++ take part.many group) current other
 files_of_group most first format bodies group stood current other short part fits behind calm wins =
-    files_of_pair most first (bodies ++ take part.many group) stood current other (record { format = format; fits = short; rests = part.rests }) fits behind calm
+    files_of_pair most first (bodies ++ take part.many group) stood current other (record { format = format; fits = short; rests = part.rests; whole = part.whole }) fits behind calm
     (beats_group first bodies (take part.many group) stood wins)
 
 -- a checkpoint was lost
-pub files_of_seal : (most : ℕ) (first : Bool) (bodies fresh : List (List ℕ)) (current other : List ℕ) → IsLogOf most bodies current → LeavesOf most fresh other
+pub files_of_seal : (most : ℕ) (first : Bool) (bodies fresh : List (List ℕ)) (current other : List ℕ) → IsLogOf most bodies current → LeavesSealed most fresh other
     → IsCalm fresh other → generation bodies < generation fresh
     → AreFilesOf most first bodies current other ⊎ AreFilesOf most first fresh current other
 files_of_seal most first bodies fresh current other l leaves calm above =

@@ -9,7 +9,7 @@ use Rattle.xa_disk.specs.declared.disk.Disk.{Ghosts}
 use Rattle.xa_log.specs.Pair.{pair_fault}
 use Rattle.xa_log.specs.Reading.{Explains}
 use Rattle.xa_log.specs.declared.fault.OpenFault.{OpenFault}
-use Rattle.xa_log.specs.declared.fault.OpenFault.TheVariants.{NotALog, TooNew, TooLong, Device, Memory}
+use Rattle.xa_log.specs.declared.fault.OpenFault.TheVariants.{NotALog, TooNew, TooLong, Damaged, Device, Memory}
 use Rattle.xa_log.proofs.Torn.{then, stays, torn_then}
 use Rattle.xa_manager.specs.Opening.{LogRefused}
 use Rattle.xa_manager.specs.Refused.{IsUnwritten, LeavesFinding}
@@ -56,6 +56,7 @@ read_refused Memory most a b x some = tt
 read_refused NotALog most a b x some = inr (not_both a b some, x)
 read_refused TooNew most a b x some = inr (not_both a b some, x)
 read_refused TooLong most a b x some = inr (not_both a b some, x)
+read_refused Damaged most a b x some = inr (not_both a b some, x)
 
 -- a fault that is handed on
 pub handed_on : {T E : Type 0} (r : Result T E) (e : E) (P : E → Type 0) → IsErrAnd r (λ k. k ≡ e) → P e → IfErr r P

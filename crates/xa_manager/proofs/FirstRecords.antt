@@ -1,12 +1,14 @@
 -- The first records of a boot: that a log without records has no room for its first, and what they leave where they aren't
 -- kept.
-use Rattle.std.proofs.Common.{◌≡◌, ◌⊎◌, inl, inr, ⊎_elim, ◌+◌, ◌<◌, ℕ, Bool, List, [], ◌∷◌, length, true, false, ap, sym, ◌∙◌, subst, arith}
+use Rattle.std.proofs.Common.{◌≡◌, ◌⊎◌, inl, inr, ⊎_elim, ◌+◌, ◌<◌, ◌≤◌, ℕ, Bool, refl, List, [], ◌∷◌, length, true, false, ap, sym, ◌∙◌, subst, arith}
 use Rattle.std.specs.Prelude.{slice_index_or}
 use Rattle.std.proofs.lemmas.Bool.{cases_Bool}
 use Rattle.xa_disk.specs.Time.{LeavesOnly}
 use Rattle.xa_disk.specs.declared.disk.Disk.{Ghosts}
 use Rattle.xa_log.specs.Checkpoint.{LeavesAny}
 use Rattle.xa_log.specs.Chain.{newest, text}
+use Rattle.xa_log.specs.Damage.{AreAppended}
+use Rattle.xa_log.specs.Pair.{generation}
 use Rattle.xa_log.specs.LogView.{LogView}
 use Rattle.xa_log.specs.Stands.{Stands, EndsBehind, Leaves}
 use Rattle.xa_log.specs.TwoFiles.{Pair, AppendsTo, Checkpoints, Swaps, written}
@@ -29,20 +31,25 @@ one_body [] x body one first same = absurd (omega (arith, one))
 one_body (y ∷ []) x body one first same = ap (λ (l : List ℕ). l ∷ []) (sym (same ∙ first))
 one_body (y ∷ (z ∷ zs)) x body one first same = absurd (omega (arith, one))
 
+-- it begins the first generation
+pub first_appended : (fresh : List (List ℕ)) (body : List ℕ) → fresh ≡ body ∷ [] → generation fresh ≤ 1 → AreAppended [] (body ∷ [])
+first_appended fresh body only few = inr (refl, subst (λ (l : List (List ℕ)). generation l ≤ 1) only few)
+
 -- what logging the first record of a log that was made does
 pub appends_first : {D : Type 0} (disks : Ghosts D) (is_new : Bool) (o : Appended) (fresh : List (List ℕ)) (body : List ℕ) (old new : LogView D) → is_new ≡ true → fresh ≡ body ∷ []
     → (new.other ≡ old.other) × (new.on_first ≡ old.on_first)
-    → (disks.honest → (bodies stood : List (List ℕ)) → Pair disks bodies stood old → AppendsTo disks o bodies (body ∷ []) stood new)
+    → generation fresh ≤ 1
+    → (disks.honest → (bodies stood : List (List ℕ)) → Pair disks bodies stood old → AreAppended bodies (body ∷ []) → AppendsTo disks o bodies (body ∷ []) stood new)
     → (disks.honest → (bodies : List (List ℕ)) → Stands disks bodies old → LeavesOnly disks old.disk new.disk (Leaves old.log_bytes old.format bodies (body ∷ [])))
     → LogsFirst disks is_new o fresh old new
-appends_first disks is_new o fresh body old new made only same pair moment = inl (
+appends_first disks is_new o fresh body old new made only same few pair moment = inl (
   made,
   record {
     on_first = same.1;
     other = same.0;
     body = body;
     only = only;
-    left = λ h stood p. (pair h [] stood p, moment h [] p.current);
+    left = λ h stood p. (pair h [] stood p (first_appended fresh body only few), moment h [] p.current);
   },
 )
 

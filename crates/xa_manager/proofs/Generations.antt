@@ -1,5 +1,5 @@
 -- The new boot's records come before those that the log has, and bodies are those of one list of records.
-use Rattle.std.proofs.Common.{◌≡◌, ◌<◌, ◌+◌, ◌^◌, ℕ, List, [], ◌∷◌, ◌++◌, map, Ok, Err, refl, ap, sym, ◌∙◌, subst, arith}
+use Rattle.std.proofs.Common.{◌≡◌, ◌<◌, ◌≤◌, ◌+◌, ◌^◌, ℕ, List, [], ◌∷◌, ◌++◌, map, Ok, Err, refl, ap, sym, ◌∙◌, subst, arith}
 use Rattle.std.specs.List.{AllByRecursion}
 use Rattle.std.proofs.lemmas.Nat.{from_be_bytes-to_be_bytes_4}
 use Rattle.xa_record.specs.Limits.{IsRecord}
@@ -9,7 +9,7 @@ use Rattle.xa_record.specs.declared.record.Record.TheVariants as logged
 use Rattle.xa_record.proofs.Bodies.{one_body}
 use Rattle.xa_log.specs.Pair.{number_in, generation}
 use Rattle.xa_model.specs.Durable.{Durable}
-use Rattle.xa_model.specs.Fold.{fold, snapshot}
+use Rattle.xa_model.specs.Fold.{fold, snapshot, unread}
 use Rattle.xa_limits.specs.declared.TheConstants.{MOST_BOOTS}
 use Rattle.xa_recovery.specs.Log.{LogRebuilt}
 use Rattle.xa_recovery.specs.declared.log_fault.LogFault.{LogFault}
@@ -20,6 +20,9 @@ number_opened : (boot : ℕ) → boot < 2 ^ 32 → number_in (spelled (logged.Op
 unfolding number_in
 number_opened boot h = from_be_bytes-to_be_bytes_4 boot h
 
+boot_of : (d : Durable) → fold [] ≡ Ok d → d.boot ≡ 0
+boot_of d e = let same : unread.durable ≡ d = cc e in ap (λ (x : Durable). x.boot) (sym same)
+
 pub newer : (rs : List Record) (d : Durable) → fold rs ≡ Ok d → d.boot < MOST_BOOTS → generation (map spelled rs) < generation (map spelled (snapshot d (d.boot + 1)))
 newer [] d e less = let now = number_opened (d.boot + 1) (omega (arith, less)) in omega (arith, now)
 newer (r ∷ rs) d e less =
@@ -27,6 +30,13 @@ newer (r ∷ rs) d e less =
     let was : number_in (spelled r) ≡ first.0 = ap (λ (x : Record). number_in (spelled x)) first.1 ∙ number_opened first.0 (omega (arith, less, first.3)) in
     let now = number_opened (d.boot + 1) (omega (arith, less)) in
     omega (arith, was, now, first.3)
+
+-- what no records come to
+pub first_number : (rs : List Record) (d : Durable) → map spelled rs ≡ [] → fold rs ≡ Ok d → generation (map spelled (snapshot d (d.boot + 1))) ≤ 1
+first_number [] d none e =
+    let boot : d.boot ≡ 0 = boot_of d e in
+    let now = number_opened (d.boot + 1) (omega (arith, boot)) in omega (arith, now, boot)
+first_number (r ∷ rs) d none e = absurd (cc none)
 
 pub same_records : (qs rs : List Record) → AllByRecursion IsRecord qs → AllByRecursion IsRecord rs → map spelled qs ≡ map spelled rs → qs ≡ rs
 same_records [] [] h k e = refl

@@ -1,5 +1,5 @@
 -- A group that was appended is steps one after another, and the manager stands for where they lead.
-use Rattle.std.proofs.Common.{◌≡◌, ◌+◌, ◌≤◌, arith, ℕ, Bool, true, false, List, [], ◌∷◌, ◌++◌, map, length, refl, ap, sym, ◌∙◌, subst}
+use Rattle.std.proofs.Common.{◌≡◌, ◌+◌, ◌≤◌, arith, ℕ, Bool, true, false, List, [], ◌∷◌, ◌++◌, get_or, map, length, refl, ap, sym, ◌∙◌, subst}
 use Rattle.std.specs.List.{AllByRecursion}
 use Rattle.std.proofs.lemmas.Bool.Decides.{nat_tests}
 use Rattle.std.proofs.lemmas.List.{append-nil, append_assoc}
@@ -7,6 +7,7 @@ use Rattle.xa_disk.specs.Time.{LeavesOnly}
 use Rattle.xa_disk.specs.declared.disk.Disk.{Ghosts}
 use Rattle.xa_record.specs.Spelling.{spelled}
 use Rattle.xa_record.specs.declared.record.Record.{Record}
+use Rattle.xa_log.specs.Damage.{is_appended}
 use Rattle.xa_log.specs.Group.{as_one, group_bytes}
 use Rattle.xa_log.specs.Stands.{Leaves, Stands}
 use Rattle.xa_log.specs.LogView.{LogView}
@@ -39,7 +40,7 @@ use Rattle.xa_manager.specs.Stands.{TablesStandFor}
 use Rattle.xa_manager.specs.GroupAnswers.{group_after}
 use Rattle.xa_manager.specs.Turns.{HasAppended, up_after, doubt_after}
 use Rattle.xa_manager.proofs.CrashFiles.{append_files}
-use Rattle.xa_manager.proofs.Stepping.{alive_after, applied_bytes, applied_end, doubt_stands, end_after, format_after, log_after, recoverable_by, tables_at}
+use Rattle.xa_manager.proofs.Stepping.{alive_after, applied_bytes, applied_end, doubt_stands, end_after, format_after, kind_appended, log_after, recoverable_by, tables_at}
 
 -- what each of its calls did
 
@@ -101,6 +102,11 @@ all_refused s ps h up may = refused_walk s s [] ps up (refusing.begins s ps h) m
 -- the room that the last of the states keeps is room for all of the records
 room_left : (most end prepared decided from size bytes : ℕ) → log_room most end prepared decided ≡ true → end ≡ from + (36 + size) → most ≡ bytes → from + 40 + size ≤ bytes
 room_left most end prepared decided from size bytes room ends same = grind (arith, nat_tests, room, ends, same)
+
+kinds_appended : (rs : List Record) (s : State) → MayFollow s rs → AllByRecursion (λ (r : Record). is_boot r ≡ false) rs
+    → AllByRecursion (λ (body : List ℕ). is_appended (get_or body 0 0) ≡ true) (map spelled rs)
+kinds_appended [] s follow others = tt
+kinds_appended (r ∷ rs) s follow others = (kind_appended s r follow.0.may others.0, kinds_appended rs (applied r s) follow.1 others.1)
 
 module _ {D : Type 0} (disks : Ghosts D) where
   kept_bytes : (rs : List Record) (s : State) → (applied_all rs s).log_bytes ≡ s.log_bytes
@@ -174,7 +180,7 @@ module _ {D : Type 0} (disks : Ghosts D) where
             (doubt_stands disks s next rs a m.log.end (omega arith) others (st.end is_up) opens.0 opens.1 (λ q. ap (λ (u : State). u.open_records) (lost_ q)) (λ q. ap (λ (u : State). u.end) (lost_ q)));
         log = λ trusts.
             let backed = λ (ls : List Record) (b : Backs ls s). backs_together ls s p ps h up may b in
-            log_after disks m.log m'.log s next rs a none others x trusts.disk (λ q. ap (λ (u : State). u.open_records) (lost_ q))
+            log_after disks m.log m'.log s next rs a none others (kinds_appended rs s walk.follow walk.group) x trusts.disk (λ q. ap (λ (u : State). u.open_records) (lost_ q))
             (λ q ls b. subst (Backs (ls ++ rs)) (sym (kept_ q)) (backed ls b).0) (λ q ls b. subst (Backs ls) (sym (refused_ q)) (backed ls b).1)
             (λ q ls b. subst (Backs ls) (sym (lost_ q)) (backed ls b).2) (st.log trusts);
       }

@@ -82,7 +82,7 @@ module _ {D : Type 0} (disks : Ghosts D) (old new : LogView D) (r : HasReserved 
     log_bytes = h.log_bytes ∙ r.fields.log_bytes;
     other = (h.other.0 ∙ r.files.1, h.other.1 ∙ r.fields.on_first);
     moves = moves_same a (as_one group) after h.moves;
-    pair = λ honest bodies stood p. h.pair honest bodies stood (pair_same bodies stood p);
+    pair = λ honest bodies stood p kinds. h.pair honest bodies stood (pair_same bodies stood p) kinds;
     calls = rw (← r.fields.end, ← r.fields.log_bytes, ← r.fields.known, ← r.files.0) h.calls;
     leaves = λ honest bodies st. rw (← r.fields.log_bytes, ← r.fields.format, ← r.files.0) (h.leaves honest bodies (r.keeps.stands bodies st));
   }

@@ -1,5 +1,5 @@
 -- A turn that a manager took is a step, and the manager stands for the step's state.
-use Rattle.std.proofs.Common.{◌≡◌, ◌+◌, ◌≤◌, arith, ℕ, Bool, true, false, List, [], ◌∷◌, ◌++◌, map, length, Option, Some, None, IsSomeAnd, refl, ap, sym, ◌∙◌, subst}
+use Rattle.std.proofs.Common.{◌≡◌, inl, ◌+◌, ◌≤◌, arith, ℕ, Bool, true, false, List, [], ◌∷◌, ◌++◌, get_or, map, length, Option, Some, None, IsSomeAnd, refl, ap, sym, ◌∙◌, subst}
 use Rattle.std.proofs.lemmas.List.{map-append}
 use Rattle.std.specs.List.{AllByRecursion}
 use Rattle.xa_disk.specs.declared.disk.Disk.{Ghosts}
@@ -7,6 +7,7 @@ use Rattle.xa_frame.specs.declared.reply.Reply.{Reply}
 use Rattle.xa_record.specs.Spelling.{spelled}
 use Rattle.xa_record.specs.declared.record.Record.{Record}
 use Rattle.xa_record.specs.declared.record.Record.TheVariants as logged
+use Rattle.xa_log.specs.Damage.{is_appended}
 use Rattle.xa_log.specs.Group.{as_one, IsPlain}
 use Rattle.xa_log.specs.TwoFiles.{Pair}
 use Rattle.xa_log.specs.LogView.{LogView}
@@ -88,27 +89,40 @@ doubts_same (Some (doubt.Record end)) s t e f h = (
   h.2 ∙ sym f,
 )
 
+-- a record that may be logged is an appended one, unless it is a boot's
+pub kind_appended : (s : State) (r : Record) → MayLog s r → is_boot r ≡ false → is_appended (get_or (spelled r) 0 0) ≡ true
+kind_appended s (logged.Opened boot) may other = absurd (cc other)
+kind_appended s (logged.Prepared xid ts ws) may other = refl
+kind_appended s (logged.Committed xid ts ws) may other = refl
+kind_appended s (logged.Completed xid direction) may other = refl
+kind_appended s (logged.Decided xid direction) may other = refl
+kind_appended s (logged.Forgotten xid) may other = refl
+kind_appended s (logged.Base ts ws) may other = absurd may
+kind_appended s (logged.Held xid ts ws) may other = absurd may
+kind_appended s (logged.Known xid direction) may other = absurd may
+
 module _ {D : Type 0} (disks : Ghosts D) where
   pub log_same : (log : LogView D) (s t : State) → AreOneGroup s.open_records → KeepsLog s t → ((rs : List Record) → Backs rs s → Backs rs t) → LogStandsFor disks log s → LogStandsFor disks log t
   log_same log s t group k backs l = stands_alike disks log s t group k.lasts k.open_records backs l
 
   -- the log behind the state, after an append of these records
   pub log_after : (log log' : LogView D) (s t : State) (group : List Record) (a : Appending) → s.open_records ≡ [] → AllByRecursion (λ (r : Record). is_boot r ≡ false) group
+      → AllByRecursion (λ (body : List ℕ). is_appended (get_or body 0 0) ≡ true) (map spelled group)
       → HasAppended disks (map spelled group) a log log' → disks.honest
       → (a ≡ Lost → t.open_records ≡ group)
       → (a ≡ Kept → (rs : List Record) → Backs rs s → Backs (rs ++ group) t) → (a ≡ Refused → (rs : List Record) → Backs rs s → Backs rs t) → (a ≡ Lost → (rs : List Record) → Backs rs s → Backs rs t)
       → LogStandsFor disks log s → LogStandsFor disks log' t
-  log_after log log' s t group Kept none others h disk lost_ backs bref blost l =
+  log_after log log' s t group Kept none others kinds h disk lost_ backs bref blost l =
       let here : HasRecords disks l.records log = only_records disks log s none l in
-      let there : Pair disks (map spelled l.records ++ map spelled group) here.0 log' = h.pair disk (map spelled l.records) here.0 here.1 in
+      let there : Pair disks (map spelled l.records ++ map spelled group) here.0 log' = h.pair disk (map spelled l.records) here.0 here.1 (inl kinds) in
       stands_whole disks log' t (l.records ++ group) (backs refl l.records l.backs)
       (here.0, subst (λ (bs : List (List ℕ)). Pair disks bs here.0 log') (sym (map-append spelled l.records group)) there)
-  log_after log log' s t group Refused none others h disk lost_ backs bref blost l =
+  log_after log log' s t group Refused none others kinds h disk lost_ backs bref blost l =
       let here : HasRecords disks l.records log = only_records disks log s none l in
-      stands_whole disks log' t l.records (bref refl l.records l.backs) (here.0, h.pair disk (map spelled l.records) here.0 here.1)
-  log_after log log' s t group Lost none others h disk lost_ backs bref blost l =
+      stands_whole disks log' t l.records (bref refl l.records l.backs) (here.0, h.pair disk (map spelled l.records) here.0 here.1 (inl kinds))
+  log_after log log' s t group Lost none others kinds h disk lost_ backs bref blost l =
       let here : HasRecords disks l.records log = only_records disks log s none l in
-      stands_append disks log' t l.records group here.0 (blost refl l.records l.backs) (lost_ refl) others (h.pair disk (map spelled l.records) here.0 here.1)
+      stands_append disks log' t l.records group here.0 (blost refl l.records l.backs) (lost_ refl) others (h.pair disk (map spelled l.records) here.0 here.1 (inl kinds))
 
   bytes_by : (s : State) (direction : Direction) (xid : Triple) → (completed s direction xid).log_bytes ≡ s.log_bytes
   bytes_by s Commit xid = refl
@@ -266,7 +280,7 @@ module _ {D : Type 0} (disks : Ghosts D) where
               (doubt_stands s next (r ∷ []) a m.log.end (omega arith) (last.1, tt) (st.end is_up) opens.0 opens.1 (λ q. ap (λ (u : State). u.open_records) (lost_ q)) (λ q. ap (λ (u : State). u.end) (lost_ q)));
           log = λ trusts.
               let backed = λ (rs : List Record) (b : Backs rs s). subst (BacksTurn rs s) t (keeps_backed rs s (Asked e) event before b) in
-              log_after m.log m'.log s next (r ∷ []) a none (last.1, tt) x.log trusts.disk (λ q. ap (λ (u : State). u.open_records) (lost_ q))
+              log_after m.log m'.log s next (r ∷ []) a none (last.1, tt) (kind_appended s r logs.0 last.1, tt) x.log trusts.disk (λ q. ap (λ (u : State). u.open_records) (lost_ q))
               (λ q rs b. of_answer after (λ y. Backs (rs ++ r ∷ []) y.after) a Kept q (backed rs b).0) (λ q rs b. of_answer after (λ y. Backs rs y.after) a Refused q (backed rs b).1)
               (λ q rs b. of_answer after (λ y. Backs rs y.after) a Lost q (backed rs b).2) (st.log trusts);
         };

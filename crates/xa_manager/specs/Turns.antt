@@ -10,6 +10,7 @@ use Rattle.xa_record.specs.Spelling.{spelled}
 use Rattle.xa_record.specs.declared.record.Record.{Record}
 use Rattle.xa_log.specs.Calls.{SettlesBy}
 use Rattle.xa_log.specs.Ahead.{AppendsBy}
+use Rattle.xa_log.specs.Damage.{AreAppended}
 use Rattle.xa_log.specs.Group.{as_one}
 use Rattle.xa_log.specs.Stands.{Stands, Leaves, Moves}
 use Rattle.xa_log.specs.TwoFiles.{Pair, AppendsTo}
@@ -46,7 +47,7 @@ pub record HasAppended {D : Type 0} (disks : Ghosts D) (group : List (List ℕ))
   pub log_bytes : log'.log_bytes ≡ log.log_bytes
   pub other : (log'.other ≡ log.other) × (log'.on_first ≡ log.on_first)
   pub moves : Moves (as_appended a) (as_one group) log log'
-  pub pair : disks.honest → (bodies stood : List (List ℕ)) → Pair disks bodies stood log
+  pub pair : disks.honest → (bodies stood : List (List ℕ)) → Pair disks bodies stood log → AreAppended bodies group
       → AppendsTo disks (as_appended a) bodies group stood log'
   pub calls : AppendsBy disks (as_one group) (as_appended a) log log'
   -- what a crash at any moment of it leaves of the file that is written

@@ -38,6 +38,7 @@ pub(crate) fn log_first<D: Disk>(log: &mut Log<D>, is_new: bool, bodies: &[Share
     requires sizes { AllByRecursion (IsBody newest) bodies.now }
     requires holds { HoldsEach log.old bodies.now }
     requires above { log.old.generation < generation bodies.now }
+    requires first { is_new ≡ true → generation bodies.now ≤ 1 }
     ensures kept { D.honest → result ≡ Appended.Kept → (old : List (List ℕ)) → (is_new ≡ true → old ≡ [])
         → IsFound D.Disk is_new old log.old → HasBodies D.Disk bodies.now log.new }
     ensures ends { result ≡ Appended.Kept → (old : List (List ℕ)) → (is_new ≡ true → old ≡ [])

@@ -272,7 +272,8 @@ impl<D: Disk> Manager<D> {
             }
             Err(OpenFault::Memory) => Err(AllocError),
             Err(OpenFault::Device) => Ok(self.failed()),
-            Err(OpenFault::NotALog | OpenFault::TooNew | OpenFault::TooLong) => Ok(self.unread()),
+            Err(OpenFault::NotALog | OpenFault::TooNew | OpenFault::TooLong | OpenFault::Damaged) =>
+                Ok(self.unread()),
         }
     }
 

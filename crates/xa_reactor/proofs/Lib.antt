@@ -5,3 +5,4 @@ pub mod Parts
 pub mod Aside
 pub mod Each
 pub mod Asking
+pub mod Telling

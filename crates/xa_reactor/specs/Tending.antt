@@ -6,9 +6,15 @@ use Rattle.xa_assoc.specs.declared.fault.ConnectFault.{ConnectFault}
 use Rattle.xa_desk.specs.Serving.{AnswersAll}
 use Rattle.xa_frame.specs.declared.reply.Reply.{Reply}
 use Rattle.xa_frame.specs.declared.question.Question.{Question}
+use Rattle.xa_reactor.specs.declared.common.Settings.{Settings}
 use Rattle.xa_reactor.specs.declared.loops.Ended.{Ended}
 use Rattle.xa_reactor.specs.declared.loops.Seed.{Seed}
 use Rattle.xa_reactor.specs.declared.peer.Peer.{Peer}
+
+-- each loop did what these settings ask
+abbrev pub HaveObeyed : {D : Type 0} → Settings → List (Ended D) → Type 0
+HaveObeyed {D} settings ended =
+    (i : ℕ) (e : Ended D) → i < length ended → (slice_index_or ended i e).settings ≡ settings
 
 -- the session that is served under each key
 abbrev pub Table : Type 0

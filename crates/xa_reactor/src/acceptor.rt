@@ -1,3 +1,6 @@
+ghost use Rattle.std.specs.Prelude.{◌≡◌, ◌≤◌};
+ghost use Rattle.xa_reactor.specs.Accepting.{most_of};
+
 use crate::common::{Common, MOST_OPEN};
 use crate::listener::Listener;
 use crate::timing::{LOOK, PAUSE};
@@ -27,7 +30,9 @@ pub(crate) struct Acceptor {
 
 impl Acceptor {
     /// Of so many connections, 0 for any number.
-    pub(crate) fn new(listener: Listener, connections: u64) -> Acceptor {
+    pub(crate) fn new(listener: Listener, connections: u64) -> Acceptor
+        ensures { (result.most ≡ most_of connections) × (result.accepted ≡ 0) }
+    {
         Acceptor {
             listener,
             accepted: 0,
@@ -72,7 +77,10 @@ impl Acceptor {
     }
 
     // Whether another may wait that is to be accepted now.
-    fn accept_one<R: Wait>(&mut self, rt: &R, common: &Common<'_>, now: u64) -> bool {
+    fn accept_one<R: Wait>(&mut self, rt: &R, common: &Common<'_>, now: u64) -> bool
+        ensures most { self.new.most ≡ self.old.most }
+        ensures few { self.old.accepted ≤ self.old.most → self.new.accepted ≤ self.new.most }
+    {
         if self.accepted >= self.most {
             self.waits = false;
             common.end();

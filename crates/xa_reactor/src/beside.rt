@@ -1,13 +1,15 @@
 //! What a loop does between its rounds.
-ghost use Rattle.xa_reactor.specs.Tending.{Tends, sessions_of};
+ghost use Rattle.std.specs.Prelude.{◌≡◌, IfOk, IfSome};
+ghost use Rattle.xa_reactor.specs.{Accepting.most_of, Tending.Tends, Tending.sessions_of};
 
 use crate::acceptor::Acceptor;
+use crate::clock::LoopClock;
 use crate::common::Common;
 use crate::noticing::LISTENER;
 use crate::peers::Peers;
 use crate::reception::Reception;
 use crate::round::Round;
-use crate::timing::{Limits, wait_of};
+use crate::timing::wait_of;
 use mio::Poll;
 use std::io;
 use std::rt::Clock;
@@ -19,7 +21,9 @@ pub(crate) fn begin<R: Wait>(
     common: &Common<'_>,
     index: usize,
     poll: &Poll,
-) -> io::Result<Option<Acceptor>> {
+) -> io::Result<Option<Acceptor>>
+    ensures { IfOk result (λ one. IfSome one (λ a. (a.most ≡ most_of common.now.settings.connections) × (a.accepted ≡ 0))) }
+{
     let Some(mut listener) = common.begin(rt, index) else {
         return Ok(None);
     };
@@ -45,10 +49,10 @@ pub(crate) fn wait_for(
     )
 }
 
-/// Ends those that are overdue, where a look is due.
+/// Ends those that are overdue at that time, where a look is due. By then what had come in must be read.
 pub(crate) fn look<D: Reception>(
     common: &Common<'_>,
-    round: Round<'_>,
+    now: u64,
     peers: &mut Peers,
     door: &mut D,
     is_look: bool,
@@ -56,11 +60,7 @@ pub(crate) fn look<D: Reception>(
     ensures { Tends D.connected D.called D.left (sessions_of peers.old.all) door.old (sessions_of peers.new.all) door.new }
 {
     if is_look {
-        let limits = Limits {
-            inside: common.settings.frame_seconds.saturating_mul(1_000),
-            idle: common.settings.idle_seconds.saturating_mul(1_000),
-        };
-        peers.end_overdue(door, round.now, limits);
+        peers.end_overdue(door, now, &common.settings);
     }
 }
 
@@ -82,11 +82,12 @@ pub(crate) fn accept<R: Eprint + Wait>(
 }
 
 /// Takes in the connections that were handed to the loop.
-pub(crate) fn take_in<D: Reception, R: Wait>(
+pub(crate) fn take_in<D: Reception, R: Clock + Wait>(
     rt: &R,
     common: &Common<'_>,
     index: usize,
     round: Round<'_>,
+    clock: &mut LoopClock,
     peers: &mut Peers,
     door: &mut D,
 )
@@ -96,7 +97,7 @@ pub(crate) fn take_in<D: Reception, R: Wait>(
         let Some(socket) = common.take(rt, index) else {
             return;
         };
-        if !peers.add(round, door, socket) {
+        if !peers.add(rt, round, clock, door, socket) {
             common.leave(1);
         }
     }

@@ -1,8 +1,8 @@
 ghost use Rattle.std.specs.Prelude.{◌≡◌, Some};
-ghost use Rattle.xa_reactor.specs.Down.{cause_of};
+ghost use Rattle.xa_reactor.specs.Down.{cause_of, news_of};
 
 use std::fmt;
-use xa_codes::{Detail, XAER_RMFAIL};
+use xa_codes::{Detail, XA_OK, XAER_RMFAIL};
 use xa_frame::Reply;
 
 /// Why a manager went down. Its text is what is told of it.
@@ -63,6 +63,28 @@ pub(crate) fn cause_of(is_restart: bool, reply: &Reply) -> Option<Cause>
         (XAER_RMFAIL, true, Detail::Nothing) => Some(Cause::Log),
         (XAER_RMFAIL, true, Detail::LogFull) => Some(Cause::Full),
         (XAER_RMFAIL, true, Detail::Limit) => Some(Cause::Boots),
+        _ => None,
+    }
+}
+
+/// What a reply tells of the manager.
+#[derive(Clone, Copy, Debug, PartialEq, Eq)]
+pub(crate) enum News {
+    /// It is down from this reply on.
+    Down(Cause),
+    /// A Restart succeeded.
+    Up,
+}
+
+/// What this reply tells of the manager, to a Restart or to another call.
+pub(crate) fn news_of(is_restart: bool, reply: &Reply) -> Option<News>
+    ensures { result ≡ news_of is_restart reply.now }
+{
+    if let Some(cause) = cause_of(is_restart, reply) {
+        return Some(News::Down(cause));
+    }
+    match (reply.code, is_restart, reply.detail) {
+        (XA_OK, true, Detail::Nothing) => Some(News::Up),
         _ => None,
     }
 }

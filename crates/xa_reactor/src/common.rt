@@ -1,3 +1,5 @@
+ghost use Rattle.std.specs.Prelude.{◌≡◌};
+
 use crate::listener::Listener;
 use crate::mailbox::Mailbox;
 use crate::socket::Socket;
@@ -10,7 +12,7 @@ use std::sync::{Mutex, Wait};
 pub const MOST_OPEN: u64 = 1_023;
 
 /// What is asked of the loops.
-#[derive(Clone, Copy, Debug)]
+#[derive(Clone, Copy, Debug, PartialEq, Eq)]
 pub struct Settings {
     /// After how many connections they end, 0 for never.
     pub connections: u64,
@@ -52,7 +54,9 @@ impl<'a> Common<'a> {
         boxes: Vec<Mailbox>,
         watch: &'a Watch,
         listener: Listener,
-    ) -> Common<'a> {
+    ) -> Common<'a>
+        ensures { result.settings ≡ settings }
+    {
         Common {
             settings,
             boxes,

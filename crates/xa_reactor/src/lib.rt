@@ -1,7 +1,8 @@
 //! Event loops: few threads that serve the connections of a listener, each those that it is handed, at a door of its own.
 //!
 //! - `reception`: `Reception`, a door at which sessions connect, and calls are posted before they are answered; `watch`:
-//!   `Watch`, whether replies told that the manager behind the doors went down; `cause`: why it did
+//!   `Watch`, whether replies told that the manager behind the doors went down, `seen`: `Seen`, the same of one loop;
+//!   `cause`: why it did
 //! - `loops`: `run_loops`, a thread for each door; `LoopFault`, why it didn't, or not to the end
 //! - `socket`, `listener`: a connection's socket, and what connections come from
 //! - `peer`: a connection with its socket, and its turn; `peers`: those of a loop, whose turns come one behind the other
@@ -31,6 +32,7 @@ mod peer;
 mod peers;
 mod reception;
 mod round;
+mod seen;
 mod socket;
 mod tending;
 mod timing;
@@ -47,5 +49,6 @@ pub use laws::{trims_are_due, trims_are_told};
 pub use listener::Listener;
 pub use loops::{Ended, LoopFault, run_loops};
 pub use reception::Reception;
+pub use seen::Seen;
 pub use socket::Socket;
 pub use watch::Watch;

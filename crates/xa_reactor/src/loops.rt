@@ -1,6 +1,6 @@
 //! Several loops.
 ghost use Rattle.std.specs.Prelude.{◌≡◌, IfOk, length, map};
-ghost use Rattle.xa_reactor.specs.Tending.{HasTended, HaveTended, SeedsHaveTended};
+ghost use Rattle.xa_reactor.specs.Tending.{HasTended, HaveObeyed, HaveTended, SeedsHaveTended};
 ghost use Rattle.xa_reactor.specs.declared.loops.LoopFault.TheVariants.{Memory, Wait};
 
 use crate::common::{Common, Settings};
@@ -53,11 +53,12 @@ struct Seed<D> {
     door: D,
 }
 
-/// What a loop ended with: its door, and whether it could wait for events to the end.
+/// What a loop ended with: its door, whether it could wait for events to the end, and what was asked of it.
 #[derive(Debug, Drop)]
 pub struct Ended<D> {
     pub door: D,
     pub is_whole: bool,
+    pub settings: Settings,
 }
 
 /// Serves the connections of a listener by a loop for each door, each in a thread of its own, or not at all where no
@@ -80,6 +81,7 @@ pub fn run_loops<
     ensures count { IfOk result (λ ended. length ended.items ≡ length doors.items) }
     ensures tended { IfOk result (λ ended. HaveTended D.posted D.connected D.called D.left D.is_settled
         doors.items ended.items) }
+    ensures asked { IfOk result (λ ended. HaveObeyed settings ended.items) }
 {
     let (seeds, boxes) = prepare(rt, doors)?;
     let common = Common::new(settings, boxes, watch, listener);
@@ -95,12 +97,14 @@ fn run_all<D: Reception + Send + Drop, R: AllocGlobal + Clock + Eprint + Threads
     ensures count { IfOk result (λ ended. length ended.items ≡ length seeds.items) }
     ensures tended { IfOk result (λ ended. SeedsHaveTended D.posted D.connected D.called D.left D.is_settled
         seeds.items ended.items) }
+    ensures asked { IfOk result (λ ended. HaveObeyed common.now.settings ended.items) }
 {
     map_vec(
         rt,
         seeds,
         &|seed: Seed<D>| -> Ended<D>
-            ensures { HasTended D.posted D.connected D.called D.left D.is_settled seed.door result.door }
+            ensures { HasTended D.posted D.connected D.called D.left D.is_settled seed.door result.door
+                × (result.settings ≡ common.entry.now.settings) }
         { run_loop(rt, common, seed) },
     )
 }
@@ -110,7 +114,8 @@ fn run_loop<D: Reception, R: AllocGlobal + Clock + Eprint + Wait>(
     common: &Common<'_>,
     seed: Seed<D>,
 ) -> Ended<D>
-    ensures { HasTended D.posted D.connected D.called D.left D.is_settled seed.door result.door }
+    ensures tended { HasTended D.posted D.connected D.called D.left D.is_settled seed.door result.door }
+    ensures asked { result.settings ≡ common.now.settings }
 {
     let Seed {
         index,
@@ -118,7 +123,11 @@ fn run_loop<D: Reception, R: AllocGlobal + Clock + Eprint + Wait>(
         mut door,
     } = seed;
     let is_whole = tend(rt, common, index, poll, &mut door);
-    Ended { door, is_whole }
+    Ended {
+        door,
+        is_whole,
+        settings: common.settings,
+    }
 }
 
 // A seed for each door, and a mailbox for each seed.

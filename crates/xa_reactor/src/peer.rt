@@ -1,9 +1,12 @@
-ghost use Rattle.std.specs.Prelude.{◌≡◌};
-ghost use Rattle.xa_connection.specs.Calls.{new_connection};
-ghost use Rattle.xa_reactor.specs.{Asking.IsAnswered, Opening.Opens};
+ghost use Rattle.std.specs.Prelude.{◌≡◌, ◌-◌, ◌↔◌, IsTrue};
+ghost use Rattle.xa_connection.specs.Calls.{Asks, IsAsked, Turns, new_connection};
+ghost use Rattle.xa_connection.specs.declared.answering.Answering.{Answering};
+ghost use Rattle.xa_reactor.specs.{Asking.IsAnswered, Opening.Opens, Timing.IsRead, Timing.after_wait};
+ghost use Rattle.xa_reactor.specs.Since.{FedAt, OwesFrame, SentAt, TakenAt};
 ghost use Rattle.xa_reactor.specs.Turning.{CarriesOn, HasAnswered, HasFed, HasSent, HasTaken};
 
 use crate::ask::Ask;
+use crate::clock::LoopClock;
 use crate::round::Round;
 use crate::socket::Socket;
 use mio::Token;
@@ -11,6 +14,7 @@ use mio::event::Event;
 use std::alloc::Global;
 use std::io::ErrorKind;
 use std::mem;
+use std::rt::Clock;
 use xa_codes::XA_OK;
 use xa_connection::{Asked, Connection, Front, MOST_INPUT};
 use xa_desk::Door;
@@ -30,7 +34,7 @@ pub(crate) struct Peer {
     writes: bool,
     /// Whether it waits for its turn, or its connection is lent in one.
     is_queued: bool,
-    /// When bytes last came or went, in milliseconds since the loop began.
+    /// When bytes last came or went, by the loop's clock.
     since: u64,
 }
 
@@ -56,7 +60,8 @@ pub(crate) enum Opened {
 
 impl Peer {
     pub(crate) fn new(alloc: Global, socket: Socket, session: u64, now: u64) -> Peer
-        ensures { (result.session ≡ session) × (result.connection ≡ new_connection) }
+        ensures new { (result.session ≡ session) × (result.connection ≡ new_connection) }
+        ensures since { result.since ≡ now }
     {
         Peer {
             socket,
@@ -72,7 +77,8 @@ impl Peer {
 
     /// An event told of the socket. Whether the peer is to be put into the queue of turns, where it isn't yet.
     pub(crate) fn notice(&mut self, event: &Event) -> bool
-        ensures { (self.new.session ≡ self.old.session) × (self.new.connection ≡ self.old.connection) }
+        ensures same { (self.new.session ≡ self.old.session) × (self.new.connection ≡ self.old.connection) }
+        ensures since { self.new.since ≡ self.old.since }
     {
         if event.is_read_closed() || event.is_error() {
             self.is_ending = true;
@@ -88,9 +94,11 @@ impl Peer {
 
     /// A turn: what is to be sent is sent; one read, where no whole frame came in; one frame is answered; and its reply
     /// is sent. While a reply isn't sent nothing is read, and nothing answered.
-    pub(crate) fn turn<D: Door>(
+    pub(crate) fn turn<D: Door, R: Clock>(
         &mut self,
+        rt: &R,
         round: Round<'_>,
+        clock: &mut LoopClock,
         door: &mut D,
         scratch: &mut [u8],
         key: usize,
@@ -99,18 +107,21 @@ impl Peer {
         ensures answers { HasAnswered (D.called self.old.session) door.old door.new }
         ensures carries { CarriesOn (D.called self.old.session) self.old.connection door.old self.new.connection door.new }
     {
-        if !self.take_turn(scratch, round.now) {
+        if !self.take_turn(rt, clock, scratch) {
             return Step::Ends;
         }
-        let _answering = self.connection.answer(round.alloc, door, self.session);
-        self.send(round, key)
+        let asked = self.connection.asked(round.alloc);
+        self.answer(clock, door, asked);
+        self.send(rt, round, clock, key)
     }
 
     /// A turn up to a request, which is answered together with those of other connections, by the connection that is lent
     /// for it; a whole turn, where there is none.
-    pub(crate) fn open_turn<D: Door>(
+    pub(crate) fn open_turn<D: Door, R: Clock>(
         &mut self,
+        rt: &R,
         round: Round<'_>,
+        clock: &mut LoopClock,
         door: &mut D,
         scratch: &mut [u8],
         key: usize,
@@ -118,7 +129,7 @@ impl Peer {
         ensures session { self.new.session ≡ self.old.session }
         ensures opens { Opens (D.called self.old.session) self.old door.old key result self.new door.new }
     {
-        if !self.take_turn(scratch, round.now) {
+        if !self.take_turn(rt, clock, scratch) {
             return Opened::Over(Step::Ends);
         }
         match self.connection.asked(round.alloc) {
@@ -135,17 +146,25 @@ impl Peer {
                 })
             }
             asked => {
-                let _answering = self.connection.answer_asked(door, self.session, asked);
-                Opened::Over(self.send(round, key))
+                self.answer(clock, door, asked);
+                Opened::Over(self.send(rt, round, clock, key))
             }
         }
     }
 
     /// The rest of a turn whose request was answered: the connection is given back, and the reply sent.
-    pub(crate) fn close_turn(&mut self, round: Round<'_>, ask: Ask) -> Step
+    pub(crate) fn close_turn<R: Clock>(
+        &mut self,
+        rt: &R,
+        round: Round<'_>,
+        clock: &mut LoopClock,
+        ask: Ask,
+    ) -> Step
         requires { IsAnswered ask }
         ensures session { self.new.session ≡ self.old.session }
         ensures sent { HasSent ask.connection self.new.connection }
+        ensures since { SentAt clock.new.now ask.connection self.old.since self.new.connection self.new.since }
+        ensures read { IsRead clock.new }
     {
         let Ask {
             key,
@@ -154,15 +173,32 @@ impl Peer {
         } = ask;
         self.connection = connection;
         self.is_queued = false;
-        self.send(round, key)
+        self.send(rt, round, clock, key)
+    }
+
+    // Answers what was asked, for which it may wait.
+    fn answer<D: Door>(&mut self, clock: &mut LoopClock, door: &mut D, asked: Asked)
+        requires asks { Asks self.old.connection asked }
+        requires limits { IsAsked asked }
+        ensures session { self.new.session ≡ self.old.session }
+        ensures turns { (answering : Answering)
+            × Turns (D.called self.old.session) self.old.connection door.old answering self.new.connection door.new }
+        ensures since { self.new.since ≡ self.old.since }
+        ensures waited { clock.new ≡ after_wait clock.old }
+    {
+        let _answering = self.connection.answer_asked(door, self.session, asked);
+        clock.pass();
     }
 
     // The beginning of a turn: what is to be sent is sent, and one read, where no whole frame came in. Whether the connection
     // goes on.
-    fn take_turn(&mut self, scratch: &mut [u8], now: u64) -> bool
+    fn take_turn<R: Clock>(&mut self, rt: &R, clock: &mut LoopClock, scratch: &mut [u8]) -> bool
         ensures session { self.new.session ≡ self.old.session }
         ensures taken { HasTaken self.old.connection self.new.connection }
+        ensures since { TakenAt clock.new.now self.old.connection self.old.since self.new.connection self.new.since }
+        ensures read { IsRead clock.new }
     {
+        let now = clock.now(rt);
         self.is_queued = false;
         if !self.flush(now) {
             return false;
@@ -171,11 +207,20 @@ impl Peer {
     }
 
     // The end of a turn: a reply is sent. What comes behind it, with events of what it waits for.
-    fn send(&mut self, round: Round<'_>, key: usize) -> Step
+    fn send<R: Clock>(
+        &mut self,
+        rt: &R,
+        round: Round<'_>,
+        clock: &mut LoopClock,
+        key: usize,
+    ) -> Step
         ensures session { self.new.session ≡ self.old.session }
         ensures sent { HasSent self.old.connection self.new.connection }
+        ensures since { SentAt clock.new.now self.old.connection self.old.since self.new.connection self.new.since }
+        ensures read { IsRead clock.new }
     {
-        if !self.flush(round.now) || self.connection.is_done() {
+        let now = clock.now(rt);
+        if !self.flush(now) || self.connection.is_done() {
             return Step::Ends;
         }
         let is_full = !self.connection.unsent().is_empty();
@@ -197,6 +242,7 @@ impl Peer {
     fn flush(&mut self, now: u64) -> bool
         ensures session { self.new.session ≡ self.old.session }
         ensures sent { HasSent self.old.connection self.new.connection }
+        ensures since { SentAt now self.old.connection self.old.since self.new.connection self.new.since }
     {
         if self.connection.unsent().is_empty() {
             return true;
@@ -218,6 +264,7 @@ impl Peer {
     fn receive(&mut self, scratch: &mut [u8], now: u64) -> bool
         ensures session { self.new.session ≡ self.old.session }
         ensures fed { HasFed self.old.connection self.new.connection }
+        ensures since { FedAt now self.old.connection self.old.since self.new.connection self.new.since }
     {
         let most = self.connection.room().min(scratch.len());
         if most == 0 || !self.reads {
@@ -226,9 +273,12 @@ impl Peer {
         match self.socket.read(&mut scratch[..most]) {
             Ok(0) => false,
             Ok(count) => {
-                self.since = now;
                 self.reads = self.is_ending || count == most;
-                self.connection.feed(&scratch[..count]).is_ok()
+                if self.connection.feed(&scratch[..count]).is_err() {
+                    return false;
+                }
+                self.since = now;
+                true
             }
             Err(error) => {
                 let kind = error.kind();
@@ -239,12 +289,16 @@ impl Peer {
     }
 
     /// Whether it owes the rest of a frame, and is owed nothing itself: while a reply isn't sent nothing is read of it.
-    pub(crate) fn is_inside_frame(&self) -> bool {
+    pub(crate) fn is_inside_frame(&self) -> bool
+        ensures { IsTrue result ↔ OwesFrame self.now.connection }
+    {
         self.connection.is_inside_frame() && self.connection.unsent().is_empty()
     }
 
     /// For how long no byte came or went, in milliseconds.
-    pub(crate) fn quiet(&self, now: u64) -> u64 {
+    pub(crate) fn quiet(&self, now: u64) -> u64
+        ensures { result ≡ now - self.now.since }
+    {
         now.saturating_sub(self.since)
     }
 

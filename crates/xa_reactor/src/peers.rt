@@ -2,19 +2,23 @@ ghost use Rattle.std.specs.Prelude.{◌≡◌, ◌+◌, ℕ, None, IsTrue, false
 ghost use Rattle.slab.specs.Slab.{get};
 ghost use Rattle.xa_reactor.specs.{Asking.IsAnswered, Opening.OpensAt, Peers.HasRoom};
 ghost use Rattle.xa_reactor.specs.Tending.{Tends, nobody, sessions_of};
-ghost use Rattle.xa_reactor.specs.Timing.{IsToEnd};
+ghost use Rattle.xa_reactor.specs.{Since.Looks, Timing.IsToEnd, Timing.after_wait};
 
 use crate::ask::Ask;
+use crate::clock::LoopClock;
+use crate::common::Settings;
 use crate::peer::{Opened, Peer, Step};
 use crate::reception::Reception;
 use crate::round::Round;
 use crate::socket::Socket;
-use crate::timing::{Limits, is_overdue, is_too_quiet};
+use crate::timing::{is_overdue, is_too_quiet};
 use mio::Token;
 use mio::event::Event;
 use slab::Slab;
 use std::alloc::Global;
 use std::collections::VecDeque;
+use std::rt::Clock;
+use xa_assoc::ConnectFault;
 
 /// The connections of a loop, under the keys that are their tokens.
 #[derive(Drop)]
@@ -45,9 +49,11 @@ impl Peers {
 
     /// Serves a session on a connection. Where there is no memory, or no session is connected, the connection is closed,
     /// and the answer is false.
-    pub(crate) fn add<D: Reception>(
+    pub(crate) fn add<D: Reception, R: Clock>(
         &mut self,
+        rt: &R,
         round: Round<'_>,
+        clock: &mut LoopClock,
         door: &mut D,
         socket: Socket,
     ) -> bool
@@ -60,12 +66,13 @@ impl Peers {
         if !socket.register(round.registry, Token(self.all.vacant_key())) {
             return false;
         }
-        let Ok(session) = door.connect() else {
+        let Ok(session) = connect(clock, door) else {
             return false;
         };
+        let now = clock.now(rt);
         let _key = self
             .all
-            .insert_reserved(Peer::new(round.alloc, socket, session, round.now));
+            .insert_reserved(Peer::new(round.alloc, socket, session, now));
         true
     }
 
@@ -107,9 +114,11 @@ impl Peers {
     }
 
     /// Opens the turn of a connection.
-    pub(crate) fn open_turn<D: Reception>(
+    pub(crate) fn open_turn<D: Reception, R: Clock>(
         &mut self,
+        rt: &R,
         round: Round<'_>,
+        clock: &mut LoopClock,
         scratch: &mut [u8],
         door: &mut D,
         key: usize,
@@ -118,26 +127,34 @@ impl Peers {
         ensures opens { OpensAt D.connected D.called D.left (sessions_of self.old.all) door.old result door.new }
     {
         match self.all.get_mut(key) {
-            Some(peer) => peer.open_turn(round, door, scratch, key),
+            Some(peer) => peer.open_turn(rt, round, clock, door, scratch, key),
             None => Opened::Over(Step::Waits),
         }
     }
 
     /// Closes the turn of a connection, whose request was answered. What comes behind it.
-    pub(crate) fn close_turn(&mut self, round: Round<'_>, ask: Ask) -> Step
+    pub(crate) fn close_turn<R: Clock>(
+        &mut self,
+        rt: &R,
+        round: Round<'_>,
+        clock: &mut LoopClock,
+        ask: Ask,
+    ) -> Step
         requires { IsAnswered ask }
         ensures { sessions_of self.new.all ≡ sessions_of self.old.all }
     {
         match self.all.get_mut(ask.key) {
-            Some(peer) => peer.close_turn(round, ask),
+            Some(peer) => peer.close_turn(rt, round, clock, ask),
             None => Step::Waits,
         }
     }
 
     /// The next connection that has a turn has it.
-    pub(crate) fn give_turn<D: Reception>(
+    pub(crate) fn give_turn<D: Reception, R: Clock>(
         &mut self,
+        rt: &R,
         round: Round<'_>,
+        clock: &mut LoopClock,
         scratch: &mut [u8],
         door: &mut D,
     )
@@ -146,7 +163,7 @@ impl Peers {
         let Some(key) = self.queue.pop_front() else {
             return;
         };
-        let step = turn_in(&mut self.all, round, scratch, door, key);
+        let step = turn_in(&mut self.all, rt, round, clock, scratch, door, key);
         self.go_on(door, key, step);
     }
 
@@ -165,11 +182,11 @@ impl Peers {
     }
 
     /// Ends those that are overdue inside a frame, and those that were quiet for too long without an association.
-    pub(crate) fn end_overdue<D: Reception>(&mut self, door: &mut D, now: u64, limits: Limits)
+    pub(crate) fn end_overdue<D: Reception>(&mut self, door: &mut D, now: u64, settings: &Settings)
         ensures { Tends D.connected D.called D.left (sessions_of self.old.all) door.old (sessions_of self.new.all) door.new }
     {
         for key in 0..self.all.capacity() {
-            end_if_overdue(&mut self.all, door, key, now, limits);
+            end_if_overdue(&mut self.all, door, key, now, settings);
         }
     }
 
@@ -183,6 +200,16 @@ impl Peers {
     }
 }
 
+// Connects a session, for which it may wait.
+fn connect<D: Reception>(clock: &mut LoopClock, door: &mut D) -> Result<u64, ConnectFault>
+    ensures connected { D.connected door.old result door.new }
+    ensures waited { clock.new ≡ after_wait clock.old }
+{
+    let connected = door.connect();
+    clock.pass();
+    connected
+}
+
 // Whether the connection under this key is to be put into the queue.
 fn notice_in(all: &mut Slab<Peer>, event: &Event, key: usize) -> bool
     ensures { (other : ℕ) → sessions_of all.new other ≡ sessions_of all.old other }
@@ -193,9 +220,11 @@ fn notice_in(all: &mut Slab<Peer>, event: &Event, key: usize) -> bool
     }
 }
 
-fn turn_in<D: Reception>(
+fn turn_in<D: Reception, R: Clock>(
     all: &mut Slab<Peer>,
+    rt: &R,
     round: Round<'_>,
+    clock: &mut LoopClock,
     scratch: &mut [u8],
     door: &mut D,
     key: usize,
@@ -203,7 +232,7 @@ fn turn_in<D: Reception>(
     ensures { Tends D.connected D.called D.left (sessions_of all.old) door.old (sessions_of all.new) door.new }
 {
     match all.get_mut(key) {
-        Some(peer) => peer.turn(round, door, scratch, key),
+        Some(peer) => peer.turn(rt, round, clock, door, scratch, key),
         None => Step::Waits,
     }
 }
@@ -213,9 +242,10 @@ fn end_if_overdue<D: Reception>(
     door: &mut D,
     key: usize,
     now: u64,
-    limits: Limits,
+    settings: &Settings,
 )
-    ensures { Tends D.connected D.called D.left (sessions_of all.old) door.old (sessions_of all.new) door.new }
+    ensures tends { Tends D.connected D.called D.left (sessions_of all.old) door.old (sessions_of all.new) door.new }
+    ensures looks { Looks (D.associates door.old) settings.now now key all.old all.new }
 {
     let ends = match all.get(key) {
         Some(peer) => is_to_end(
@@ -223,7 +253,7 @@ fn end_if_overdue<D: Reception>(
             peer.session,
             peer.is_inside_frame(),
             peer.quiet(now),
-            limits,
+            settings,
         ),
         None => false,
     };
@@ -238,14 +268,14 @@ fn is_to_end<D: Reception>(
     session: u64,
     is_inside: bool,
     quiet: u64,
-    limits: Limits,
+    settings: &Settings,
 ) -> bool
-    ensures { IsToEnd (D.associates door.now session) is_inside quiet limits result }
+    ensures { IsToEnd (D.associates door.now session) is_inside quiet settings.now result }
 {
-    if is_overdue(is_inside, quiet, limits.inside) {
+    if is_overdue(is_inside, quiet, settings.frame_seconds) {
         return true;
     }
-    is_too_quiet(quiet, limits.idle) && !door.has_association(session)
+    is_too_quiet(quiet, settings.idle_seconds) && !door.has_association(session)
 }
 
 // Ends the connection under this key, if there is one, and hangs its session up.

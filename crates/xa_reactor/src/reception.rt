@@ -5,9 +5,10 @@ use xa_frame::Request;
 
 /// A door at which sessions connect, too.
 pub trait Reception: Door {
-    ghost use Rattle.std.specs.Prelude.{ℕ, ◌≡◌, ◌⊎◌, All, Bool, Result};
+    ghost use Rattle.std.specs.Prelude.{ℕ, ◌≡◌, ◌⊎◌, All, Bool, IsSomeAnd, Result};
     ghost use Rattle.xa_assoc.specs.declared.fault.ConnectFault.{ConnectFault};
-    ghost use Rattle.xa_reactor.specs.{Asking.HasRequest, Asking.TellsAll, Reception.KeepsSettled};
+    ghost use Rattle.xa_frame.specs.declared.request.Request.{Request};
+    ghost use Rattle.xa_reactor.specs.{Asking.HasRequest, Asking.TellsAll, Reception.IsPosted, Reception.KeepsSettled};
 
     /// A connect took it from one to the other, with this result.
     ghost connected: { Self → Result ℕ ConnectFault → Self → Type 0 };
@@ -20,6 +21,9 @@ pub trait Reception: Door {
 
     /// A call of this session was posted between one and the other: it is to be answered yet.
     ghost posted: { ℕ → Self → Self → Type 0 };
+
+    /// It was this call.
+    ghost posts: { ℕ → Request → Self → Self → Type 0 };
 
     /// Nothing that was posted is left to be answered.
     ghost is_settled: { Self → Type 0 };
@@ -49,7 +53,8 @@ pub trait Reception: Door {
     /// nothing: a hint, as what wasn't posted is answered as well.
     fn post(&mut self, place: usize, ask: &Ask)
         requires { HasRequest ask.now }
-        ensures { (self.new ≡ self.old) ⊎ posted ask.now.session self.old self.new };
+        ensures { (self.new ≡ self.old)
+            ⊎ IsSomeAnd ask.now.request (λ request. posts ask.now.session request self.old self.new) };
 
     /// Whether a request would be answered now, without waiting for other doors. A hint.
     fn is_free(&self) -> bool;
@@ -70,6 +75,9 @@ pub trait Reception: Door {
 
     /// How many calls at this door may have moved the log's end; after the greatest number 0 comes.
     fn logged(&self) -> u64;
+
+    /// Law: a call that was posted is one of its session.
+    ghost is_posted: { IsPosted posts posted };
 
     /// Law: a connect, a call and a hang-up leave nothing that was posted, if there was nothing.
     ghost keeps_settled: { KeepsSettled connected Self.called Self.left is_settled };

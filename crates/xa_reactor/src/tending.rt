@@ -1,4 +1,7 @@
 //! One loop.
+ghost use Rattle.std.specs.Prelude.{◌≡◌, ◌≤◌, true, length, IfOk, IsTrue, OnOk};
+ghost use Rattle.mio.specs.Events.{capacity, items};
+ghost use Rattle.xa_reactor.specs.Timing.{after_wait};
 ghost use Rattle.xa_reactor.specs.Tending.{HasTended, TendsPosting, sessions_of};
 ghost use Rattle.xa_reactor.specs.Together.{HasLent, IsOver};
 
@@ -14,7 +17,6 @@ use crate::timing::{FEW_EVENTS, GATHERS, gather_wait, looks_of};
 use crate::tools::{Tools, give_each};
 use crate::trimming::{begin_trims, keep_short};
 use mio::{Events, Poll};
-use std::alloc::Global;
 use std::io;
 use std::rt::Clock;
 use std::sync::Wait;
@@ -118,20 +120,31 @@ impl Loop {
         ensures settled { D.is_settled door.old → D.is_settled door.new }
     {
         self.wait(rt, common, peers)?;
-        let is_look = self.clock.is_look();
+        self.clock.read(rt)?;
+        let woke = self.clock.now(rt);
+        let is_look = self.is_look();
         let before = peers.len();
         let noticed = notice_all(peers, door, &self.events);
+        self.clock.pass();
         let gathered = self.give_turns(rt, common, peers, door);
-        let round = Round::new(&self.poll, rt.alloc(), self.clock.now);
-        look(common, round, peers, door, is_look);
+        // what came in while turns were given isn't read yet: nobody is overdue by that time
+        look(common, woke, peers, door, is_look);
         common.leave(before.saturating_sub(peers.len()) as u64);
         let accepts = noticed || gathered;
-        accept(rt, common, &mut self.acceptor, accepts, round.now);
+        let now = self.clock.now(rt);
+        accept(rt, common, &mut self.acceptor, accepts, now);
         // read before what was handed is taken: what is handed later is no more
         let is_over = common.is_over();
-        take_in(rt, common, self.index, round, peers, door);
+        let round = Round::new(&self.poll, rt.alloc());
+        take_in(rt, common, self.index, round, &mut self.clock, peers, door);
         tell(rt, common);
         Ok(goes_on(common, is_over, peers))
+    }
+
+    // Whether a look for connections that are overdue is due, and the last wait gave all events that there were: what came in
+    // on a connection is read before it is looked at.
+    fn is_look(&mut self) -> bool {
+        self.events.iter().len() < MOST_EVENTS && self.clock.is_look()
     }
 
     // The turns of those that have one: together, where there is memory for that, else one by one. After them the log is
@@ -151,8 +164,9 @@ impl Loop {
         if turns > 0 && self.tools.together.begin(turns) {
             return self.give_together(rt, common, peers, door);
         }
-        let round = Round::new(&self.poll, rt.alloc(), self.clock.now);
-        give_each(rt, common, round, &mut self.tools, peers, door, turns);
+        let round = Round::new(&self.poll, rt.alloc());
+        let (clock, tools) = (&mut self.clock, &mut self.tools);
+        give_each(rt, common, round, clock, tools, peers, door, turns);
         false
     }
 
@@ -170,34 +184,48 @@ impl Loop {
             (sessions_of peers.old.all) door.old (sessions_of peers.new.all) door.new }
         ensures over { IsOver self.new.tools.together }
         ensures settled { D.is_settled door.new }
+        ensures waited { self.new.clock.is_past ≡ true }
     {
         self.due = door.due();
-        self.open_turns(rt.alloc(), peers, door);
-        let gathered = self.gather(rt.alloc(), peers, door);
-        let lingered = self.linger(rt.alloc(), peers, door);
-        let more = self.gather(rt.alloc(), peers, door);
-        let round = Round::new(&self.poll, rt.alloc(), self.clock.now);
-        self.tools.together.close_all(peers, round, door);
-        keep_short(rt, common, door, round.now, &mut self.tools.seen);
+        self.open_turns(rt, peers, door);
+        let gathered = self.gather(rt, peers, door);
+        let lingered = self.linger(rt, peers, door);
+        let more = self.gather(rt, peers, door);
+        let round = Round::new(&self.poll, rt.alloc());
+        self.tools
+            .together
+            .close_all(rt, peers, round, &mut self.clock, door);
+        keep_short(rt, common, door, &mut self.clock, &mut self.tools.seen);
         gathered | lingered | more
     }
 
     // Opens the turns of those that have one.
-    fn open_turns<D: Reception>(&mut self, alloc: Global, peers: &mut Peers, door: &mut D)
+    fn open_turns<D: Reception, R: AllocGlobal + Clock>(
+        &mut self,
+        rt: &R,
+        peers: &mut Peers,
+        door: &mut D,
+    )
         requires { HasLent (sessions_of peers.old.all) self.old.tools.together }
         ensures tends { TendsPosting D.posted D.connected D.called D.left
             (sessions_of peers.old.all) door.old (sessions_of peers.new.all) door.new }
         ensures lent { HasLent (sessions_of peers.new.all) self.new.tools.together }
     {
-        let round = Round::new(&self.poll, alloc, self.clock.now);
+        let round = Round::new(&self.poll, rt.alloc());
+        let scratch = &mut self.tools.scratch;
         self.tools
             .together
-            .open_turns(peers, round, &mut self.tools.scratch, door);
+            .open_turns(rt, peers, round, &mut self.clock, scratch, door);
     }
 
     // While requests wait for a device at which another loop is, answers those that don't, and opens the turns of those that
     // have one by then: what they ask of the device is answered with the rest. Whether a connection waits to be accepted.
-    fn gather<D: Reception>(&mut self, alloc: Global, peers: &mut Peers, door: &mut D) -> bool
+    fn gather<D: Reception, R: AllocGlobal + Clock>(
+        &mut self,
+        rt: &R,
+        peers: &mut Peers,
+        door: &mut D,
+    ) -> bool
         requires { HasLent (sessions_of peers.old.all) self.old.tools.together }
         ensures tends { TendsPosting D.posted D.connected D.called D.left
             (sessions_of peers.old.all) door.old (sessions_of peers.new.all) door.new }
@@ -208,7 +236,7 @@ impl Loop {
             if !self.is_held_up(door) {
                 return accepts;
             }
-            let Ok(told) = self.linger_once(alloc, peers, door, gather_wait(looks)) else {
+            let Ok(told) = self.linger_once(rt, peers, door, gather_wait(looks)) else {
                 // the next wait fails too
                 return accepts;
             };
@@ -225,7 +253,12 @@ impl Loop {
 
     // While requests are to be answered that may wait for a device, answers those that don't, and opens the turns of those
     // that have one by then: what they ask shares the device's sync. Whether a connection waits to be accepted.
-    fn linger<D: Reception>(&mut self, alloc: Global, peers: &mut Peers, door: &mut D) -> bool
+    fn linger<D: Reception, R: AllocGlobal + Clock>(
+        &mut self,
+        rt: &R,
+        peers: &mut Peers,
+        door: &mut D,
+    ) -> bool
         requires { HasLent (sessions_of peers.old.all) self.old.tools.together }
         ensures tends { TendsPosting D.posted D.connected D.called D.left
             (sessions_of peers.old.all) door.old (sessions_of peers.new.all) door.new }
@@ -238,15 +271,15 @@ impl Loop {
         if looks == 0 {
             return false;
         }
-        let (accepts, came) = self.look_on(alloc, peers, door, looks);
+        let (accepts, came) = self.look_on(rt, peers, door, looks);
         self.tools.patience.learn(came);
         accepts
     }
 
     // Looks for more requests so often. Whether a connection waits to be accepted, and whether there were events.
-    fn look_on<D: Reception>(
+    fn look_on<D: Reception, R: AllocGlobal + Clock>(
         &mut self,
-        alloc: Global,
+        rt: &R,
         peers: &mut Peers,
         door: &mut D,
         looks: u32,
@@ -262,7 +295,7 @@ impl Loop {
             if !self.tools.together.may_grow(peers.len()) {
                 return (accepts, came);
             }
-            let Ok(told) = self.linger_once(alloc, peers, door, Duration::ZERO) else {
+            let Ok(told) = self.linger_once(rt, peers, door, Duration::ZERO) else {
                 // the next wait fails too
                 return (accepts, came);
             };
@@ -274,9 +307,9 @@ impl Loop {
 
     // Answers the requests that wait for no device, and looks for events once, for so long, where there is room for the turns
     // that they make, which are opened.
-    fn linger_once<D: Reception>(
+    fn linger_once<D: Reception, R: AllocGlobal + Clock>(
         &mut self,
-        alloc: Global,
+        rt: &R,
         peers: &mut Peers,
         door: &mut D,
         wait: Duration,
@@ -286,38 +319,52 @@ impl Loop {
             (sessions_of peers.old.all) door.old (sessions_of peers.new.all) door.new }
         ensures lent { HasLent (sessions_of peers.new.all) self.new.tools.together }
     {
-        let round = Round::new(&self.poll, alloc, self.clock.now);
-        self.tools.together.answer_quick(peers, round, door);
+        let round = Round::new(&self.poll, rt.alloc());
+        self.tools
+            .together
+            .answer_quick(rt, peers, round, &mut self.clock, door);
         if !peers.reserve(self.events.capacity()) {
             return Ok(false);
         }
-        self.poll.poll(&mut self.events, Some(wait))?;
+        look_for(
+            &mut self.poll,
+            &mut self.events,
+            &mut self.clock,
+            Some(wait),
+        )?;
         if self.events.is_empty() {
             yield_now();
             return Ok(false);
         }
         let accepts = note_all(peers, &self.events);
-        self.open_turns(alloc, peers, door);
+        self.open_turns(rt, peers, door);
         Ok(accepts)
     }
 
-    fn wait<R: Clock>(&mut self, rt: &R, common: &Common<'_>, peers: &Peers) -> io::Result<()> {
-        let wait = wait_for(common, peers, &self.acceptor, self.clock.now);
+    // Waits for events, so long as there is nothing else to do.
+    fn wait<R: Clock>(&mut self, rt: &R, common: &Common<'_>, peers: &Peers) -> io::Result<()>
+        ensures { OnOk result (self.new.clock.is_past ≡ true) }
+    {
+        let now = self.clock.now(rt);
+        let wait = wait_for(common, peers, &self.acceptor, now);
         let has_some = wait != Some(0) && self.had_few && self.look(looks_of(peers.len()))?;
         if !has_some {
-            self.poll
-                .poll(&mut self.events, wait.map(Duration::from_millis))?;
+            let wait = wait.map(Duration::from_millis);
+            look_for(&mut self.poll, &mut self.events, &mut self.clock, wait)?;
         }
         let events = self.events.iter().len();
         self.had_few = 0 < events && events <= FEW_EVENTS;
-        self.clock.read(rt)
+        Ok(())
     }
 
     // Looks for events some times, and lets others run in between: whoever was answered may ask again sooner than a thread
     // that sleeps is woken. Whether there are some. Where none come the loop sleeps, and looks no more until it had some.
-    fn look(&mut self, looks: usize) -> io::Result<bool> {
+    fn look(&mut self, looks: usize) -> io::Result<bool>
+        ensures { IfOk result (λ some. IsTrue some → self.new.clock.is_past ≡ true) }
+    {
         for _ in 0..looks {
-            self.poll.poll(&mut self.events, Some(Duration::ZERO))?;
+            let wait = Some(Duration::ZERO);
+            look_for(&mut self.poll, &mut self.events, &mut self.clock, wait)?;
             if !self.events.is_empty() {
                 return Ok(true);
             }
@@ -325,4 +372,18 @@ impl Loop {
         }
         Ok(false)
     }
+}
+
+// Looks for events once, for so long, or until one comes.
+fn look_for(
+    poll: &mut Poll,
+    events: &mut Events,
+    clock: &mut LoopClock,
+    wait: Option<Duration>,
+) -> io::Result<()>
+    ensures count { length (items events.new) ≤ capacity events.old }
+    ensures waited { clock.new ≡ after_wait clock.old }
+{
+    clock.pass();
+    poll.poll(events, wait)
 }

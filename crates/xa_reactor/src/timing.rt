@@ -37,27 +37,19 @@ pub(crate) fn gather_wait(looks: u32) -> Duration {
     Duration::from_millis(u64::from(looks >= QUICK_GATHERS))
 }
 
-/// Whether a connection is overdue: it brought a part of a frame, and for so long, if there is such a limit, no byte
-/// more.
-pub(crate) fn is_overdue(is_inside: bool, quiet: u64, limit: u64) -> bool
-    ensures { result ≡ is_overdue is_inside quiet limit }
+/// Whether a connection is overdue: it brought a part of a frame, and for so many seconds, if there is such a limit, no
+/// byte more.
+pub(crate) fn is_overdue(is_inside: bool, quiet: u64, seconds: u64) -> bool
+    ensures { result ≡ is_overdue is_inside quiet seconds }
 {
-    is_inside && is_too_quiet(quiet, limit)
+    is_inside && is_too_quiet(quiet, seconds)
 }
 
-/// For how long a connection may be quiet, in milliseconds, 0 for ever: inside a frame, and where its session has no
-/// association.
-#[derive(Clone, Copy, Debug)]
-pub(crate) struct Limits {
-    pub(crate) inside: u64,
-    pub(crate) idle: u64,
-}
-
-/// Whether a connection was quiet for so long, if there is such a limit.
-pub(crate) fn is_too_quiet(quiet: u64, limit: u64) -> bool
-    ensures { result ≡ is_too_quiet quiet limit }
+/// Whether a connection was quiet for so many seconds, if there is such a limit. For how long it was is in milliseconds.
+pub(crate) fn is_too_quiet(quiet: u64, seconds: u64) -> bool
+    ensures { result ≡ is_too_quiet quiet seconds }
 {
-    limit > 0 && quiet >= limit
+    seconds > 0 && quiet / 1_000 >= seconds
 }
 
 /// How long to wait for an event, None until one comes: not at all where a connection has a turn; so long as accepting

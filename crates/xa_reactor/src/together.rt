@@ -3,15 +3,17 @@ ghost use Rattle.std.specs.Prelude.{ℕ, ◌≡◌, ◌+◌, ◌≤◌, [], All}
 ghost use Rattle.std.specs.Vec.{vec_capacity, vec_len};
 ghost use Rattle.xa_reactor.specs.Asking.{IsAnswered, IsLent, IsOpen, IsTold, PutsAll, TurnedAll};
 ghost use Rattle.xa_reactor.specs.Tending.{Table, Tends, TendsPosting, sessions_of};
-ghost use Rattle.xa_reactor.specs.Together.{HasLent, IsOver};
+ghost use Rattle.xa_reactor.specs.{Timing.after_wait, Together.HasLent, Together.IsOver};
 
 use crate::ask::Ask;
+use crate::clock::LoopClock;
 use crate::peer::{Opened, Step};
 use crate::peers::Peers;
 use crate::reception::Reception;
 use crate::round::Round;
 use crate::timing::COMPANY;
 use std::alloc::Global;
+use std::rt::Clock;
 
 /// After how many turns a round waits for no more.
 const MANY_TURNS: usize = 64;
@@ -75,10 +77,12 @@ impl Together {
     }
 
     /// Opens the turns of those that have one, where there is memory for that.
-    pub(crate) fn open_turns<D: Reception>(
+    pub(crate) fn open_turns<D: Reception, R: Clock>(
         &mut self,
+        rt: &R,
         peers: &mut Peers,
         round: Round<'_>,
+        clock: &mut LoopClock,
         scratch: &mut [u8],
         door: &mut D,
     )
@@ -92,15 +96,17 @@ impl Together {
             return;
         }
         for _ in 0..turns {
-            self.open_turn(peers, round, scratch, door);
+            self.open_turn(rt, peers, round, clock, scratch, door);
         }
     }
 
     // Opens the next turn, where there is room.
-    fn open_turn<D: Reception>(
+    fn open_turn<D: Reception, R: Clock>(
         &mut self,
+        rt: &R,
         peers: &mut Peers,
         round: Round<'_>,
+        clock: &mut LoopClock,
         scratch: &mut [u8],
         door: &mut D,
     )
@@ -119,7 +125,7 @@ impl Together {
         let Some(key) = peers.next() else {
             return;
         };
-        match peers.open_turn(round, scratch, door, key) {
+        match peers.open_turn(rt, round, clock, scratch, door, key) {
             Opened::Asks(ask) => {
                 if may_wait(door, &ask) {
                     door.post(self.waiting.len(), &ask);
@@ -133,26 +139,38 @@ impl Together {
     }
 
     /// Answers the requests that wait for no device, and sends the replies.
-    pub(crate) fn answer_quick<D: Reception>(
+    pub(crate) fn answer_quick<D: Reception, R: Clock>(
         &mut self,
+        rt: &R,
         peers: &mut Peers,
         round: Round<'_>,
+        clock: &mut LoopClock,
         door: &mut D,
     )
         requires { HasLent (sessions_of peers.old.all) self.old }
         ensures tends { Tends D.connected D.called D.left (sessions_of peers.old.all) door.old (sessions_of peers.new.all) door.new }
         ensures lent { HasLent (sessions_of peers.new.all) self.new }
     {
-        give_quick(&mut self.quick, &mut self.over, peers, round, door);
+        give_quick(
+            rt,
+            &mut self.quick,
+            &mut self.over,
+            peers,
+            round,
+            clock,
+            door,
+        );
     }
 
     /// Answers the requests that were brought in, and closes their turns. The replies to those that wait for no device are
     /// sent before the others are answered. What comes after the turns comes last: until then each session stays under its
     /// key.
-    pub(crate) fn close_all<D: Reception>(
+    pub(crate) fn close_all<D: Reception, R: Clock>(
         &mut self,
+        rt: &R,
         peers: &mut Peers,
         round: Round<'_>,
+        clock: &mut LoopClock,
         door: &mut D,
     )
         requires { HasLent (sessions_of peers.old.all) self.old }
@@ -160,8 +178,24 @@ impl Together {
         ensures over { IsOver self.new }
         ensures settled { D.is_settled door.new }
     {
-        give_quick(&mut self.quick, &mut self.over, peers, round, door);
-        give_waiting(&mut self.waiting, &mut self.over, peers, round, door);
+        give_quick(
+            rt,
+            &mut self.quick,
+            &mut self.over,
+            peers,
+            round,
+            clock,
+            door,
+        );
+        give_waiting(
+            rt,
+            &mut self.waiting,
+            &mut self.over,
+            peers,
+            round,
+            clock,
+            door,
+        );
         go_on_all(&mut self.over, peers, door);
     }
 }
@@ -176,11 +210,13 @@ fn may_wait<D: Reception>(door: &D, ask: &Ask) -> bool {
 
 // Answers requests that wait for no device at a door, and sends the replies. What comes after their turns is put with the
 // rest of that.
-fn give_quick<D: Reception>(
+fn give_quick<D: Reception, R: Clock>(
+    rt: &R,
     asks: &mut Vec<Ask>,
     over: &mut Vec<(usize, Step)>,
     peers: &mut Peers,
     round: Round<'_>,
+    clock: &mut LoopClock,
     door: &mut D,
 )
     requires lent { All (IsLent (sessions_of peers.old.all)) asks.old.items }
@@ -190,16 +226,18 @@ fn give_quick<D: Reception>(
     ensures none { asks.new.items ≡ [] }
     ensures room { (vec_len over.new ≤ vec_len over.old + vec_len asks.old) × (vec_capacity over.new ≡ vec_capacity over.old) }
 {
-    answer_quick(asks, door);
-    send_all(asks, over, peers, round);
+    answer_quick(asks, clock, door);
+    send_all(rt, asks, over, peers, round, clock);
 }
 
 // The same of requests that may wait for one: none that was posted is left.
-fn give_waiting<D: Reception>(
+fn give_waiting<D: Reception, R: Clock>(
+    rt: &R,
     asks: &mut Vec<Ask>,
     over: &mut Vec<(usize, Step)>,
     peers: &mut Peers,
     round: Round<'_>,
+    clock: &mut LoopClock,
     door: &mut D,
 )
     requires lent { All (IsLent (sessions_of peers.old.all)) asks.old.items }
@@ -210,12 +248,19 @@ fn give_waiting<D: Reception>(
     ensures room { (vec_len over.new ≤ vec_len over.old + vec_len asks.old) × (vec_capacity over.new ≡ vec_capacity over.old) }
     ensures settled { D.is_settled door.new }
 {
-    answer_all(asks, door);
-    send_all(asks, over, peers, round);
+    answer_all(asks, clock, door);
+    send_all(rt, asks, over, peers, round, clock);
 }
 
 // Gives the connections of asks that were answered back, and sends their replies.
-fn send_all(asks: &mut Vec<Ask>, over: &mut Vec<(usize, Step)>, peers: &mut Peers, round: Round<'_>)
+fn send_all<R: Clock>(
+    rt: &R,
+    asks: &mut Vec<Ask>,
+    over: &mut Vec<(usize, Step)>,
+    peers: &mut Peers,
+    round: Round<'_>,
+    clock: &mut LoopClock,
+)
     requires answered { All IsAnswered asks.old.items }
     requires room { vec_len over.old + vec_len asks.old ≤ vec_capacity over.old }
     ensures same { sessions_of peers.new.all ≡ sessions_of peers.old.all }
@@ -224,7 +269,7 @@ fn send_all(asks: &mut Vec<Ask>, over: &mut Vec<(usize, Step)>, peers: &mut Peer
 {
     for ask in asks.drain(..) {
         let key = ask.key;
-        let step = peers.close_turn(round, ask);
+        let step = peers.close_turn(rt, round, clock, ask);
         over.push_reserved((key, step));
     }
 }
@@ -239,12 +284,14 @@ fn go_on_all<D: Reception>(over: &mut Vec<(usize, Step)>, peers: &mut Peers, doo
     }
 }
 
-// Answers requests of which none was posted at a door, and puts the replies to their connections.
-fn answer_quick<D: Reception>(asks: &mut [Ask], door: &mut D)
+// Answers requests of which none was posted at a door, for which it may wait, and puts the replies to their connections.
+fn answer_quick<D: Reception>(asks: &mut [Ask], clock: &mut LoopClock, door: &mut D)
     requires { All IsOpen asks.old }
     ensures turned { TurnedAll D.called door.old asks.old asks.new door.new }
     ensures answered { All IsAnswered asks.new }
+    ensures waited { clock.new ≡ after_wait clock.old }
 {
+    clock.pass();
     if asks.is_empty() {
         return;
     }
@@ -253,13 +300,15 @@ fn answer_quick<D: Reception>(asks: &mut [Ask], door: &mut D)
 }
 
 // The same of requests among which are those that were posted: none of these is left.
-fn answer_all<D: Reception>(asks: &mut [Ask], door: &mut D)
+fn answer_all<D: Reception>(asks: &mut [Ask], clock: &mut LoopClock, door: &mut D)
     requires { All IsOpen asks.old }
     ensures turned { TurnedAll D.called door.old asks.old asks.new door.new }
     ensures answered { All IsAnswered asks.new }
     ensures settled { D.is_settled door.new }
+    ensures waited { clock.new ≡ after_wait clock.old }
 {
     door.call_all(asks);
+    clock.pass();
     put_replies(asks);
 }
 

@@ -1,6 +1,7 @@
 //! What a loop's turns use.
 ghost use Rattle.xa_reactor.specs.Tending.{Tends, sessions_of};
 
+use crate::clock::LoopClock;
 use crate::common::Common;
 use crate::patience::Patience;
 use crate::peers::Peers;
@@ -40,6 +41,7 @@ pub(crate) fn give_each<D: Reception, R: AllocGlobal + Clock + Eprint + Wait>(
     rt: &R,
     common: &Common<'_>,
     round: Round<'_>,
+    clock: &mut LoopClock,
     tools: &mut Tools,
     peers: &mut Peers,
     door: &mut D,
@@ -48,7 +50,7 @@ pub(crate) fn give_each<D: Reception, R: AllocGlobal + Clock + Eprint + Wait>(
     ensures { Tends D.connected D.called D.left (sessions_of peers.old.all) door.old (sessions_of peers.new.all) door.new }
 {
     for _ in 0..turns {
-        peers.give_turn(round, &mut tools.scratch, door);
-        keep_short(rt, common, door, round.now, &mut tools.seen);
+        peers.give_turn(rt, round, clock, &mut tools.scratch, door);
+        keep_short(rt, common, door, clock, &mut tools.seen);
     }
 }

@@ -1,6 +1,8 @@
 //! A trim of the log, by an operator's session of its own.
+ghost use Rattle.std.specs.Prelude.{◌≡◌, true};
 ghost use Rattle.xa_reactor.specs.Aside.{IsAside, HasVisited};
 
+use crate::clock::LoopClock;
 use crate::common::Common;
 use crate::reception::Reception;
 use crate::trimmed::{Trimmed, trimmed_by};
@@ -30,16 +32,21 @@ pub(crate) fn begin_trims<D: Reception, R: Wait>(rt: &R, common: &Common<'_>, do
     }
 }
 
-/// Trims the log where that is due, and tells of it. The calls at the door are `seen` when the log's end is asked for.
+/// Trims the log where that is due, and tells of it, for which it may wait. The calls at the door are `seen` when the log's
+/// end is asked for.
 pub(crate) fn keep_short<D: Reception, R: AllocGlobal + Clock + Eprint + Wait>(
     rt: &R,
     common: &Common<'_>,
     door: &mut D,
-    now: u64,
+    clock: &mut LoopClock,
     seen: &mut u64,
 )
-    ensures { IsAside D.connected D.called D.left TRIM door.old door.new }
+    ensures aside { IsAside D.connected D.called D.left TRIM door.old door.new }
+    ensures never { common.now.settings.trim_bytes ≡ 0 → door.new ≡ door.old }
+    ensures waited { clock.new.is_past ≡ true }
 {
+    let now = clock.now(rt);
+    clock.pass();
     let logged = door.logged();
     if common.settings.trim_bytes == 0 || !is_to_look(door, logged.wrapping_sub(*seen)) {
         return;

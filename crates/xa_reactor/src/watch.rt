@@ -1,11 +1,16 @@
-use crate::cause::{Cause, cause_of};
+ghost use Rattle.std.specs.Prelude.{◌≡◌};
+ghost use Rattle.xa_reactor.specs.Down.{after_reply};
+
+use crate::cause::{Cause, News, news_of};
+use crate::seen::Seen;
 use std::sync::atomic::{AtomicBool, AtomicU64, Ordering};
-use xa_codes::XA_OK;
+use std::sync::{Mutex, Wait};
 use xa_frame::Reply;
 
 /// What the loops have seen of whether the manager is up, by the replies to calls.
 #[derive(Drop)]
 pub struct Watch {
+    last: Mutex<Seen>,
     is_down: AtomicBool,
     is_told: AtomicBool,
     /// Why it went down last, by the cause's number.
@@ -16,25 +21,43 @@ impl Watch {
     /// Nothing was seen of a manager that is up.
     pub fn new() -> Watch {
         Watch {
+            last: Mutex::new(Seen::new()),
             is_down: AtomicBool::new(false),
             is_told: AtomicBool::new(false),
             cause: AtomicU64::new(0),
         }
     }
 
-    /// A call was answered so; it was a Restart, or another one.
-    pub fn see(&self, is_restart: bool, reply: &Reply) {
-        if let Some(cause) = cause_of(is_restart, reply) {
-            self.cause.store(cause.number(), Ordering::SeqCst);
-            self.is_down.store(true, Ordering::SeqCst);
-        } else if is_restart && reply.code == XA_OK {
-            self.is_down.store(false, Ordering::SeqCst);
-            self.is_told.store(false, Ordering::SeqCst);
+    /// A loop, which has `seen` that much, was answered so; it was a Restart, or another call.
+    pub fn see<R: Wait>(&self, rt: &R, seen: &mut Seen, is_restart: bool, reply: &Reply)
+        ensures { seen.new ≡ after_reply seen.old is_restart reply.now }
+    {
+        let Some(news) = news_of(is_restart, reply) else {
+            return;
+        };
+        seen.take(reply.place, news);
+        // by the history's order, in which loops needn't come here
+        let mut last = self.last.lock(rt);
+        if last.take(reply.place, news) {
+            self.take(news);
+        }
+    }
+
+    fn take(&self, news: News) {
+        match news {
+            News::Down(cause) => {
+                self.cause.store(cause.number(), Ordering::SeqCst);
+                self.is_down.store(true, Ordering::SeqCst);
+            }
+            News::Up => {
+                self.is_down.store(false, Ordering::SeqCst);
+                self.is_told.store(false, Ordering::SeqCst);
+            }
         }
     }
 
     /// Whether it went down last.
-    pub fn is_down(&self) -> bool {
+    pub(crate) fn is_down(&self) -> bool {
         self.is_down.load(Ordering::SeqCst)
     }
 

@@ -4,7 +4,7 @@ use Rattle.xa_disk.specs.Counts.{plus}
 use Rattle.xa_disk.specs.declared.counts.Counts.{Counts}
 use Rattle.xa_log.specs.Calls.{with_reads, OnlyReads, asked, LooksAt}
 use Rattle.xa_log.specs.declared.fault.OpenFault.{OpenFault}
-use Rattle.xa_log.specs.declared.fault.OpenFault.TheVariants.{NotALog, TooNew, TooLong, Device, Memory}
+use Rattle.xa_log.specs.declared.fault.OpenFault.TheVariants.{NotALog, TooNew, TooLong, Damaged, Device, Memory}
 
 reads_keep : (reads bytes : ℕ) (c : Counts) → ((with_reads reads bytes c).writes ≡ c.writes) × ((with_reads reads bytes c).syncs ≡ c.syncs)
 reads_keep zero bytes c = (refl, refl)
@@ -25,3 +25,4 @@ fault_only Memory most old new (inr o) = read_only most old new o
 fault_only NotALog most old new o = read_only most old new o
 fault_only TooNew most old new o = read_only most old new o
 fault_only TooLong most old new is = (ap (λ (c : Counts). c.writes) is, inr (ap (λ (c : Counts). c.syncs) is))
+fault_only Damaged most old new o = read_only most old new o

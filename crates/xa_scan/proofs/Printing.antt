@@ -1,21 +1,22 @@
 -- Lines are printed, one after another.
-use Rattle.std.proofs.Common.{◌≡◌, ℕ, ◌+◌, ◌≤◌, ◌<◌, ◌^◌, List, [], ◌∷◌, ◌++◌, length, Option, None, Result, Ok, Err, refl, sym, ap, subst, ◌∙◌, arith, inl, inr, append_assoc, append-nil, length-append}
+use Rattle.std.proofs.Common.{◌≡◌, Bool, true, false, ℕ, ◌+◌, ◌≤◌, ◌<◌, ◌^◌, List, [], ◌∷◌, ◌++◌, length, Option, None, Result, Ok, Err, refl, sym, ap, subst, ◌∙◌, arith, inl, inr, append_assoc, append-nil, length-append}
 use Rattle.std.specs.Io.KnownBytes.{Appends, Keeps}
 use Rattle.xa_output.proofs.Pieces.{appends_both, keeps_appends, nothing_appended}
 use Rattle.xa_log.specs.declared.fault.OpenFault.{OpenFault}
 use Rattle.xa_log.specs.declared.fault.OpenFault.TheVariants as preamble
-use Rattle.xa_log.specs.Chain.{Rests, format_in, logged, text}
+use Rattle.xa_log.specs.Chain.{Rests, format_in, text}
+use Rattle.xa_log.specs.Damage.{is_damaged}
 use Rattle.std.specs.Prelude.{Vec}
 use Rattle.std.specs.declared.alloc.Global.{Global}
 use Rattle.xa_log.specs.Reading.{Explains, bodies_of}
 use Rattle.xa_log.proofs.Again.{fits_of}
 use Rattle.xa_log.specs.Reading as reading
 use Rattle.xa_scan.specs.declared.fault.ScanFault.{ScanFault}
-use Rattle.xa_scan.specs.declared.fault.ScanFault.TheVariants.{Memory, Write, Log}
-use Rattle.xa_scan.specs.Faults.{ended, fault_of}
+use Rattle.xa_scan.specs.declared.fault.ScanFault.TheVariants.{Memory, Write, Log, Damaged}
+use Rattle.xa_scan.specs.Faults.{damage_behind, ended, fault_of}
 use Rattle.xa_scan.specs.Lines.{behind, end_line, line_at, lines_from}
 use Rattle.xa_limits.specs.declared.TheConstants.{FIRST_OFFSET, MOST_LOG}
-use Rattle.xa_scan.specs.Scans.{IsFound, Prints, PrintsLine, PrintsLines, Scans}
+use Rattle.xa_scan.specs.Scans.{IsFound, IsLogOf, Prints, PrintsLine, PrintsLines, Scans}
 use Rattle.xa_scan.proofs.Offsets.{behind_both, behind_grows, lines_both, lines_one, offsets_in_the_file}
 
 -- some lines were printed, and the next one's offset is this
@@ -75,6 +76,7 @@ line_failed X Y Write bodies rest others body offset text old mid new (printed, 
       ),
     )
 line_failed X Y (Log fault) bodies rest others body offset text old mid new printed cut now line = absurd line
+line_failed X Y (Damaged number begin) bodies rest others body offset text old mid new printed cut now line = absurd line
 
 -- the line of the end was written, or it failed
 pub end_printed : {X : Type 0} (end : Result X ScanFault) (bodies rest : List (List ℕ)) (offset at : ℕ) (text : List ℕ) (old mid new : Option (List ℕ)) →
@@ -102,32 +104,38 @@ end_printed (Err Write) bodies rest offset at text old mid new (printed, split, 
       ),
     )
 end_printed (Err (Log fault)) bodies rest offset at text old mid new printed none end now line = absurd line
+end_printed (Err (Damaged number begin)) bodies rest offset at text old mid new printed none end now line = absurd line
 
 -- the flush behind the lines was answered
-prints_ended : {X E : Type 0} (printed : Result X ScanFault) (flushed : Result X E) (bodies : List (List ℕ)) (text : List ℕ) → PrintsLines printed bodies text → Prints (ended printed flushed) bodies text
-prints_ended (Ok x) (Ok y) bodies text h = h
-prints_ended (Ok x) (Err e) bodies text h = ([], sym h ∙ sym (append-nil text))
-prints_ended (Err Memory) flushed bodies text h = h
-prints_ended (Err Write) flushed bodies text h = h
-prints_ended (Err (Log fault)) flushed bodies text h = absurd h
+prints_ended : {X E : Type 0} (printed : Result X ScanFault) (flushed : Result X E) (damaged : Bool) (count end : ℕ) (bodies : List (List ℕ)) (text : List ℕ) → PrintsLines printed bodies text →
+    Prints (ended printed flushed (damage_behind damaged count end)) bodies text
+prints_ended (Ok x) (Ok y) true count end bodies text h = h
+prints_ended (Ok x) (Ok y) false count end bodies text h = h
+prints_ended (Ok x) (Err e) damaged count end bodies text h = ([], sym h ∙ sym (append-nil text))
+prints_ended (Err Memory) flushed damaged count end bodies text h = h
+prints_ended (Err Write) flushed damaged count end bodies text h = h
+prints_ended (Err (Log fault)) flushed damaged count end bodies text h = absurd h
+prints_ended (Err (Damaged number begin)) flushed damaged count end bodies text h = absurd h
 
-found_ended : {X E : Type 0} (printed : Result X ScanFault) (flushed : Result X E) (file : List ℕ) (bodies : List (List ℕ)) (text : List ℕ) → PrintsLines printed bodies text →
-    reading.fault_of MOST_LOG file ≡ None → logged file ≡ bodies → IsFound (ended printed flushed) file bodies
-found_ended (Ok x) (Ok y) file bodies text h none is = (none, is)
-found_ended (Ok x) (Err e) file bodies text h none is = (none, is)
-found_ended (Err Memory) flushed file bodies text h none is = inr (none, is)
-found_ended (Err Write) flushed file bodies text h none is = (none, is)
-found_ended (Err (Log fault)) flushed file bodies text h none is = absurd h
+found_ended : {X E : Type 0} (printed : Result X ScanFault) (flushed : Result X E) (damaged : Bool) (count end : ℕ) (file : List ℕ) (bodies : List (List ℕ)) (text : List ℕ) → PrintsLines printed bodies text →
+    IsLogOf bodies file → damaged ≡ is_damaged file → count ≡ length bodies → end ≡ behind FIRST_OFFSET bodies → IsFound (ended printed flushed (damage_behind damaged count end)) file bodies
+found_ended (Ok x) (Ok y) true count end file bodies text h log is many last = (log, sym is, ap (λ (n : ℕ). n + 1) many, last)
+found_ended (Ok x) (Ok y) false count end file bodies text h log is many last = (log, sym is)
+found_ended (Ok x) (Err e) damaged count end file bodies text h log is many last = log
+found_ended (Err Memory) flushed damaged count end file bodies text h log is many last = inr log
+found_ended (Err Write) flushed damaged count end file bodies text h log is many last = log
+found_ended (Err (Log fault)) flushed damaged count end file bodies text h log is many last = absurd h
+found_ended (Err (Damaged number begin)) flushed damaged count end file bodies text h log is many last = absurd h
 
-pub scanned : {X E : Type 0} (honest : Type 0) (printed : Result X ScanFault) (flushed : Result X E) (file : List ℕ) (bodies : List (List ℕ)) (text : List ℕ) (old mid new : Option (List ℕ)) →
-    (honest → (reading.fault_of MOST_LOG file ≡ None) × (logged file ≡ bodies)) → Appends old mid text → Keeps mid new → PrintsLines printed bodies text →
-    Scans honest (ended printed flushed) file old new
-scanned honest printed flushed file bodies text old mid new read written kept prints = record {
+pub scanned : {X E : Type 0} (honest : Type 0) (printed : Result X ScanFault) (flushed : Result X E) (damaged : Bool) (count end : ℕ) (file : List ℕ) (bodies : List (List ℕ)) (text : List ℕ) (old mid new : Option (List ℕ)) →
+    (honest → IsLogOf bodies file × (damaged ≡ is_damaged file)) → count ≡ length bodies → end ≡ behind FIRST_OFFSET bodies → Appends old mid text → Keeps mid new → PrintsLines printed bodies text →
+    Scans honest (ended printed flushed (damage_behind damaged count end)) file old new
+scanned honest printed flushed damaged count end file bodies text old mid new read many last written kept prints = record {
   bodies = bodies;
   text = text;
-  found = λ yes. found_ended printed flushed file bodies text prints (read yes).0 (read yes).1;
+  found = λ yes. found_ended printed flushed damaged count end file bodies text prints (read yes).0 (read yes).1 many last;
   written = subst (λ (t : List ℕ). Appends old new t) (append-nil text) (appends_both old mid new text [] written (keeps_appends mid new kept));
-  printed = prints_ended printed flushed bodies text prints;
+  printed = prints_ended printed flushed damaged count end bodies text prints;
 }
 
 -- there is no log, or no memory
@@ -143,6 +151,7 @@ unread X honest preamble.Memory file output why = record {
 unread X honest preamble.NotALog file output why = record { bodies = []; text = []; found = why; written = nothing_appended output; printed = refl }
 unread X honest preamble.TooNew file output why = record { bodies = []; text = []; found = why; written = nothing_appended output; printed = refl }
 unread X honest preamble.TooLong file output why = record { bodies = []; text = []; found = why; written = nothing_appended output; printed = refl }
+unread X honest preamble.Damaged file output why = record { bodies = []; text = []; found = why; written = nothing_appended output; printed = refl }
 unread X honest preamble.Device file output why = record { bodies = []; text = []; found = why; written = nothing_appended output; printed = refl }
 
 -- a file that is a log has no more bytes than a log may have

@@ -15,6 +15,10 @@ pub enum ScanFault {
     /// The disk's bytes weren't taken as a log.
     #[error("{0}")]
     Log(OpenFault),
+    /// All lines were printed of a log that is damaged behind them: the record that isn't as it was written, from 1, and
+    /// the byte at which it begins.
+    #[error("log damaged: record {number} at byte {at}")]
+    Damaged { number: usize, at: u64 },
 }
 
 impl From<AllocError> for ScanFault {

@@ -1,7 +1,7 @@
 //! A log is read, and its lines are written.
-ghost use Rattle.std.specs.Prelude.{◌≡◌, ◌≤◌, ◌<◌, ◌+◌, ◌^◌, IfErr, IfOk, IfSome, List, None, ℕ};
+ghost use Rattle.std.specs.Prelude.{◌≡◌, ◌≤◌, ◌<◌, ◌+◌, ◌^◌, IfErr, IfOk, IfSome, List, None, length, ℕ};
 ghost use Rattle.xa_log.specs.Reading.{bodies_of};
-ghost use Rattle.xa_scan.specs.Faults.{ended};
+ghost use Rattle.xa_scan.specs.Faults.{damage_behind, ended};
 ghost use Rattle.xa_scan.specs.Lines.{behind, end_line, line_at};
 ghost use Rattle.xa_limits.specs.declared.TheConstants.{FIRST_OFFSET, MOST_LOG};
 ghost use Rattle.xa_scan.specs.Scans.{AddsLine, AddsLines, OnlyLooks, Scans};
@@ -12,13 +12,14 @@ use std::alloc::Global;
 use std::io::{self, Write};
 use xa_disk::Disk;
 use xa_limits::{AROUND_BODY, FIRST_OFFSET, MOST_LOG};
-use xa_log::{OpenFault, read_log};
+use xa_log::{OpenFault, read_log_damage};
 use xa_output::write_text;
 
 /// Reads the log that a disk is, of `MOST_LOG` bytes at most, and writes a line for each of its records, in order: its
-/// offset and its text. Behind them stands the line of the log's end.
+/// offset and its text. Behind them stands the line of the log's end. A log that is damaged there is told as
+/// `ScanFault::Damaged`.
 ///
-/// The log is read before anything is printed. The disk is only looked at, by the calls of `read_log`.
+/// The log is read before anything is printed. The disk is only looked at, by the calls of `read_log_damage`.
 pub fn scan_run<D: Disk, W: Write>(
     alloc: Global,
     disk: &mut D,
@@ -27,19 +28,41 @@ pub fn scan_run<D: Disk, W: Write>(
     ensures scans { Scans D.honest result (D.seen disk.old) (W.contents writer.old) (W.contents writer.new) }
     ensures looks { OnlyLooks D.Disk disk.old disk.new }
 {
-    let bodies = read_log(alloc, disk, MOST_LOG)?;
+    let (bodies, damaged) = read_log_damage(alloc, disk, MOST_LOG)?;
     let end = end_of(bodies.as_slice())?;
+    let damage = damage_behind(damaged, bodies.as_slice(), end);
     let written = write_lines(alloc, writer, bodies.as_slice(), end);
     let flushed = writer.flush();
-    ended(written, flushed)
+    ended(written, flushed, damage)
 }
 
-/// The end of a printing, by how its lines ended and by what the flush behind them was answered.
-fn ended(written: Result<(), ScanFault>, flushed: io::Result<()>) -> Result<(), ScanFault>
-    ensures { result ≡ ended written flushed }
+/// What is told of a log that has these bodies and this end, if it is damaged.
+fn damage_behind(damaged: bool, bodies: &[Vec<u8>], end: u64) -> Option<ScanFault>
+    ensures { result ≡ damage_behind damaged (length bodies.now) end }
+{
+    if damaged {
+        return Some(ScanFault::Damaged {
+            number: bodies.len() + 1,
+            at: end,
+        });
+    }
+    None
+}
+
+/// The end of a printing, by how its lines ended, by what the flush behind them was answered, and by the log's damage.
+fn ended(
+    written: Result<(), ScanFault>,
+    flushed: io::Result<()>,
+    damage: Option<ScanFault>,
+) -> Result<(), ScanFault>
+    ensures { result ≡ ended written flushed damage }
 {
     written?;
-    flushed.map_err(|_| ScanFault::Write)
+    flushed.map_err(|_| ScanFault::Write)?;
+    match damage {
+        Some(fault) => Err(fault),
+        None => Ok(()),
+    }
 }
 
 /// Where the next record of a log of these bodies would begin. No log of at most `MOST_LOG` bytes has bodies whose end

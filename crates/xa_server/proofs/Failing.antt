@@ -27,6 +27,10 @@ failed_on_files disks opened refused net log_bytes place late first second fault
 failed_on_files disks opened refused net log_bytes place late first second (fault.File log_file cause) files h = absurd h
 failed_on_files disks opened refused net log_bytes place late first second (fault.Missing log_file) files h =
     (first, second, files, h)
+failed_on_files disks opened refused net log_bytes place late first second (fault.Stray log_file) files h =
+    (first, second, files, h)
+failed_on_files disks opened refused net log_bytes place late first second (fault.Damaged log_file number at) files h =
+    (first, second, files, h)
 failed_on_files disks opened refused net log_bytes place late first second (fault.Manager e) files h =
     (first, second, files, h)
 
@@ -43,6 +47,8 @@ failed_early disks opened refused net log_bytes place late fault.Wait h = absurd
 failed_early disks opened refused net log_bytes place late fault.InUse h = h
 failed_early disks opened refused net log_bytes place late (fault.File log_file cause) h = h
 failed_early disks opened refused net log_bytes place late (fault.Missing log_file) h = h
+failed_early disks opened refused net log_bytes place late (fault.Stray log_file) h = h
+failed_early disks opened refused net log_bytes place late (fault.Damaged log_file number at) h = h
 failed_early disks opened refused net log_bytes place late (fault.Manager e) h = h
 
 -- all was ready, and its sessions weren't served by workers

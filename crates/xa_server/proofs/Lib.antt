@@ -1,7 +1,9 @@
 pub mod Opening
 pub mod Promising
 pub mod Failing
+pub mod Damaged
 pub mod Sharing
 pub mod Gathering
 pub mod Rounds
 pub mod Letters
+pub mod Watching

@@ -6,3 +6,4 @@ pub mod Loops
 pub mod Logging
 pub mod Rounds
 pub mod Settled
+pub mod Watching

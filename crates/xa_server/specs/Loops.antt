@@ -1,5 +1,5 @@
 -- What the loops of a server tell, and what holds of the history that they tell of.
-use Rattle.std.specs.Prelude.{ℕ, ◌≡◌, Bool, List, [], ◌∷◌, ◌++◌, length, map, Result}
+use Rattle.std.specs.Prelude.{ℕ, ◌≡◌, Bool, false, List, [], ◌∷◌, ◌++◌, length, map, Result}
 use Rattle.std.specs.List.{AllByRecursion}
 use Rattle.xa_assoc.specs.declared.fault.ConnectFault.{ConnectFault}
 use Rattle.xa_disk.specs.declared.disk.Disk as disk
@@ -25,6 +25,7 @@ use Rattle.xa_history.specs.Promises.{Promises}
 use Rattle.xa_sequencer.specs.GroupManager.{alone, manages_of}
 use Rattle.xa_server.specs.declared.engine.Looped.{Looped}
 use Rattle.xa_server.specs.Serves.{KeepsServed}
+use Rattle.xa_server.specs.Watching.{is_down_after}
 use Rattle.xa_tokens.specs.Account.{Account, Owes}
 use Rattle.xa_tokens.specs.Receipts.{AreSame}
 use Rattle.xa_tokens.specs.declared.receipt.Receipt.{Receipt}
@@ -78,7 +79,8 @@ pub record RunsLoops {M : Type 0} (m : Ghosts M) (start : State → Type 0) (bas
   pub loop : AllLoop m start base begun ended
 
 -- From each starting state the history is a legal one, with what that promises, and tells of no more failures than were
--- counted. Its entries are what the loops were told, each entry by one of them, once, and no other.
+-- counted. Its entries are what the loops were told, each entry by one of them, once, and no other. Whether the manager is
+-- down in the end is what their replies say.
 pub record ServesByLoops {M : Type 0} (m : Ghosts M) (start : State → Type 0) (base : ℕ × ℕ) (loops : ℕ)
     (told : Looped) : Type 0 where
   pub now : M
@@ -92,6 +94,7 @@ pub record ServesByLoops {M : Type 0} (m : Ghosts M) (start : State → Type 0) 
   pub promises : Promises m start now entries
   pub counted : IsCounted m start base now entries
   pub calls_are : told.calls ≡ length entries
+  pub down_is : told.is_down ≡ is_down_after false (map receipt_of entries)
 
 -- ---- law
 

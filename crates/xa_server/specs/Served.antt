@@ -3,8 +3,11 @@ use Rattle.std.specs.Prelude.{◌≡◌, ◌⊎◌, ◌<◌, ◌≤◌, ◌++◌
 use Rattle.xa_disk.specs.declared.disk.Disk as disk
 use Rattle.xa_disk.specs.declared.file_fault.FileFault.{FileFault}
 use Rattle.xa_disk.specs.declared.file_fault.FileFault.TheVariants as file
-use Rattle.xa_log.specs.Missing.{missing_of}
-use Rattle.xa_log.specs.declared.missing.Missing.TheVariants.{Neither, First, Second}
+use Rattle.xa_log.specs.Finding.{damage_of}
+use Rattle.xa_log.specs.Unfit.{unfit_of}
+use Rattle.xa_log.specs.declared.fault.OpenFault.TheVariants as log
+use Rattle.xa_log.specs.declared.unfit.Unfit.TheVariants.{Neither, MissingFirst, MissingSecond, StrayFirst, StraySecond}
+use Rattle.xa_manager.specs.declared.fault.ManagerFault.TheVariants as opening
 use Rattle.xa_manager.specs.declared.manager.Manager.{Manager}
 use Rattle.xa_manager.specs.Files.{FilesStandFor}
 use Rattle.xa_manager.specs.LogStands.{Trusts}
@@ -18,6 +21,7 @@ use Rattle.xa_model.specs.State.{State}
 use Rattle.xa_model.specs.Step.{step}
 use Rattle.xa_model.specs.Turn.{Reopened}
 use Rattle.xa_history.specs.declared.manages.Manages as manages
+use Rattle.xa_reactor.specs.declared.common.Settings.{Settings}
 use Rattle.xa_sequencer.specs.GroupManager.{alone, manages_of}
 use Rattle.xa_server.specs.declared.listening.Listening.{Listening}
 use Rattle.xa_server.specs.declared.listening.Listening.TheVariants.{Tcp, Unix}
@@ -94,11 +98,11 @@ second_path path = path ++ codes ".2"
 abbrev pub AreFiles : {D : Type 0} → (D → List ℕ → Type 0) → List ℕ → D → D → Type 0
 AreFiles opened path first second = opened first path × opened second (second_path path)
 
--- the same, and neither file was missing
-pub record AreWhole {D : Type 0} (disks : disk.Ghosts D) (opened : D → List ℕ → Type 0) (path : List ℕ)
+-- the same, and neither file was missing, or had something in it that is no log
+pub record AreFit {D : Type 0} (disks : disk.Ghosts D) (opened : D → List ℕ → Type 0) (log_bytes : ℕ) (path : List ℕ)
     (first second : D) : Type 0 where
   pub files : AreFiles opened path first second
-  pub whole : disks.honest → missing_of (disks.seen first) (disks.seen second) ≡ Neither
+  pub fit : disks.honest → unfit_of log_bytes (disks.seen first) (disks.seen second) ≡ Neither
 
 -- The log's two files were opened at the path that was asked for; the listener listens at the address, on the port; and
 -- this manager was opened on the files.
@@ -106,7 +110,7 @@ pub record IsReady {D R : Type 0} (disks : disk.Ghosts D) (opened : D → List �
     (log_bytes : ℕ) (place : Place) (listener : Listening) (manager : Manager D) : Type 0 where
   pub first : D
   pub second : D
-  pub files : AreWhole disks opened place.path first second
+  pub files : AreFit disks opened log_bytes place.path first second
   pub listening : IsListening net listener place.at
   pub has_opened : HasOpened disks first second place.name log_bytes manager
 
@@ -126,8 +130,19 @@ abbrev pub AreLoops : ℕ → ℕ → Type 0
 AreLoops zero loops = (0 < loops) × (loops ≤ 4)
 AreLoops (suc n) loops = loops ≡ suc n
 
--- All was ready, and the manager's sessions were served by loops, from each state that it stood for. All is well, unless
--- the manager is down and a server that is down was to end.
+-- what is asked of its loops
+abbrev pub settings_of : LoopService → Settings
+settings_of service = record {
+  connections = service.connections;
+  frame_seconds = service.frame_seconds;
+  idle_seconds = service.idle_seconds;
+  ends_when_down = service.ends_when_down;
+  trim_bytes = service.trim_bytes;
+  log_bytes = service.log_bytes;
+}
+
+-- All was ready, and the manager's sessions were served by loops, from each state that it stood for, as was asked. All is
+-- well, unless the manager is down and a server that is down was to end.
 pub record HasLooped {D R : Type 0} (disks : disk.Ghosts D) (opened : D → List ℕ → Type 0) (net : listens.Ghosts R)
     (service : LoopService) (is_well : Bool) : Type 0 where
   pub listener : Listening
@@ -139,6 +154,7 @@ pub record HasLooped {D R : Type 0} (disks : disk.Ghosts D) (opened : D → List
   pub serves : ServesByLoops (manages_of disks) ((manages_of disks).stands (alone manager))
       ((manages_of disks).failures (alone manager)) loops told
   pub whole : told.is_whole ≡ true
+  pub settings : told.settings ≡ settings_of service
   pub well : is_well ≡ not (service.ends_when_down && told.is_down)
 
 -- ---- where it failed
@@ -158,8 +174,17 @@ IsFileFault opened refused path (fault.File log_file why) =
     (log_file.path.now ≡ path) × IsRefused opened refused path log_file.is_second why
 IsFileFault opened refused path _ = ⊥
 
+-- Where two disks are damaged: in the file that it names, at the record and byte that it tells; or that isn't told.
+abbrev pub IsDamage : {D : Type 0} → disk.Ghosts D → List ℕ → D → D → ServeFault → Type 0
+IsDamage disks path first second (fault.Damaged file number at) =
+    (file.path.now ≡ path)
+    × (disks.honest
+    → damage_of (disks.seen first) (disks.seen second)
+    ≡ Some (record { on_first = not file.is_second; number = number; at = at }))
+IsDamage disks path first second why = why ≡ fault.Manager (opening.Log log.Damaged)
+
 -- What is known of two disks where a server failed on them: no manager was opened on them, for a reason that it tells;
--- or the one that it names is missing.
+-- or the one that it names is missing, or has something in it that is no log, or is damaged.
 abbrev pub Refuses : {D : Type 0} → disk.Ghosts D → List ℕ → List ℕ → ℕ → D → D → ServeFault → Type 0
 Refuses disks path name log_bytes first second fault.Memory = Unit {0}
 Refuses disks path name log_bytes first second (fault.Manager e) =
@@ -167,7 +192,13 @@ Refuses disks path name log_bytes first second (fault.Manager e) =
 Refuses disks path name log_bytes first second (fault.Missing file) =
     (file.path.now ≡ path)
     × (disks.honest
-    → missing_of (disks.seen first) (disks.seen second) ≡ (if file.is_second then Second else First))
+    → unfit_of log_bytes (disks.seen first) (disks.seen second) ≡ (if file.is_second then MissingSecond else MissingFirst))
+Refuses disks path name log_bytes first second (fault.Stray file) =
+    (file.path.now ≡ path)
+    × (disks.honest
+    → unfit_of log_bytes (disks.seen first) (disks.seen second) ≡ (if file.is_second then StraySecond else StrayFirst))
+Refuses disks path name log_bytes first second (fault.Damaged file number at) =
+    IsDamage disks path first second (fault.Damaged file number at)
 Refuses disks path name log_bytes first second _ = ⊥
 
 -- the disks that it failed on were opened on the files at a path
@@ -182,8 +213,8 @@ WasReady {D} disks opened net log_bytes place =
     (listener : Listening) × (manager : Manager D) × IsReady disks opened net log_bytes place listener manager
 
 -- What was asked before it failed, and how that ended: a file was refused; no manager was opened on the files, or one of
--- them is missing; the files were there, and the port was refused; all was ready, and it couldn't print, or it didn't
--- serve for what `late` says.
+-- them is missing, is no log or is damaged; the files were there, and the port was refused; all was ready, and it
+-- couldn't print, or it didn't serve for what `late` says.
 abbrev pub HasFailedBy : {D R : Type 0} → disk.Ghosts D → (D → List ℕ → Type 0) → (List ℕ → FileFault → Type 0)
     → listens.Ghosts R → ℕ → Place → (ServeFault → Type 0) → ServeFault → Type 0
 HasFailedBy disks opened refused net log_bytes place late fault.Memory = Unit {0}
@@ -195,8 +226,12 @@ HasFailedBy disks opened refused net log_bytes place late (fault.Manager e) =
     HasRefused disks opened log_bytes place (fault.Manager e)
 HasFailedBy disks opened refused net log_bytes place late (fault.Missing file) =
     HasRefused disks opened log_bytes place (fault.Missing file)
+HasFailedBy disks opened refused net log_bytes place late (fault.Stray file) =
+    HasRefused disks opened log_bytes place (fault.Stray file)
+HasFailedBy disks opened refused net log_bytes place late (fault.Damaged file number at) =
+    HasRefused disks opened log_bytes place (fault.Damaged file number at)
 HasFailedBy {D} disks opened refused net log_bytes place late fault.Listen =
-    (first : D) × (second : D) × AreWhole disks opened place.path first second
+    (first : D) × (second : D) × AreFit disks opened log_bytes place.path first second
     × IsRefusedAt net place.at
 HasFailedBy disks opened refused net log_bytes place late fault.Write = WasReady disks opened net log_bytes place
 HasFailedBy disks opened refused net log_bytes place late fault.Start =

@@ -2,6 +2,7 @@ ghost use Rattle.std.specs.Prelude.{◌≡◌, ◌↔◌, ◌+◌, ◌<◌, ◌�
 ghost use Rattle.xa_model.specs.State.{State};
 ghost use Rattle.std.specs.List.{AllByRecursion};
 ghost use Rattle.xa_server.specs.Loops.{AllLoop, IsFresh, ServesByLoops, told_by};
+ghost use Rattle.xa_server.specs.Watching.{IsSeenLast};
 ghost use Rattle.xa_service.specs.declared.loop_service.TheConstants.{MOST_LOOPS};
 ghost use Rattle.xa_tokens.specs.Account.{Account, Owes};
 ghost use Rattle.xa_tokens.specs.Receipts.{AreSame};
@@ -16,7 +17,7 @@ use std::sync::Wait;
 use std::thread::Threads;
 use xa_handles::SharedSequencer;
 use xa_history::Start;
-use xa_reactor::{Ended, Listener, LoopFault, Settings, Watch, run_loops};
+use xa_reactor::{Ended, Listener, LoopFault, Seen, Settings, Watch, run_loops};
 use xa_sequencer::{GroupCommits, Sequencer};
 use xa_service::MOST_LOOPS;
 use xa_tokens::{Book, Opened, Share};
@@ -28,8 +29,10 @@ pub struct Looped {
     pub calls: u64,
     /// Whether each loop could wait for events to its end.
     pub is_whole: bool,
-    /// Whether the manager was down when they ended.
+    /// Whether the manager was down when they ended, by the replies.
     pub is_down: bool,
+    /// What was asked of them.
+    pub settings: Settings,
 }
 
 /// Serves the sessions of a manager by so many event loops, 1 to `MOST_LOOPS`, each in a thread of its own; it ends when
@@ -51,6 +54,7 @@ pub fn loop_manager<
 ) -> Result<Looped, ServerFault>
     requires { M.pending manager ≡ None }
     ensures served { IfOk result (λ told. ServesByLoops M.manages (M.manages.stands manager) (M.manages.failures manager) loops told) }
+    ensures settings { IfOk result (λ told. told.settings ≡ settings) }
     ensures loops { IsErrOf result (ServerFault.Loops loops) ↔ ((loops ≡ 0) ⊎ (MOST_LOOPS < loops)) }
     ensures fault { IfErr result (λ fault. (fault ≡ ServerFault.Memory) ⊎ ((fault ≡ ServerFault.Wait)
         ⊎ (fault ≡ ServerFault.Loops loops))) }
@@ -82,19 +86,26 @@ fn loop_by<
     requires name { opened ≡ B.table }
     requires loops { (0 < loops) × (loops ≤ MOST_LOOPS) }
     ensures served { IfOk result (λ told. ServesByLoops M.manages S.start S.base loops told) }
+    ensures settings { IfOk result (λ told. told.settings ≡ settings) }
     ensures fault { IfErr result (λ fault. (fault ≡ ServerFault.Memory) ⊎ (fault ≡ ServerFault.Wait)) }
 {
     let sequencer: Sequencer<M, S> = Sequencer::new(manager);
     let (shared, share) = SharedSequencer::<M, S, B>::new(rt.alloc(), sequencer, opened);
     let watch = Watch::new();
     let posts = make_posts(rt, &shared, &watch, share, loops)?;
-    let (share, is_whole) = run_posts(rt, listener, &shared, &watch, posts, settings)?;
+    let (ran, settings) = run_posts(rt, listener, &shared, &watch, posts, settings)?;
+    let Gathered {
+        share,
+        is_whole,
+        seen,
+    } = ran;
     let sequencer = shared.into_sequencer(share);
     sequencer.promises();
     Ok(Looped {
         calls: sequencer.count(),
         is_whole,
-        is_down: watch.is_down(),
+        is_down: seen.is_down(),
+        settings,
     })
 }
 
@@ -123,7 +134,15 @@ fn make_posts<'a, M: GroupCommits, S: Start, B: Book, R: AllocGlobal + Clock + W
     Ok(posts)
 }
 
-// Runs a loop at each post. Their shares as one, and whether each loop could wait to its end.
+// What loops have that ended: their shares as one, whether each could wait to its end, and what they have seen together.
+#[derive(Drop)]
+pub(crate) struct Gathered<B: Book> {
+    share: Share<B>,
+    is_whole: bool,
+    seen: Seen,
+}
+
+// Runs a loop at each post. What they have as they end, and what was asked of them.
 fn run_posts<
     M: GroupCommits + Send,
     S: Start + Send + Sync,
@@ -136,44 +155,62 @@ fn run_posts<
     watch: &Watch,
     posts: Vec<Post<'_, M, S, B, R>>,
     settings: Settings,
-) -> Result<(Share<B>, bool), LoopFault>
+) -> Result<(Gathered<B>, Settings), LoopFault>
     requires some { 0 < length posts.items }
     requires fresh { AllByRecursion IsFresh (map (λ p. p.handle.asker) posts.items) }
-    ensures parts { IfOk result (λ all. all.0.parts ≡ sum_by (λ p. p.handle.asker.parts) posts.entry.items) }
+    ensures parts { IfOk result (λ all. all.0.share.parts ≡ sum_by (λ p. p.handle.asker.parts) posts.entry.items) }
     ensures loops { IfOk result (λ all. (ended : List Account)
         × AllLoop M.manages S.start S.base (map (λ p. p.handle.asker) posts.entry.items) ended
-        × AreSame all.0.told (told_by ended)) }
-    ensures settled { IfOk result (λ all. Owes all.0 0) }
+        × AreSame all.0.share.told (told_by ended)) }
+    ensures settled { IfOk result (λ all. Owes all.0.share 0) }
+    ensures seen { IfOk result (λ all. IsSeenLast all.0.seen all.0.share.told) }
+    ensures settings { IfOk result (λ all. all.1 ≡ settings) }
 {
     let ended = run_loops(rt, listener, watch, posts, settings)?;
-    Ok(gather(sequencer, ended))
+    let asked = ended[0].settings;
+    Ok((gather(sequencer, ended), asked))
 }
 
-// The shares of loops that ended, as one, and whether each could wait to its end.
+// What loops have that ended.
 fn gather<M: GroupCommits, S: Start, B: Book, R: Clock + Wait>(
     sequencer: &SharedSequencer<M, S, B>,
     ended: Vec<Ended<Post<'_, M, S, B, R>>>,
-) -> (Share<B>, bool)
+) -> Gathered<B>
     requires some { 0 < length ended.items }
     requires settled { AllByRecursion (λ e. Owes e.door.handle.asker 0) ended.items }
-    ensures parts { result.0.parts ≡ sum_by (λ e. e.door.handle.asker.parts) ended.entry.items }
-    ensures told { AreSame result.0.told (told_by (map (λ e. e.door.handle.asker) ended.entry.items)) }
-    ensures settled { Owes result.0 0 }
+    ensures parts { result.share.parts ≡ sum_by (λ e. e.door.handle.asker.parts) ended.entry.items }
+    ensures told { AreSame result.share.told (told_by (map (λ e. e.door.handle.asker) ended.entry.items)) }
+    ensures settled { Owes result.share 0 }
+    ensures seen { IsSeenLast result.seen result.share.told }
 {
     let mut ended = ended;
-    let Some(Ended { door, mut is_whole }) = ended.pop() else {
+    let Some(
+        Ended {
+            door,
+            mut is_whole,
+            ..
+        },
+    ) = ended.pop()
+    else {
         unreachable!()
     };
-    let mut all = door.into_share();
+    let (mut share, mut seen) = door.into_parts();
     while let Some(
         Ended {
             door,
             is_whole: more,
+            ..
         },
     ) = ended.pop()
     {
-        sequencer.merge(&mut all, door.into_share());
+        let (other, also) = door.into_parts();
+        sequencer.merge(&mut share, other);
+        seen = seen.with(also);
         is_whole = is_whole && more;
     }
-    (all, is_whole)
+    Gathered {
+        share,
+        is_whole,
+        seen,
+    }
 }

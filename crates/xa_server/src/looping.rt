@@ -21,8 +21,8 @@ use xa_service::{At, LoopService};
 /// Opens the log's two files, listens, and opens the manager; then it serves by loops, until they end. Whether the manager
 /// is up then, or a server that is down was not to end.
 ///
-/// Nobody is answered before the manager is open. Where the port can't be had, or a file of the log is missing, the
-/// manager isn't opened, so that nothing is written to the log.
+/// Nobody is answered before the manager is open. Where the port can't be had, or a file of the log is missing or is none,
+/// the manager isn't opened, so that nothing is written to either file.
 pub fn serve_loops<
     'a,
     R: AllocGlobal + Print + Eprint + Opens + Listens + Clock + Net + Threads + Wait + Sync,

@@ -1,4 +1,5 @@
-ghost use Rattle.std.specs.Prelude.{ℕ, ◌≡◌, ◌+◌};
+ghost use Rattle.std.specs.Prelude.{ℕ, ◌≡◌, ◌+◌, IfSome};
+ghost use Rattle.xa_server.specs.Watching.{is_restart, seen_of};
 
 use crate::logging::{appends, may_log};
 use std::alloc::{AllocError, Global};
@@ -11,7 +12,7 @@ use xa_desk::Door;
 use xa_frame::{Reply, Request, Status};
 use xa_handles::{Content, Handle, Held, Letter, SharedSequencer};
 use xa_history::Start;
-use xa_reactor::{Ask, Reception, Watch};
+use xa_reactor::{Ask, Reception, Seen, Watch};
 use xa_room::Uptime;
 use xa_sequencer::GroupCommits;
 use xa_tokens::{Book, Share};
@@ -25,16 +26,20 @@ const LETS: u32 = 4;
 pub(crate) struct Post<'a, M: GroupCommits, S: Start, B: Book, R> {
     pub(crate) handle: Handle<'a, M, S, B, R>,
     watch: &'a Watch,
+    /// Whether the manager is down, by what this loop was told.
+    seen: Seen,
     rt: &'a R,
     uptime: Uptime,
     /// How many calls there were that may have moved the log's end.
     logged: u64,
+    pub ghost kept: { seen ≡ seen_of handle.asker.told },
 }
 
 impl<'a, M: GroupCommits, S: Start, B: Book, R: Clock + Wait> Post<'a, M, S, B, R> {
     ghost use Rattle.std.specs.Prelude.{◌≡◌, ◌<◌, [], All, IfOk};
     ghost use Rattle.xa_reactor.specs.Asking.{IsAnswered, TellsSome};
     ghost use Rattle.xa_server.specs.{Loops.Called, Rounds.IsWithin, Rounds.TakesBack, Rounds.TellsAtMost};
+    ghost use Rattle.xa_server.specs.Watching.{IsSeenLast};
     ghost use Rattle.xa_tokens.specs.Account.{Owes};
 
     pub(crate) fn new(
@@ -53,6 +58,7 @@ impl<'a, M: GroupCommits, S: Start, B: Book, R: Clock + Wait> Post<'a, M, S, B, 
         Ok(Post {
             handle,
             watch,
+            seen: Seen::new(),
             rt,
             uptime: Uptime::new(rt),
             logged: 0,
@@ -166,13 +172,14 @@ impl<'a, M: GroupCommits, S: Start, B: Book, R: Clock + Wait> Post<'a, M, S, B, 
         if !is_of {
             return Some(held);
         }
+        let is_restart = asks_restart(ask);
         let (_, _, content) = letter.into_parts();
         let (reply, held) = match content {
             Content::Answered(answered) => (self.handle.take_answer(answered), Some(held)),
             Content::Posted(posted) => self.handle.call_back(held, posted),
         };
         self.logged = self.logged.wrapping_add(1);
-        self.watch.see(false, &reply);
+        self.watch.see(self.rt, &mut self.seen, is_restart, &reply);
         ask.request = None;
         ask.reply = reply;
         held
@@ -207,6 +214,7 @@ impl<'a, M: GroupCommits, S: Start, B: Book, R: Clock + Wait> Post<'a, M, S, B, 
             let is_restart = self.count(&request);
             let lock = self.lock(held);
             let (reply, lock) = self.handle.call_held(lock, ask.session, request);
+            self.watch.see(self.rt, &mut self.seen, is_restart, &reply);
             ask.reply = reply;
             if lets_go {
                 drop(lock);
@@ -214,7 +222,6 @@ impl<'a, M: GroupCommits, S: Start, B: Book, R: Clock + Wait> Post<'a, M, S, B, 
             } else {
                 *held = lock;
             }
-            self.watch.see(is_restart, &ask.reply);
         }
     }
 
@@ -228,18 +235,20 @@ impl<'a, M: GroupCommits, S: Start, B: Book, R: Clock + Wait> Post<'a, M, S, B, 
 
     // A request is to be answered. Whether it is a Restart.
     fn count(&mut self, request: &Request) -> bool
-        ensures { self.new.handle ≡ self.old.handle }
+        ensures handle { self.new.handle ≡ self.old.handle }
+        ensures restart { result ≡ is_restart request.now }
     {
         self.logged = self.logged.wrapping_add(u64::from(may_log(request)));
-        matches!(request, Request::Restart)
+        is_restart(request)
     }
 
-    /// The share.
-    pub(crate) fn into_share(self) -> Share<B>
-        ensures { result ≡ self.entry.handle.asker }
+    /// The share, and what the loop has seen of whether the manager is down.
+    pub(crate) fn into_parts(self) -> (Share<B>, Seen)
+        ensures share { result.0 ≡ self.entry.handle.asker }
+        ensures seen { IsSeenLast result.1 result.0.told }
     {
-        let Post { handle, .. } = self;
-        handle.into_share()
+        let Post { handle, seen, .. } = self;
+        (handle.into_share(), seen)
     }
 }
 
@@ -254,7 +263,7 @@ impl<M: GroupCommits, S: Start, B: Book, R: Clock + Wait> Door for Post<'_, M, S
     fn call(&mut self, session: u64, request: Request) -> Reply {
         let is_restart = self.count(&request);
         let reply = self.handle.call(session, request);
-        self.watch.see(is_restart, &reply);
+        self.watch.see(self.rt, &mut self.seen, is_restart, &reply);
         reply
     }
 
@@ -271,6 +280,8 @@ impl<M: GroupCommits, S: Start, B: Book, R: Clock + Wait> Door for Post<'_, M, S
 }
 
 impl<M: GroupCommits, S: Start, B: Book, R: Clock + Wait> Reception for Post<'_, M, S, B, R> {
+    ghost use Rattle.xa_handles.specs.Accounts.{Posts};
+    ghost use Rattle.xa_model.specs.declared.event.Event.TheVariants as Event;
     ghost use Rattle.xa_sequencer.specs.Associates.{AssociatedBy, EndedBy};
     ghost use Rattle.xa_server.specs.{Loops.Connected, Loops.Posted, Settled.keeps_settled};
     ghost use Rattle.xa_tokens.specs.Account.{Owes};
@@ -278,6 +289,10 @@ impl<M: GroupCommits, S: Start, B: Book, R: Clock + Wait> Reception for Post<'_,
     ghost connected = { λ a result b. Connected M.manages S.start S.base a.handle.asker result b.handle.asker };
 
     ghost posted = { λ session a b. Posted session a.handle.asker b.handle.asker };
+
+    ghost posts = { λ session request a b. Posts a.handle.asker (Event.Call session request) b.handle.asker };
+
+    ghost is_posted = { λ session request a b posts. (request, posts) };
 
     ghost is_settled = { λ a. Owes a.handle.asker 0 };
 
@@ -335,6 +350,22 @@ impl<M: GroupCommits, S: Start, B: Book, R: Clock + Wait> Reception for Post<'_,
     fn logged(&self) -> u64 {
         self.logged
     }
+}
+
+// Whether the request of an ask that isn't answered is a Restart.
+fn asks_restart(ask: &Ask) -> bool
+    ensures { IfSome ask.now.request (λ request. result ≡ is_restart request) }
+{
+    match &ask.request {
+        Some(request) => is_restart(request),
+        None => false,
+    }
+}
+
+fn is_restart(request: &Request) -> bool
+    ensures { result ≡ is_restart request.now }
+{
+    matches!(request, Request::Restart)
 }
 
 /// Shows the name alone.

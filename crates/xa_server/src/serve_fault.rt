@@ -27,10 +27,24 @@ pub enum ServeFault<'a> {
     InUse,
     /// A file of the log couldn't be opened.
     #[error("device fault: {file}: {fault}")]
-    File { file: LogFile<'a>, fault: FileFault },
-    /// It was there once, or had bytes, since the other one's log is of a later generation.
+    File {
+        file: LogFile<'a>,
+        fault: FileFault,
+    },
+    /// It was there once, as the other one's log shows.
     #[error("log file missing or empty: {0}")]
     Missing(LogFile<'a>),
+    /// Something stands there over which a log would be written.
+    #[error("{0}: not a log, and not empty")]
+    Stray(LogFile<'a>),
+    /// The log breaks off where it didn't end: the file, the record that isn't as it was written, from 1, and the byte at
+    /// which it begins.
+    #[error("log damaged: {file}: record {number} at byte {at}")]
+    Damaged {
+        file: LogFile<'a>,
+        number: usize,
+        at: u64,
+    },
     /// The manager couldn't be opened on its log.
     #[error("{0}")]
     Manager(ManagerFault),

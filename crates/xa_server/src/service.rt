@@ -1,10 +1,9 @@
 //! A manager over two files, whose sessions are the connections of a port.
-ghost use Rattle.std.specs.Prelude.{◌≡◌, ◌↔◌, ◌++◌, ℕ, List, IfErr, IfOk, IsErrOf, OnOk, codes, string_bytes};
+ghost use Rattle.std.specs.Prelude.{◌≡◌, ◌++◌, ℕ, List, IfErr, IfOk, OnOk, codes, string_bytes};
 ghost use Rattle.std.specs.declared.marker.Brand.{Brand};
-ghost use Rattle.xa_log.specs.{Missing.missing_of, declared.missing.Missing.TheVariants.Neither};
-ghost use Rattle.xa_manager.specs.Opening.{IsBadSetting, OpenRefused};
+ghost use Rattle.xa_log.specs.{Unfit.unfit_of, declared.unfit.Unfit.TheVariants.Neither};
 ghost use Rattle.xa_server.specs.Faults.{file_fault};
-ghost use Rattle.xa_server.specs.Served.{AreFiles, HasFailed, HasFailedBy, HasOpened, HasServed, IsFileFault};
+ghost use Rattle.xa_server.specs.Served.{AreFiles, HasFailed, HasFailedBy, HasOpened, HasServed, IsDamage, IsFileFault};
 ghost use Rattle.xa_server.specs.Served.{IsReady, Refuses, never, second_path, where_of};
 
 use crate::audited::audited_lines;
@@ -20,15 +19,15 @@ use std::sync::Wait;
 use std::thread::Threads;
 use xa_disk::{Disk, FileFault, Opens};
 use xa_history::Manages;
-use xa_log::{Missing, OpenFault, missing_file};
-use xa_manager::{Manager, ManagerFault, Settings};
+use xa_log::{OpenFault, Unfit, find_damage, unfit_file};
+use xa_manager::{Manager, ManagerFault, RefusedOpening, Settings};
 use xa_service::{At, Service};
 
 /// Opens the log's two files, listens, and opens the manager; then it serves so many connections, and audits the
 /// history. Whether the audit found it whole.
 ///
-/// Nobody is answered before the manager is open. Where the port can't be had, or a file of the log is missing, the
-/// manager isn't opened, so that nothing is written to the log.
+/// Nobody is answered before the manager is open. Where the port can't be had, or a file of the log is missing or is none,
+/// the manager isn't opened, so that nothing is written to either file.
 pub fn serve<'a, R: AllocGlobal + Print + Opens + Listens + Clock + Threads + Wait + Sync>(
     rt: &R,
     service: &Service<'a>,
@@ -71,50 +70,92 @@ pub(crate) fn make_ready<'a, R: AllocGlobal + Opens + Listens>(
 {
     let settings = Settings::new(rt.alloc(), name, log_bytes)?;
     let (mut first, mut second) = open_files(rt, path)?;
-    none_missing(rt.alloc(), &mut first, &mut second, path)?;
+    none_unfit(rt.alloc(), &mut first, &mut second, path, log_bytes)?;
     let Ok(listening) = listen(rt, at) else {
         return Err(ServeFault::Listen);
     };
-    let manager = open_manager(rt.alloc(), first, second, settings)?;
+    let manager = open_manager(rt.alloc(), first, second, settings, path)?;
     Ok((listening, manager))
 }
 
 /// The manager that two files open to.
-fn open_manager<D: Disk + Drop>(
+fn open_manager<'a, D: Disk + Drop>(
     alloc: Global,
     first: D,
     second: D,
     settings: Settings,
-) -> Result<Manager<D>, ManagerFault>
+    path: &'a str,
+) -> Result<Manager<D>, ServeFault<'a>>
     ensures opened { IfOk result (HasOpened D.Disk first second settings.name settings.log_bytes) }
-    ensures setting { IsErrOf result ManagerFault.Setting ↔ IsBadSetting settings.name settings.log_bytes }
-    ensures refused { D.honest
-        → IfErr result (λ e. OpenRefused e settings.name settings.log_bytes (D.seen first) (D.seen second)) }
+    ensures failed { IfErr result (Refuses D.Disk path.now settings.name settings.log_bytes first second) }
 {
-    Manager::open(alloc, first, second, settings)
+    let log_bytes = settings.log_bytes;
+    match Manager::open_returning(alloc, first, second, settings) {
+        Ok(manager) => Ok(manager),
+        Err(
+            RefusedOpening {
+                fault: ManagerFault::Log(OpenFault::Damaged),
+                mut first,
+                mut second,
+            },
+        ) => Err(damaged(alloc, &mut first, &mut second, path, log_bytes)),
+        Err(refused) => Err(ServeFault::from(refused.fault)),
+    }
 }
 
-/// Refuses two files of which one is missing, by its being empty. Only reads.
-fn none_missing<'a, D: Disk>(
+/// What is told of two files whose log is damaged: where, unless they can't be read again.
+fn damaged<'a, D: Disk>(
     alloc: Global,
     first: &mut D,
     second: &mut D,
     path: &'a str,
+    log_bytes: u64,
+) -> ServeFault<'a>
+    ensures { IsDamage D.Disk path.now first.old second.old result }
+{
+    match find_damage(alloc, first, second, log_bytes) {
+        Ok(Some(damage)) => ServeFault::Damaged {
+            file: LogFile {
+                path,
+                is_second: !damage.on_first,
+            },
+            number: damage.number,
+            at: damage.at,
+        },
+        Ok(None) | Err(_) => ServeFault::Manager(ManagerFault::Log(OpenFault::Damaged)),
+    }
+}
+
+/// Refuses two files of which one is missing, or has something in it that is no log. Only reads.
+fn none_unfit<'a, D: Disk>(
+    alloc: Global,
+    first: &mut D,
+    second: &mut D,
+    path: &'a str,
+    log_bytes: u64,
 ) -> Result<(), ServeFault<'a>>
-    ensures whole { D.honest → OnOk result (missing_of (D.seen first.old) (D.seen second.old) ≡ Neither) }
+    ensures fit { D.honest → OnOk result (unfit_of log_bytes (D.seen first.old) (D.seen second.old) ≡ Neither) }
     ensures same { D.honest → D.seen first.new ≡ D.seen first.old }
     ensures same_second { D.honest → D.seen second.new ≡ D.seen second.old }
-    ensures failed { (name : List ℕ) (log_bytes : ℕ)
-        → IfErr result (Refuses D.Disk path.now name log_bytes first.old second.old) }
+    ensures failed { (name : List ℕ) → IfErr result (Refuses D.Disk path.now name log_bytes first.old second.old) }
 {
-    let is_second = match missing_file(alloc, first, second) {
-        Ok(Missing::Neither) => return Ok(()),
-        Ok(Missing::First) => false,
-        Ok(Missing::Second) => true,
-        Err(OpenFault::Memory) => return Err(ServeFault::Memory),
-        Err(fault) => return Err(ServeFault::Manager(ManagerFault::Log(fault))),
+    let first_file = LogFile {
+        path,
+        is_second: false,
     };
-    Err(ServeFault::Missing(LogFile { path, is_second }))
+    let second_file = LogFile {
+        path,
+        is_second: true,
+    };
+    match unfit_file(alloc, first, second, log_bytes) {
+        Ok(Unfit::Neither) => Ok(()),
+        Ok(Unfit::MissingFirst) => Err(ServeFault::Missing(first_file)),
+        Ok(Unfit::MissingSecond) => Err(ServeFault::Missing(second_file)),
+        Ok(Unfit::StrayFirst) => Err(ServeFault::Stray(first_file)),
+        Ok(Unfit::StraySecond) => Err(ServeFault::Stray(second_file)),
+        Err(OpenFault::Memory) => Err(ServeFault::Memory),
+        Err(fault) => Err(ServeFault::Manager(ManagerFault::Log(fault))),
+    }
 }
 
 /// The log's two files, the first one at this path.

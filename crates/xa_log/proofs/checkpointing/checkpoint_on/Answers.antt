@@ -1,14 +1,14 @@
-use Rattle.std.proofs.Common.{◌≡◌, inl, inr, ◌+◌, ◌≤◌, ℕ, List, length, sym, ◌∙◌, subst, arith}
+use Rattle.std.proofs.Common.{◌≡◌, inl, inr, ⊎_elim, ◌+◌, ◌≤◌, ℕ, List, length, sym, ◌∙◌, subst, arith}
 use Rattle.std.specs.Int.{w32, to_be_bytes}
 use Rattle.xa_disk.specs.Time.{LeavesOnly}
 use Rattle.xa_log.specs.Chain.{start, records}
 use Rattle.xa_log.specs.Answers.{PutBecame}
-use Rattle.xa_log.specs.Checkpoint.{IsOther, IsReady, LeavesAny, LeavesNone, first_length}
+use Rattle.xa_log.specs.Checkpoint.{IsComplete, IsOther, IsTailed, LeavesAny, LeavesNone, first_length}
 use Rattle.xa_log.proofs.Steps.{first_len}
 use Rattle.xa_log.proofs.Cleared.{sealed_cleared}
 use Rattle.xa_log.proofs.Known.{seal_grows, records_reach, header_long}
 use Rattle.xa_log.proofs.Counted.{refused_front, refused_records, sealed_calls}
-use Rattle.xa_log.proofs.Parts.{first_part, second_part, third_part, none_torn, none_long, others_none, opened_none, records_ready, sealed, at_err}
+use Rattle.xa_log.proofs.Parts.{first_part, second_part, third_part, none_torn, none_long, others_none, opened_none, records_complete, sealed, at_err}
 use Rattle.xa_log.proofs.checkpointing.checkpoint_on.Goals as goal
 use Rattle.xa_log.proofs.checkpointing.checkpoint_on.Goals.{After-put_records, After-put_seal-outcome}
 
@@ -33,12 +33,13 @@ size : (g : _) (c : goal.After-put_seal-outcome g) → c.len.result ≡ first_le
 size g c = c.len.ensures ∙ sym (first_len c.args.bodies.now c.index-bodies-0.result c.requires.some c.index-bodies-0.is)
 
 module _ (g : _) (c : goal.After-put_seal-outcome g) (h : g.D.Disk.honest) where
-  ready : (most : ℕ) → LeavesNone most c.args.format (g.D.Disk.seen c.put_front.new.disk) → IsReady c.args.format c.args.bodies.now (g.D.Disk.seen c.put_records.new.disk)
-  ready most first =
+  ready : (most : ℕ) → LeavesNone most c.args.format (g.D.Disk.seen c.put_front.new.disk) → IsTailed c.args.more most c.args.format c.args.bodies.now
+      → IsComplete c.args.format c.args.bodies.now (g.D.Disk.seen c.put_records.new.disk)
+  ready most first tailed =
       let mid : List ℕ = g.D.Disk.seen c.put_front.new.disk in
       let long : 12 ≤ length mid = none_long c.args.format most mid first in
-      (records_ready c.args.more c.args.format c.args.bodies.now mid (g.D.Disk.seen c.put_records.new.disk) first.front long
-      c.requires.sizes c.requires.some (c.in-Ok-put_records.ensures.written h long)).0
+      records_complete c.args.more c.args.format c.args.bodies.now mid (g.D.Disk.seen c.put_records.new.disk) first.front long
+      c.requires.sizes c.requires.some (c.in-Ok-put_records.ensures.written h long) (⊎_elim (λ some. inl some) (λ short. inr (omega (arith, short, first.fits))) tailed)
 
   went : PutBecame g.D.Disk.tears c.put_seal-outcome.result 8 (to_be_bytes w32 (first_length c.args.bodies.now))
       (g.D.Disk.seen c.put_records.new.disk) (g.D.Disk.seen c.put_seal-outcome.new.disk) (g.D.Disk.may_leave c.put_seal-outcome.new.disk)
@@ -48,14 +49,14 @@ module _ (g : _) (c : goal.After-put_seal-outcome g) (h : g.D.Disk.honest) where
       (size g c) (c.put_seal-outcome.ensures.went h)
 
 pub returns-in-Err-clause-answer : goal.returns-in-Err-clause-answer
-returns-in-Err-clause-answer g c h most stood room other =
+returns-in-Err-clause-answer g c h most stood room tailed other =
     inl (
       at_err _ c.put_front.result _ c.in-Err.is (c.put_front.ensures.stays h most stood (omega arith) other),
       (λ lucky calm. at_err _ c.put_front.result _ c.in-Err.is (c.put_front.ensures.calm h lucky stood calm)),
     )
 
 pub returns-in-Err-clause-any_moment : goal.returns-in-Err-clause-any_moment
-returns-in-Err-clause-any_moment g c h most stood room other =
+returns-in-Err-clause-any_moment g c h most stood room tailed other =
     first_part g.D.Disk most c.args.format stood c.args.bodies.now c.args.disk.now c.put_front.new.disk c.put_front.new.disk
     (c.put_front.ensures.any_moment h most stood (omega arith) other)
 
@@ -64,11 +65,11 @@ returns-in-Err-clause-calls g c =
     refused_front c.put_front.result _ c.in-Err.is (length c.args.bodies.now) _ _ c.put_front.ensures.calls
 
 pub returns-in-Err-put_records-clause-any_moment : goal.returns-in-Err-put_records-clause-any_moment
-returns-in-Err-put_records-clause-any_moment g c h most stood room other =
+returns-in-Err-put_records-clause-any_moment g c h most stood room tailed other =
     moments g (goal.at.returns-in-Err-put_records-clause-any_moment g c).After-put_records h most stood room other
 
 pub returns-in-Err-put_records-clause-answer : goal.returns-in-Err-put_records-clause-answer
-returns-in-Err-put_records-clause-answer g c h most stood room other =
+returns-in-Err-put_records-clause-answer g c h most stood room tailed other =
     let at = (goal.at.returns-in-Err-put_records-clause-answer g c).After-put_records in
     let n = length (records (start c.args.format) c.args.bodies.now) + c.args.more in
     inr (others_none c.args.format g.D.Disk most c.put_records.new.disk
@@ -82,20 +83,20 @@ returns-in-Err-put_records-clause-calls g c =
     refused_records c.put_records.result _ c.in-Err-put_records.is (length c.args.bodies.now) _ _ _ c.in-Ok.ensures.calls c.put_records.ensures.calls
 
 pub returns-in-Ok-put_records-clause-any_moment : goal.returns-in-Ok-put_records-clause-any_moment
-returns-in-Ok-put_records-clause-any_moment g c h most stood room other =
+returns-in-Ok-put_records-clause-any_moment g c h most stood room tailed other =
     let at = goal.at.returns-in-Ok-put_records-clause-any_moment g c in
     let seal = at.After-put_seal-outcome in
     third_part g.D.Disk most c.args.format stood c.args.bodies.now c.args.disk.now c.put_records.new.disk c.put_seal-outcome.new.disk
     (moments g at.After-put_records h most stood room other)
-    (c.put_seal-outcome.ensures.any_moment h most c.args.format c.args.bodies.now (ready g seal h most (first g at.After-put_records h most stood room other))
+    (c.put_seal-outcome.ensures.any_moment h most c.args.format c.args.bodies.now (ready g seal h most (first g at.After-put_records h most stood room other) tailed)
     (size g seal) (second g at.After-put_records h most stood room other).fits (c.in-Ok-put_records.ensures.durable h))
 
 pub returns-in-Ok-put_records-clause-answer : goal.returns-in-Ok-put_records-clause-answer
-returns-in-Ok-put_records-clause-answer g c h most stood room other =
+returns-in-Ok-put_records-clause-answer g c h most stood room tailed other =
     let at = goal.at.returns-in-Ok-put_records-clause-answer g c in
     let seal = at.After-put_seal-outcome in
     sealed c.args.format g.D.Disk most stood c.args.bodies.now c.args.disk.now c.put_records.new.disk c.put_seal-outcome.new.disk
-    (ready g seal h most (first g at.After-put_records h most stood room other))
+    (ready g seal h most (first g at.After-put_records h most stood room other) tailed)
     (second g at.After-put_records h most stood room other).fits (c.in-Ok-put_records.ensures.durable h)
     c.put_seal-outcome.result c.put_seal-outcome.ensures.not_full (went g seal h) (c.put_seal-outcome.ensures.time h).follows
 

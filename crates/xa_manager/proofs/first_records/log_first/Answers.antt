@@ -1,6 +1,6 @@
 use Rattle.std.proofs.Common.{[], subst}
 use Rattle.xa_log.specs.Stands.{EndsBehind}
-use Rattle.xa_manager.proofs.FirstRecords.{first_full, one_body, appends_first, snapshots_first}
+use Rattle.xa_manager.proofs.FirstRecords.{first_appended, first_full, one_body, appends_first, snapshots_first}
 use Rattle.xa_manager.proofs.FoundLogs.{found_stands, found_new, first_kept, first_ends, replaced_ends}
 use Rattle.xa_manager.proofs.first_records.log_first.Goals as goal
 
@@ -15,7 +15,7 @@ pub returns-then-bodies-eq1-clause-kept : goal.returns-then-bodies-eq1-clause-ke
 returns-then-bodies-eq1-clause-kept g c = λ h kept old empty found.
     let one = one_body c.args.bodies.now c.index-bodies-0.result c.as_slice.result.now c.if-bodies-eq1.true c.index-bodies-0.is c.as_slice.ensures in
     let has = found_new g.D.Disk c.args.is_new old c.args.log.now c.if-is_new.true (empty c.if-is_new.true) found in
-    first_kept g.D.Disk _ has.0 c.as_slice.result.now _ _ kept one (c.append.ensures.pair h [] has.0 has.1)
+    first_kept g.D.Disk _ has.0 c.as_slice.result.now _ _ kept one (c.append.ensures.pair h [] has.0 has.1 (first_appended c.args.bodies.now c.as_slice.result.now one (c.requires.first c.if-is_new.true)))
 
 pub returns-then-bodies-eq1-clause-ends : goal.returns-then-bodies-eq1-clause-ends
 returns-then-bodies-eq1-clause-ends g c = λ kept old empty ends.
@@ -37,7 +37,7 @@ pub returns-then-bodies-eq1-clause-logs : goal.returns-then-bodies-eq1-clause-lo
 returns-then-bodies-eq1-clause-logs g c =
     appends_first g.D.Disk c.args.is_new _ c.args.bodies.now c.as_slice.result.now c.args.log.now _ c.if-is_new.true
     (one_body c.args.bodies.now c.index-bodies-0.result c.as_slice.result.now c.if-bodies-eq1.true c.index-bodies-0.is c.as_slice.ensures)
-    c.append.ensures.other c.append.ensures.pair c.append.ensures.any_moment
+    c.append.ensures.other (c.requires.first c.if-is_new.true) c.append.ensures.pair c.append.ensures.any_moment
 
 pub returns-else-is_new-clause-logs : goal.returns-else-is_new-clause-logs
 returns-else-is_new-clause-logs g c =

@@ -6,7 +6,7 @@ use Rattle.xa_log.specs.Stands.{EndsBehind}
 use Rattle.xa_log.specs.declared.appending.Appended.TheVariants.{Kept}
 use Rattle.xa_manager.specs.Opening.{HasBodies, has_boot_room}
 use Rattle.xa_manager.specs.Refused.{LogsFirst}
-use Rattle.xa_manager.proofs.Begins.{planned, first_bodies, first_sizes, first_room, first_newer, logs_boot}
+use Rattle.xa_manager.proofs.Begins.{planned, first_bodies, first_few, first_sizes, first_room, first_newer, logs_boot}
 use Rattle.xa_manager.proofs.FirstRecords.{not_kept}
 use Rattle.xa_manager.proofs.NewBoots.{new_stands}
 use Rattle.xa_manager.proofs.Reserved.{boot_same, ends_same, found_same}
@@ -50,6 +50,11 @@ log_first-requires-clause-above g c =
     let plan = planned 0 (bodies_of c.args.bodies.items) c.in_ok-prepared.field-0 c.in-Some.next c.in_ok-prepared.ensures.0 c.in_ok-prepared.ensures.1 c.in-Some.is in
     subst (λ (n : ℕ). n < generation c.deref-3.result.now) (sym (c.in-Ok.ensures.ok.fields.number ∙ c.requires.number))
     (first_newer 0 _ c.in_ok-prepared.field-0.durable.value c.in-Some.next c.deref-3.result.now plan c.deref-3.ensures.value)
+
+pub log_first-requires-clause-first : goal.log_first-requires-clause-first
+log_first-requires-clause-first g c = λ new.
+    let plan = planned 0 (bodies_of c.args.bodies.items) c.in_ok-prepared.field-0 c.in-Some.next c.in_ok-prepared.ensures.0 c.in_ok-prepared.ensures.1 c.in-Some.is in
+    first_few 0 _ c.in_ok-prepared.field-0.durable.value c.in-Some.next _ plan c.deref-3.ensures.value (c.requires.made new)
 
 pub returns-clause-begun : goal.returns-clause-begun
 returns-clause-begun g c = λ found sized.

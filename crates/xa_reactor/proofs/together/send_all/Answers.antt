@@ -7,7 +7,7 @@ use Rattle.xa_reactor.specs.Asking.{IsAnswered}
 use Rattle.xa_reactor.proofs.together.send_all.Goals as goal
 
 pub loop-ask-init : goal.loop-ask-init
-loop-ask-init c =
+loop-ask-init g c =
     let same = c.into_iter-ask-iterator.ensures.into_iter_gives in
     record {
       answered = subst (λ d. All IsAnswered (drain_items d)) (sym same)
@@ -18,16 +18,16 @@ loop-ask-init c =
     }
 
 pub close_turn-step-requires : goal.close_turn-step-requires
-close_turn-step-requires c =
+close_turn-step-requires g c =
     All-head IsAnswered c.in-Some.ask _ (All-same IsAnswered _ _ (sym c.in-Some.ensures.steps.0) c.loop-ask.invariant.answered)
 
 pub push_reserved-requires : goal.push_reserved-requires
-push_reserved-requires c =
+push_reserved-requires g c =
     let less : drain_len c.next.new.self + 1 ≡ drain_len c.loop-ask.ask-iterator = c.in-Some.ensures.steps.1 in
     omega (arith, less, c.loop-ask.invariant.count, c.loop-ask.invariant.capacity, c.requires.room)
 
 pub loop-ask-preserved : goal.loop-ask-preserved
-loop-ask-preserved c =
+loop-ask-preserved g c =
     let less : drain_len c.next.new.self + 1 ≡ drain_len c.loop-ask.ask-iterator = c.in-Some.ensures.steps.1 in
     record {
       answered = All-tail IsAnswered c.in-Some.ask _ (All-same IsAnswered _ _ (sym c.in-Some.ensures.steps.0) c.loop-ask.invariant.answered);
@@ -37,7 +37,7 @@ loop-ask-preserved c =
     }
 
 pub returns-clause-same : goal.returns-clause-same
-returns-clause-same c = c.loop-ask.invariant.same
+returns-clause-same g c = c.loop-ask.invariant.same
 
 pub returns-clause-room : goal.returns-clause-room
-returns-clause-room c = (omega (arith, c.loop-ask.invariant.count), c.loop-ask.invariant.capacity)
+returns-clause-room g c = (omega (arith, c.loop-ask.invariant.count), c.loop-ask.invariant.capacity)

@@ -6,7 +6,7 @@ use Rattle.xa_reactor.specs.Tending.{sessions_of}
 use Rattle.xa_reactor.proofs.together.send_all.Given as goal
 
 abbrev pub invariant-loop-ask : goal.invariant-loop-ask
-invariant-loop-ask l = record {
+invariant-loop-ask g l = record {
   answered : All IsAnswered (drain_items l.ask-iterator);
   count : vec_len l.over + drain_len l.ask-iterator ≡ vec_len l.fn.over + vec_len l.fn.asks;
   capacity : vec_capacity l.over ≡ vec_capacity l.fn.over;

@@ -1,4 +1,5 @@
-use Rattle.std.proofs.Common.{◌≤◌, ℕ, List, ap, subst, arith}
+use Rattle.std.proofs.Common.{◌≡◌, ◌∙◌, sym, length, ◌≤◌, ℕ, List, ap, subst, arith}
+use Rattle.std.proofs.lemmas.List.{length-map}
 use Rattle.std.specs.Prelude.{Vec}
 use Rattle.std.specs.declared.alloc.Global.{Global}
 use Rattle.std.proofs.lemmas.Result.{err_from_is_err_and}
@@ -33,11 +34,13 @@ returns-clause-scans g c =
     let file = g.D.Disk.seen c.args.disk.now in
     let bodies = bodies_of c.in_ok-bodies.bodies.items in
     let printed = c.write_lines-written.ensures in
-    rw c.ended.ensures
-    (scanned g.D.Disk.honest c.write_lines-written.result c.flush-flushed.result file bodies printed.0
+    let count : length c.as_slice-2.result.now ≡ length bodies = ap (λ (l : List (Vec ℕ Global)). length l) c.as_slice-2.ensures.value ∙ sym (length-map c.in_ok-bodies.bodies.items (λ (b : Vec ℕ Global). b.items)) in
+    let end : c.in_ok-end.end ≡ behind FIRST_OFFSET bodies = c.in_ok-end.ensures.value ∙ ap (λ (l : List (Vec ℕ Global)). behind FIRST_OFFSET (bodies_of l)) c.as_slice.ensures.value in
+    rw (c.ended.ensures, c.damage_behind-damage.ensures)
+    (scanned g.D.Disk.honest c.write_lines-written.result c.flush-flushed.result c.in_ok-bodies.damaged (length c.as_slice-2.result.now) c.in_ok-end.end file bodies printed.0
     (g.W.Write.contents c.args.writer.now) (g.W.Write.contents c.write_lines-written.new.writer) (g.W.Write.contents c.flush-flushed.new.self)
-    (λ yes. ((c.in_ok-bodies.ensures.value yes).0, c.in_ok-bodies.ensures.logged yes)) printed.1 c.flush-flushed.ensures.bytes
-    (subst (λ (l : List (Vec ℕ Global)). PrintsLines {X = Unit {0}} c.write_lines-written.result (bodies_of l) printed.0) c.as_slice-2.ensures.value printed.2))
+    (λ yes. (((c.in_ok-bodies.ensures.value yes).0, c.in_ok-bodies.ensures.logged yes), c.in_ok-bodies.ensures.damaged yes)) count end printed.1 c.flush-flushed.ensures.bytes
+    (subst (λ (l : List (Vec ℕ Global)). PrintsLines {X = Unit {0}} c.write_lines-written.result (bodies_of l) printed.0) c.as_slice-3.ensures.value printed.2))
 
 pub returns-in_err-bodies-clause-looks : goal.returns-in_err-bodies-clause-looks
 returns-in_err-bodies-clause-looks g c =

@@ -1,4 +1,4 @@
-use Rattle.std.proofs.Common.{◌∙◌, map}
+use Rattle.std.proofs.Common.{◌∙◌, ap, arith, map}
 use Rattle.xa_server.proofs.Sharing.{all_loop, all_settled, same_parts}
 use Rattle.xa_server.proofs.engine.run_posts.Goals as goal
 
@@ -6,6 +6,10 @@ pub gather-requires-clause-settled : goal.gather-requires-clause-settled
 gather-requires-clause-settled g c =
     all_settled g.M.GroupCommits.manages g.S.Start.start g.S.Start.base (λ p. p.handle.asker) c.args.posts.items
     c.in_ok-ended.ended.items c.in_ok-ended.ensures.count c.in_ok-ended.ensures.tended c.requires.fresh
+
+pub returns-clause-settings : goal.returns-clause-settings
+returns-clause-settings g c =
+    ap (λ e. e.settings) c.index.ensures ∙ c.in_ok-ended.ensures.asked 0 _ (omega (arith, c.in_ok-ended.ensures.count, c.requires.some))
 
 pub returns-clause-parts : goal.returns-clause-parts
 returns-clause-parts g c =

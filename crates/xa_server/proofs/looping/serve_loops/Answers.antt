@@ -53,5 +53,6 @@ returns-in-Ok-println-clause-served g c = record {
       c.loops_of-loops.result c.in_ok-told.told)
       c.new.ensures c.in_ok-told.ensures.served;
   whole = search rules;
+  settings = c.in_ok-told.ensures.settings;
   well = search rules;
 }

@@ -2,13 +2,13 @@ use Rattle.std.proofs.Common.{rules, ◌≡◌, ◌∙◌, ap, sym, subst, ℕ, 
 use Rattle.xa_disk.specs.Time.{LeavesOnly}
 use Rattle.xa_log.specs.Ahead.{IsKnown}
 use Rattle.xa_log.specs.Chain.{newest, start, text, records}
-use Rattle.xa_log.specs.Checkpoint.{IsOther, LeavesAny, Checkpointed}
+use Rattle.xa_log.specs.Checkpoint.{IsOther, IsTailed, LeavesAny, Checkpointed}
 use Rattle.xa_log.specs.LogFields.{shown}
 use Rattle.xa_log.specs.Pair.{generation}
 use Rattle.xa_log.specs.Stands.{Stands}
 use Rattle.xa_log.specs.TwoFiles.{Pair}
 use Rattle.xa_log.specs.declared.appending.Appended.TheVariants.{Kept}
-use Rattle.xa_log.proofs.Cleared.{cleared_by}
+use Rattle.xa_log.proofs.Cleared.{cleared_by, tailed_by}
 use Rattle.xa_log.proofs.Known.{known_swapped, known_beside}
 use Rattle.xa_log.proofs.Records.{length-text}
 use Rattle.xa_log.proofs.Two.{replaced, kept_pair, refused_pair, lost_pair, other_still, wrote_kept, wrote_lost, wrote_refused, moments_of, kept_by}
@@ -27,17 +27,20 @@ module _ (g : _) (c : goal.After-checkpoint_on-outcome g) where
   room : 12 + (length (records (start c.newest-format.result) c.args.bodies.now) + c.zeros_behind-more.result) ≤ c.self.inside.log_bytes
   room = omega (arith, c.in-Some.ensures.some.0, c.zeros_behind-more.ensures.within, length-text c.newest-format.result c.args.bodies.now)
 
+  tailed : IsTailed c.zeros_behind-more.result c.self.inside.log_bytes c.newest-format.result c.args.bodies.now
+  tailed = tailed_by c.zeros_behind-more.result c.self.inside.log_bytes _ c.newest-format.result c.args.bodies.now c.zeros_behind-more.ensures.exact c.in-Some.ensures.some.0
+
   came : g.D.Disk.honest → (stood : List (List ℕ)) → IsOther g.D.Disk c.self.inside.log_bytes stood c.self.inside.other
       → Checkpointed g.D.Disk c.checkpoint_on-outcome.result.0 c.self.inside.log_bytes c.newest-format.result stood c.args.bodies.now
       c.self.inside.other c.checkpoint_on-outcome.new.disk
-  came h stood other = c.checkpoint_on-outcome.ensures.answer h c.self.inside.log_bytes stood room other
+  came h stood other = c.checkpoint_on-outcome.ensures.answer h c.self.inside.log_bytes stood room tailed other
 
   module _ (now : _) (is : now ≡ c.checkpoint_on-outcome.new.disk) where
     moments : g.D.Disk.honest → (old stood : List (List ℕ)) → Pair g.D.Disk old stood c.args.self.now
         → LeavesOnly g.D.Disk c.args.self.now.other now (LeavesAny c.args.self.now.log_bytes newest stood c.args.bodies.now)
     moments h old stood p = moments_seen c.self.view_is
         (moments_of g.D.Disk c.self.inside.log_bytes c.newest-format.result stood c.args.bodies.now c.self.inside.other c.checkpoint_on-outcome.new.disk now is
-        c.newest-format.ensures (c.checkpoint_on-outcome.ensures.any_moment h c.self.inside.log_bytes stood room (pair old stood p).other))
+        c.newest-format.ensures (c.checkpoint_on-outcome.ensures.any_moment h c.self.inside.log_bytes stood room tailed (pair old stood p).other))
 
     none_failed : g.D.Disk.failures c.args.self.now.other < 2 ^ 64 - 1 → g.D.Disk.failures now ≡ g.D.Disk.failures c.args.self.now.other
         → c.checkpoint_on-outcome.result.0 ≡ Kept

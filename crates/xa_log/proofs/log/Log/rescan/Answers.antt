@@ -55,11 +55,11 @@ pub returns-in_err-other_window-clause-any_moment : goal.returns-in_err-other_wi
 returns-in_err-other_window-clause-any_moment g c h = look_leaves g.D.Disk g.met.D.Disk.only_now c.args.self.now _ (returns-in_err-other_window-clause-looks g c h)
 
 pub returns-in_err-on_first-clause-readable : goal.returns-in_err-on_first-clause-readable
-returns-in_err-on_first-clause-readable g c h state was beside =
+returns-in_err-on_first-clause-readable g c h state was lucky beside =
     let is = of_fields (λ l. IsIn g.D.Disk state l) c.self.view_is was in
     let calm = of_fields (λ l. IsCalmBeside g.D.Disk state l) c.self.view_is beside in
     err_only c.from_residual-in_err-on_first.result _ c.from_residual-in_err-on_first.ensures.1
-    (explained _ (subst (λ f. Explains c.in_err-on_first.field-0.0 f) (state_reads g.D.Disk (shown c.self.inside) state is calm) (c.in_err-on_first.ensures.value h)))
+    (explained _ (subst (λ f. Explains c.in_err-on_first.field-0.0 f) (state_reads g.D.Disk (shown c.self.inside) state is lucky calm) (c.in_err-on_first.ensures.value h)))
 
 pub returns-clause-logged : goal.returns-clause-logged
 returns-clause-logged g c h =

@@ -53,7 +53,7 @@ returns-clause-goes_on g c = λ trusts. on_ok c.rescan.result _ (λ v is s st up
 pub returns-clause-readable : goal.returns-clause-readable
 returns-clause-readable g c = λ trusts. if_err c.rescan.result _ (λ e is s st.
     let log = st.log trusts in
-    in_err _ c.rescan.result e is (c.rescan.ensures.readable trusts.disk log.state log.is_in (calm_trusted g.D.Disk trusts log.state c.args.self.now.log)))
+    in_err _ c.rescan.result e is (c.rescan.ensures.readable trusts.disk log.state log.is_in (lost_trusted g.D.Disk trusts log.state) (calm_trusted g.D.Disk trusts log.state c.args.self.now.log)))
 
 pub returns-clause-leaves : goal.returns-clause-leaves
 returns-clause-leaves g c = λ trusts s st.

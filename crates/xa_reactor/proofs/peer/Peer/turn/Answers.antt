@@ -13,13 +13,14 @@ returns-then-not-take_turn-clause-carries g c =
 
 pub returns-clause-answers : goal.returns-clause-answers
 returns-clause-answers g c =
-    subst (λ (s : ℕ). HasAnswered (g.D.Door.called s) c.args.door.now c.answer-answering.new.door) c.take_turn.ensures.session
-    (has_answered (g.D.Door.called c.take_turn.new.self.session) c.answer-answering.result c.take_turn.new.self.connection c.answer-answering.new.self c.args.door.now c.answer-answering.new.door c.answer-answering.ensures)
+    subst (λ (s : ℕ). HasAnswered (g.D.Door.called s) c.args.door.now c.answer.new.door) c.take_turn.ensures.session
+    (has_answered (g.D.Door.called c.take_turn.new.self.session) c.answer.ensures.turns.0 c.take_turn.new.self.connection c.answer.new.self.connection
+    c.args.door.now c.answer.new.door c.answer.ensures.turns.1)
 
 pub returns-clause-carries : goal.returns-clause-carries
 returns-clause-carries g c =
     let taken = c.take_turn.ensures.taken in
-    subst (λ (s : ℕ). CarriesOn (g.D.Door.called s) c.args.self.now.connection c.args.door.now c.send.new.self.connection c.answer-answering.new.door)
+    subst (λ (s : ℕ). CarriesOn (g.D.Door.called s) c.args.self.now.connection c.args.door.now c.send.new.self.connection c.answer.new.door)
     c.take_turn.ensures.session
-    (carries_on (g.D.Door.called c.take_turn.new.self.session) c.args.self.now.connection taken.0 c.take_turn.new.self.connection c.answer-answering.new.self c.send.new.self.connection
-    c.args.door.now c.answer-answering.new.door c.answer-answering.result taken.1 taken.2 c.answer-answering.ensures c.send.ensures.sent)
+    (carries_on (g.D.Door.called c.take_turn.new.self.session) c.args.self.now.connection taken.0 c.take_turn.new.self.connection c.answer.new.self.connection c.send.new.self.connection
+    c.args.door.now c.answer.new.door c.answer.ensures.turns.0 taken.1 taken.2 c.answer.ensures.turns.1 c.send.ensures.sent)

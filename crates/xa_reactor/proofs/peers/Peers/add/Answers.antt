@@ -7,15 +7,15 @@ use Rattle.xa_reactor.proofs.peers.Peers.add.Goals as goal
 pub returns-in_default : goal.returns-in_default
 returns-in_default g c =
     tends_refused g.D.Reception.connected g.D.Door.called g.D.Door.left (sessions_of c.args.self.now.all) (sessions_of c.reserve-else-is_err.new.self)
-    c.args.door.now c.connect.new.self _ c.in_default.ensures (ap sessions_of (sym c.reserve-else-is_err.ensures.rest_kept))
+    c.args.door.now c.connect.new.door _ c.in_default.ensures.connected (ap sessions_of (sym c.reserve-else-is_err.ensures.rest_kept))
 
 pub returns : goal.returns
 returns g c =
     let before = sessions_of c.reserve-else-is_err.new.self in
     let after = sessions_of c.insert_reserved-key.new.self in
     tends_twice g.D.Reception.connected g.D.Door.called g.D.Door.left (sessions_of c.args.self.now.all) before after
-    c.args.door.now c.args.door.now c.connect.new.self
+    c.args.door.now c.args.door.now c.connect.new.door
     (tends_none g.D.Reception.connected g.D.Door.called g.D.Door.left _ before c.args.door.now (ap sessions_of (sym c.reserve-else-is_err.ensures.rest_kept)))
-    (tends_connected g.D.Reception.connected g.D.Door.called g.D.Door.left before after c.args.door.now c.connect.new.self
-    c.insert_reserved-key.result c.in-Ok.session (ap (λ slot. option_map (λ p. p.session) slot) c.insert_reserved-key.ensures.was_vacant) c.in-Ok.ensures
-    (puts_slot c.reserve-else-is_err.new.self c.insert_reserved-key.new.self c.insert_reserved-key.result (Some c.new.result) _ c.insert_reserved-key.ensures.updates (ap Some c.new.ensures.0)))
+    (tends_connected g.D.Reception.connected g.D.Door.called g.D.Door.left before after c.args.door.now c.connect.new.door
+    c.insert_reserved-key.result c.in-Ok.session (ap (λ slot. option_map (λ p. p.session) slot) c.insert_reserved-key.ensures.was_vacant) c.in-Ok.ensures.connected
+    (puts_slot c.reserve-else-is_err.new.self c.insert_reserved-key.new.self c.insert_reserved-key.result (Some c.new.result) _ c.insert_reserved-key.ensures.updates (ap Some c.new.ensures.new.0)))

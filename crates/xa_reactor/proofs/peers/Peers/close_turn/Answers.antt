@@ -3,5 +3,5 @@ use Rattle.xa_reactor.proofs.Doing.{same_sessions}
 use Rattle.xa_reactor.proofs.peers.Peers.close_turn.Goals as goal
 
 pub returns-in-Some : goal.returns-in-Some
-returns-in-Some c =
+returns-in-Some g c =
     sym (same_sessions c.args.self.now.all c.args.ask.key c.in-Some.peer.now c.close_turn.new.self (sym c.in-Some.ensures.value) c.close_turn.ensures.session)

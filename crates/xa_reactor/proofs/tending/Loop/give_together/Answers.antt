@@ -18,12 +18,12 @@ returns-clause-tends g c =
     (posting_tended g.D.Reception.posted g.D.Reception.connected g.D.Door.called g.D.Door.left more (sessions_of peers) c.gather-more.new.door c.keep_short.new.door
     (tends_twice g.D.Reception.connected g.D.Door.called g.D.Door.left more (sessions_of peers) (sessions_of peers)
     c.gather-more.new.door c.close_all.new.door c.keep_short.new.door c.close_all.ensures.tends
-    (tends_aside g.D.Reception.connected g.D.Door.called g.D.Door.left peers _ c.close_all.new.door c.keep_short.new.door c.keep_short.ensures)))
+    (tends_aside g.D.Reception.connected g.D.Door.called g.D.Door.left peers _ c.close_all.new.door c.keep_short.new.door c.keep_short.ensures.aside)))
 
 pub returns-clause-settled : goal.returns-clause-settled
 returns-clause-settled g c =
     let peers = c.close_all.new.peers.all in
     still_settled g.D.Reception.connected g.D.Door.called g.D.Door.left g.D.Reception.is_settled g.met.D.Reception.keeps_settled
     (sessions_of peers) (sessions_of peers) c.close_all.new.door c.keep_short.new.door
-    (tends_aside g.D.Reception.connected g.D.Door.called g.D.Door.left peers _ c.close_all.new.door c.keep_short.new.door c.keep_short.ensures)
+    (tends_aside g.D.Reception.connected g.D.Door.called g.D.Door.left peers _ c.close_all.new.door c.keep_short.new.door c.keep_short.ensures.aside)
     c.close_all.ensures.settled

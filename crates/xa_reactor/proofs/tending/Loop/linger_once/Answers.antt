@@ -25,8 +25,8 @@ returns-then-not-reserve-clause-tends g c =
     (sessions_of c.args.peers.now.all) (sessions_of c.answer_quick.new.peers.all) (sessions_of c.reserve.new.self.all)
     c.args.door.now c.answer_quick.new.door (ap sessions_of c.reserve.ensures.same) c.answer_quick.ensures.tends
 
-pub returns-in_err-poll-clause-tends : goal.returns-in_err-poll-clause-tends
-returns-in_err-poll-clause-tends g c =
+pub returns-in_err-look_for-clause-tends : goal.returns-in_err-look_for-clause-tends
+returns-in_err-look_for-clause-tends g c =
     answered g.D.Reception.posted g.D.Reception.connected g.D.Door.called g.D.Door.left
     (sessions_of c.args.peers.now.all) (sessions_of c.answer_quick.new.peers.all) (sessions_of c.reserve.new.self.all)
     c.args.door.now c.answer_quick.new.door (ap sessions_of c.reserve.ensures.same) c.answer_quick.ensures.tends

@@ -2,7 +2,7 @@ use Rattle.std.proofs.Common.{subst, sym, ap, ◌∙◌}
 use Rattle.xa_log.specs.Chain.{Rests, format_in}
 use Rattle.xa_log.specs.Reading.{bodies_of}
 use Rattle.xa_log.proofs.Records.{format_text}
-use Rattle.xa_log.proofs.opening.read_log.Goals as goal
+use Rattle.xa_log.proofs.opening.read_log_damage.Goals as goal
 
 pub returns-clause-value : goal.returns-clause-value
 returns-clause-value g c h = let read = c.in_ok-scan.ensures.value h in

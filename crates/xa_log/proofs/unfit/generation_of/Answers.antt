@@ -2,8 +2,8 @@ use Rattle.std.proofs.Common.{◌≡◌, ◌∙◌, List, ℕ, ap, subst, length
 use Rattle.std.proofs.lemmas.List.{take_at}
 use Rattle.xa_log.specs.Looking.{IsFront, IsHead}
 use Rattle.xa_log.proofs.Choosing.{head_generation, no_generation}
-use Rattle.xa_log.proofs.missing.generation_of.Goals as goal
-use Rattle.xa_log.proofs.missing.generation_of.Goals.{In_ok-head}
+use Rattle.xa_log.proofs.unfit.generation_of.Goals as goal
+use Rattle.xa_log.proofs.unfit.generation_of.Goals.{In_ok-head}
 
 is_head : (g : _) (c : goal.In_ok-head g) → g.D.Disk.honest → c.args.len ≡ length (g.D.Disk.seen c.args.disk.now)
     → IsHead (g.D.Disk.seen c.args.disk.now) c.head_of.new.window c.in_ok-head.field-0

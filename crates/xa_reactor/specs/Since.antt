@@ -1,0 +1,48 @@
+-- Since when a connection is quiet.
+use Rattle.std.specs.Prelude.{ℕ, ◌≡◌, ◌⊎◌, ◌↔◌, ◌<◌, ◌≤◌, ◌-◌, Bool, IsTrue, List, [], drop, length, MatchBool, MatchOption, None}
+use Rattle.slab.specs.Slab.{Slab, get}
+use Rattle.xa_connection.specs.declared.connection.Connection.{Connection}
+use Rattle.xa_connection.specs.Calls.{Feeds}
+use Rattle.xa_connection.specs.Fronts.{IsInsideFrame}
+use Rattle.xa_reactor.specs.declared.common.Settings.{Settings}
+use Rattle.xa_reactor.specs.declared.peer.Peer.{Peer}
+use Rattle.xa_reactor.specs.Timing.{IsToEnd}
+
+-- no byte came or went, and it is quiet since when it was
+abbrev pub IsStill : Connection → ℕ → Connection → ℕ → Type 0
+IsStill c since c' since' = (c' ≡ c) × (since' ≡ since)
+
+-- some bytes were sent of what was to be sent, at this time, and it is quiet since then; or none
+abbrev pub SentAt : ℕ → Connection → ℕ → Connection → ℕ → Type 0
+SentAt now c since c' since' =
+    IsStill c since c' since'
+    ⊎ ((count : ℕ) × (0 < count) × (count ≤ length c.output) × (c' ≡ record c { output = drop count c.output })
+    × (since' ≡ now))
+
+-- bytes that came in were taken, at this time, and it is quiet since then; or none
+abbrev pub FedAt : ℕ → Connection → ℕ → Connection → ℕ → Type 0
+FedAt now c since c' since' =
+    IsStill c since c' since'
+    ⊎ ((bytes : List ℕ) × (count : ℕ) × (0 < length bytes) × Feeds c bytes count c' × (since' ≡ now))
+
+-- some were sent, and then bytes that came in were taken
+abbrev pub TakenAt : ℕ → Connection → ℕ → Connection → ℕ → Type 0
+TakenAt now c since c' since' =
+    (between : Connection) × (meanwhile : ℕ) × SentAt now c since between meanwhile × FedAt now between meanwhile c' since'
+
+-- it owes the rest of a frame, and is owed nothing
+abbrev pub OwesFrame : Connection → Type 0
+OwesFrame c = IsInsideFrame c.input × (c.output ≡ [])
+
+-- The connection was looked at at this time: it has ended where it was to end, by how long it has been quiet, and is left
+-- where it wasn't.
+abbrev pub WasLooked : (ℕ → Bool → Type 0) → Settings → ℕ → Peer → Bool → Type 0
+WasLooked associates settings now p ends =
+    (is_inside : Bool) × (IsTrue is_inside ↔ OwesFrame p.connection)
+    × IsToEnd (associates p.session) is_inside (now - p.since) settings ends
+
+-- so was the one under a key, if there is one
+abbrev pub Looks : (ℕ → Bool → Type 0) → Settings → ℕ → ℕ → Slab Peer → Slab Peer → Type 0
+Looks associates settings now key old new =
+    MatchOption (get old key) (new ≡ old)
+    (λ p. (ends : Bool) × WasLooked associates settings now p ends × MatchBool ends (get new key ≡ None) (new ≡ old))
