@@ -26,7 +26,7 @@ extern ssize_t write(int file, const void *bytes, size_t count);
 extern int poll(void *files, unsigned long count, int milliseconds);
 extern void abort(void);
 
-enum { PREAD = 17, PWRITE = 18, SENDTO = 44, FSYNC = 74, FDATASYNC = 75, GETTID = 186 };
+enum { PREAD = 17, PWRITE = 18, SENDTO = 44, FSYNC = 74, FDATASYNC = 75, GETTID = 186, FADVISE = 221 };
 
 struct piece {
     const void *bytes;
@@ -166,6 +166,17 @@ int fdatasync(int file)
 int fsync(int file)
 {
     return (int)told("fsync", file, 0, fails("fsync") ? failed() : syscall(FSYNC, file));
+}
+
+/* of which the answer is the error's number itself */
+int posix_fadvise(int file, off_t at, off_t count, int advice)
+{
+    int kept = *__errno_location(), answer = (int)error;
+    if (!fails("posix_fadvise"))
+        answer = syscall(FADVISE, file, at, count, advice) < 0 ? *__errno_location() : 0;
+    told("posix_fadvise", file, at, answer);
+    *__errno_location() = kept;
+    return answer;
 }
 
 ssize_t send(int file, const void *bytes, size_t count, int flags)

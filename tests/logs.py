@@ -149,6 +149,72 @@ def lines(*bodies):
     return "".join(f"{offset} {body.line}\n" for offset, body in zip(at, bodies)) + f"end {at[-1]}\n"
 
 
+# What is read of two files, by the rules alone.
+
+MOST = {b"XARMLOG1": MOST_OF_ONE, b"XARMLOG2": MOST_BODY}
+# The kinds of records that calls append.
+APPENDED = range(2, 7)
+
+
+def chained(file):
+    """The bodies of a log that chain, and where the last one ends."""
+    at, digest, bodies = FIRST, hashlib.sha256(file[:FIRST]).digest(), []
+    while True:
+        size = int.from_bytes(file[at : at + 4], "big")
+        end = at + 4 + size
+        digest = hashlib.sha256(digest + file[at:end]).digest()
+        if not 0 < size <= MOST[file[:FIRST]] or file[end : end + 32] != digest:
+            return bodies, at
+        bodies.append(file[at + 4 : end])
+        at = end + 32
+
+
+def generation(bodies):
+    return int.from_bytes(bodies[0][1:5], "big") if bodies and len(bodies[0]) >= 5 else 0
+
+
+def current_of(first, second):
+    """Which of two files is current, None where none is a log. One that is absent is as one that is empty."""
+    logs = [at for at, file in enumerate((first, second)) if file and file[:FIRST] in MOST]
+    each = {at: chained((first, second)[at])[0] for at in logs}
+    return min(logs, key=lambda at: (-generation(each[at]), not each[at], at), default=None)
+
+
+def is_headless(file):
+    """No record chains, but the first one of a checkpoint is there: its length, a byte that no append begins with, and a generation. Not where
+    it chains behind the other format's name."""
+    if not file or file[:FIRST] not in MOST or len(file) < 17 or chained(file)[0]:
+        return False
+    length, kind, number_there = int.from_bytes(file[8:12], "big"), file[12], int.from_bytes(file[13:17], "big")
+    (other_name,) = MOST.keys() - {file[:FIRST]}
+    whole = hashlib.sha256(hashlib.sha256(other_name).digest() + file[8:17]).digest()
+    return length != 0 and kind not in APPENDED and number_there >= 2 and not (length == 5 and file[17:49] == whole)
+
+
+def is_cut(file):
+    """Nothing was appended to a log of format 2, of generation 2 or more, and what stands behind it is neither its end nor begins as an append
+    does. A checkpoint of format 1 ended in four zero bytes, before what stood behind it."""
+    bodies, end = chained(file)
+    if file[:FIRST] != b"XARMLOG2":
+        return False
+    rest = file[end:]
+    begins_well = len(rest) == 4 or (len(rest) > 4 and rest[4] in (0, *APPENDED))
+    return generation(bodies) >= 2 and not any(body[0] in APPENDED for body in bodies) and not begins_well
+
+
+def damage_of(first, second):
+    """Which record of two files isn't as it was written, as it is told, None where none is: the first one of either, or else the one at which the
+    current one's snapshot is cut."""
+    current = current_of(first, second)
+    for name, file in (("l", first), ("l.2", second)):
+        if is_headless(file):
+            return f"log damaged: {name}: record 1 at byte 8"
+    if current is not None and is_cut((first, second)[current]):
+        bodies, end = chained((first, second)[current])
+        return f"log damaged: {('l', 'l.2')[current]}: record {len(bodies) + 1} at byte {end}"
+    return None
+
+
 # The writer.
 
 # SHA-256 of that of XARMLOG2, the length 5 and OPENED, by sha256sum; and of both old files with each kind of record, as a server left them
@@ -254,7 +320,8 @@ def cuts():
 
 
 def bits():
-    """A log of which each single bit is changed. Of its name the last byte is a digit: 2 becomes 3 or 6, later formats, or none."""
+    """A log of which each single bit is changed. Of its name the last byte is a digit: 2 becomes 3 or 6, later formats, or none. Where its first
+    record isn't a first boot's any more, its loss is told."""
     bodies = OPENED, PREPARED
     for at, bit in itertools.product(range(len(TWO)), range(8)):
         file = bytearray(TWO)
@@ -266,19 +333,27 @@ def bits():
         yield f"bit {bit} of byte {at} is changed", bytes(file), *came
 
 
+def scan_of(title, file, status, shown):
+    """A row of a file, of which a scan prints this; behind it, where it is a damaged log, it tells the record that isn't as it was written."""
+    if file[:FIRST] in MOST and (is_headless(file) or is_cut(file)):
+        bodies, end = chained(file)
+        return Scan(title, file, 1, f"{shown}xarm: log damaged: record {len(bodies) + 1} at byte {end}\n")
+    return Scan(title, file, status, shown)
+
+
 def scans():
     for row in SCANS:
-        yield Scan(*row)
+        yield scan_of(*row)
     for title, _, first, second, shown in LEFT:
-        yield Scan(f"behind {title}", (first, second)[shown[0]], 0, shown[1])
-    yield Scan("each kind of record", OLD_FIRST, 0, OLD_LINES[0])
-    yield Scan("each kind of record of a snapshot", OLD_SECOND, 0, OLD_LINES[1])
+        yield scan_of(f"behind {title}", (first, second)[shown[0]], 0, shown[1])
+    yield scan_of("each kind of record", OLD_FIRST, 0, OLD_LINES[0])
+    yield scan_of("each kind of record of a snapshot", OLD_SECOND, 0, OLD_LINES[1])
     for rows in (format_limits, sizes, long_cuts):
-        yield from (Scan(*row) for row in rows())
+        yield from (scan_of(*row) for row in rows())
 
 
 def each_scan():
-    yield from (Scan(*row) for rows in (cuts, bits) for row in rows())
+    yield from (scan_of(*row) for rows in (cuts, bits) for row in rows())
 
 
 # What calls leave in the files.
@@ -479,6 +554,9 @@ HALF, TOP = new_log(opened(0x7FFFFFFF)), new_log(opened(0x80000000), other(5))
 BEGINS = {ZERO: 0, ZEROS: 1, BOOT_ONE: AGAIN, ONES: 0, BOOT_TWO: 1, BYTE: opened(256), PAST: 1, HALF: opened(0x80000000), TOP: 1}
 BEGINS |= {EMPTY: OPENED, BARE: OPENED, BARE_NEW: OPENED}
 
+NO_FIRST, NO_SECOND = (f"log file missing or empty: {file}" for file in ("l", "l.2"))
+STRAY_FIRST, STRAY_SECOND = (f"{file}: not a log, and not empty" for file in ("l", "l.2"))
+
 # Two files, and which of them is current, or what is told.
 PAIRS = [
     # the greater generation
@@ -508,37 +586,54 @@ PAIRS = [
     (BARE_NEW, BARE, 0),
     (BARE, BARE_NEW, 0),
     (BARE_NEW, BOOT_ONE, 1),
-    # the one that is a log
-    (NOTHING, EMPTY, 1),
+    # the first, of which the second generation wasn't written yet
     (EMPTY, NOTHING, 0),
-    (None, EMPTY, 1),
-    (NAMED, BOOT_ONE, 1),
-    (BOOT_ONE, NAMED, 0),
     (BOOT_ONE, NOTHING, 0),
-    (NOTHING, ZEROS, 1),
-    (STRANGE, BARE, 1),
-    (BOOT_TWO, STRANGE, 0),
-    (STRANGE, BOOT_TWO, 1),
-    (NAMED, BOOT_TWO, 1),
+    (BOOT_ONE, None, 0),
+    (ZEROS, NOTHING, 0),
     # none is
-    (STRANGE, NOTHING, "not a log"),
-    (NOTHING, STRANGE, "not a log"),
     (NOTHING, NAMED, "not a log"),
     (NAMED, NOTHING, "not a log"),
-    (STRANGE, STRANGE, "not a log"),
+    (NAMED, NAMED, "not a log"),
     # either is of a later format
     (NEWER, NOTHING, "log too new"),
     (NEWER, BOOT_TWO, "log too new"),
     (BOOT_TWO, NEWER, "log too new"),
     (NEWER, STRANGE, "log too new"),
     (NOTHING, NEWER, "log too new"),
-    # one is missing, beside a log of the second generation or a later one
-    (NOTHING, BOOT_TWO, "log file missing or empty: l"),
-    (BOOT_TWO, NOTHING, "log file missing or empty: l.2"),
-    (NOTHING, TOP, "log file missing or empty: l"),
-    (None, TOP, "log file missing or empty: l"),
-    (PAST, None, "log file missing or empty: l.2"),
+    (STRANGE, NEWER, "log too new"),
+    # the second one is missing, beside the second generation or a later one
+    (BOOT_TWO, NOTHING, NO_SECOND),
+    (BOOT_TWO, NAMED, NO_SECOND),
+    (BOOT_TWO, bytes(12), NO_SECOND),
+    (PAST, None, NO_SECOND),
+    # the first one is missing, beside any log
+    (NOTHING, BOOT_TWO, NO_FIRST),
+    (NAMED, BOOT_TWO, NO_FIRST),
+    (NOTHING, TOP, NO_FIRST),
+    (None, TOP, NO_FIRST),
+    (NOTHING, BOOT_ONE, NO_FIRST),
+    (NAMED, BOOT_ONE, NO_FIRST),
+    (NOTHING, ZEROS, NO_FIRST),
+    (NOTHING, EMPTY, NO_FIRST),
+    (None, EMPTY, NO_FIRST),
+    (NAMED, BARE, NO_FIRST),
+    # something else stands in one
+    (STRANGE, NOTHING, STRAY_FIRST),
+    (NOTHING, STRANGE, STRAY_SECOND),
+    (None, STRANGE, STRAY_SECOND),
+    (STRANGE, NAMED, STRAY_FIRST),
+    (STRANGE, STRANGE, STRAY_FIRST),
+    (STRANGE, BARE, STRAY_FIRST),
+    (STRANGE, BOOT_ONE, STRAY_FIRST),
+    (STRANGE, BOOT_TWO, STRAY_FIRST),
+    (EMPTY, STRANGE, STRAY_SECOND),
+    (BOOT_ONE, STRANGE, STRAY_SECOND),
+    (BOOT_TWO, STRANGE, STRAY_SECOND),
 ]
+# What an interrupted write of a log's first 12 bytes leaves of an empty file, each byte written or 0; and what it doesn't leave.
+REMNANTS = [b"X", b"XARML", b"\0", bytes(8), bytes(12), b"XARM\0\0\0\0", b"\0\0RM", b"XARMLOG\0\0\0\0\0", b"\0\0\0\0\0\0\x001\0", b"\0\0\0\0\0\0\x002\0"]
+STRAYS = [b"x", b"XBRML", b"\1", bytes(13), b"XARMLOG\0\0\0\0\1", b"XARMLOG" + bytes(6), b"\0\0\0\0\0\0\x003", b"XARMLOG:", b"\n", b"a letter, and no log\n"]
 # Two files, the most bytes of one, and which is current, or what is told: PAST has 90 bytes, and the last ones 65.
 LONG_OTHER, LONG_NEWER = STRANGE + bytes(57), NEWER + bytes(57)
 LONG_PAIRS = [
@@ -548,7 +643,8 @@ LONG_PAIRS = [
     (BOOT_ONE, PAST, 89, "log too long"),
     (PAST, NEWER, 89, "log too long"),
     (NEWER, PAST, 89, "log too long"),
-    (STRANGE, LONG_OTHER, 65, "not a log"),
+    (STRANGE, LONG_OTHER, 65, STRAY_FIRST),
+    (NOTHING, LONG_OTHER, 65, STRAY_SECOND),
     (STRANGE, LONG_OTHER, 64, "log too long"),
     (LONG_OTHER, STRANGE, 64, "log too long"),
     (LONG_NEWER, NEWER, 65, "log too new"),
@@ -575,6 +671,16 @@ def pairs():
         yield taken(f"row {at} of two files", (first, second), [], current)
     for at, (first, second, most, current) in enumerate(LONG_PAIRS):
         yield taken(f"row {at} of two files in {most} bytes", (first, second), ["--log-bytes", str(most)], current)
+    for at, file in enumerate(REMNANTS):
+        yield taken(f"remnant {at} beside the first boot", (BOOT_ONE, file), [], 0)
+        yield taken(f"remnant {at} beside a later one", (BOOT_TWO, file), [], NO_SECOND)
+        yield taken(f"remnant {at} before a log", (file, BOOT_ONE), [], NO_FIRST)
+        yield taken(f"remnant {at} alone", (file, None), [], "not a log")
+    for at, file in enumerate(STRAYS):
+        yield taken(f"stray {at} beside the first boot", (BOOT_ONE, file), [], STRAY_SECOND)
+        yield taken(f"stray {at} beside a later one", (BOOT_TWO, file), [], STRAY_SECOND)
+        yield taken(f"stray {at} before a log", (file, BOOT_TWO), [], STRAY_FIRST)
+        yield taken(f"stray {at} alone", (file, None), [], STRAY_FIRST)
 
 
 def cut_openings():
@@ -696,6 +802,8 @@ IMAGES = [
     ("a longer log", new_log(AGAIN, HELD), new_log(OPENED, PREPARED, DECIDED), [THIRD, BASE], [THIRD, HELD], [FOURTH, BASE]),
     ("nothing", TWO, b"", [AGAIN, HELD], [AGAIN, HELD], [THIRD, HELD]),
     ("nothing, beside an old log", old_log(OPENED, PREPARED), b"", [AGAIN, HELD], [AGAIN, HELD], [THIRD, HELD]),
+    # torn behind the name, the older log's first record doesn't chain behind it, but isn't lost
+    ("an old log, beside an old one", old_log(THIRD, HELD), old_log(AGAIN, HELD), [FOURTH, HELD], [FOURTH, HELD], [opened(5), HELD]),
 ]
 
 
@@ -707,7 +815,10 @@ def images():
             is_sealed = cut == len(whole) + 4
             after = (over(current, checkpoint(*sealed)), image) if is_sealed else (current, over(image, checkpoint(*then)))
             yield Serve(f"a checkpoint over {title}, torn at {cut}", (current, image), [], "", [], after)
-            yield Serve(f"one to the first file over {title}, torn at {cut}", (image, current), [], "", [], after[::-1])
+            # the first file is a log when a checkpoint to it begins
+            is_log = len(image) >= FIRST
+            told, left = ("", after[::-1]) if is_log else (f"xarm: {NO_FIRST}\n", (image, current))
+            yield Serve(f"one to the first file over {title}, torn at {cut}", (image, current), [], told, [], left)
 
 
 def torn_lengths():
@@ -721,13 +832,19 @@ def torn_lengths():
 
 
 def strays():
-    """A file that was no log, whose bytes behind the first eight chain to a log of a later generation: once its name is written, and no
-    length 0 behind it yet, it is the current one."""
-    current, older, whole = new_log(AGAIN, HELD), b"XARMLOGx" + log(opened(9))[8:], checkpoint(THIRD, BASE)
-    for cut in range(15):
-        image = torn(older, whole, cut)
-        after = (over(current, checkpoint(opened(10))), image) if 8 <= cut < 12 else (current, over(image, checkpoint(THIRD, HELD)))
-        yield Serve(f"a file that was no log, torn at {cut}", (current, image), [], "", [], after)
+    """A file that was no log, whose bytes behind the first eight chain to a log of a later generation: refused, until its name is written; with
+    no length 0 behind it yet, it is then the current one, or, where no closing length follows, a damaged one."""
+    current, whole = new_log(AGAIN, HELD), checkpoint(THIRD, BASE)
+    for closing, cut in itertools.product((CLOSED, b""), range(15)):
+        image = torn(b"XARMLOGx" + log(opened(9))[8:] + closing, whole, cut)
+        told, after = "", (current, over(image, checkpoint(THIRD, HELD)))
+        if cut < FIRST:
+            told, after = f"xarm: {STRAY_SECOND}\n", (current, image)
+        elif cut < 12 and damage_of(current, image):
+            told, after = f"xarm: {damage_of(current, image)}\n", (current, image)
+        elif cut < 12:
+            after = over(current, checkpoint(opened(10))), image
+        yield Serve(f"a file that was no log, before {len(closing)} bytes, torn at {cut}", (current, image), [], told, [], after)
 
 
 # Long records.
