@@ -50,10 +50,10 @@ new_stands m s boot given moment none nor never undue prepared completed unknown
   given = given;
   moment = moment;
   working = λ xid. rw (none, unknown s xid unknown_) refl;
-  lasting = λ xid. let nothing : s.decided ≡ [] = empty s.decided (omega arith) in rw (nor, unknown s xid unknown_, nothing) refl;
+  lasting = λ xid. let nothing : s.decided ≡ [] = empty s.decided (omega arith) in rw (none, nor, unknown s xid unknown_, nothing) refl;
   times = λ t. rw never (sym (times_none t s.branches (omega (arith, unknown_))));
   due = λ t xid. rw (undue, unknown s xid unknown_) refl;
-  known = rw (none, nor) (omega arith);
+  known = rw none (omega arith);
   prepared = omega (arith, prepared_known s.branches);
   completed = omega arith;
 }

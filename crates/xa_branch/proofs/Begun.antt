@@ -16,7 +16,8 @@ use Rattle.xa_branch.specs.declared.kind.Kind.TheVariants as kind
 use Rattle.xa_branch.specs.declared.lasting.Lasting.{Lasting}
 use Rattle.xa_branch.specs.declared.working.Working.{Working as Kept}
 use Rattle.xa_branch.specs.Kinds.{held_as}
-use Rattle.xa_branch.specs.Branches.{BranchesStandFor, kept_of, working_at, working_by, working_in, lasting_at, lasting_among, kept_with}
+use Rattle.xa_branch.proofs.Rooms.{begun_look as hidden_look}
+use Rattle.xa_branch.specs.Branches.{unless_working, BranchesStandFor, kept_of, working_at, working_by, working_in, lasting_at, lasting_among, kept_with}
 use Rattle.xa_branch.specs.Changes.{Sets, Keeps, new_kept}
 use Rattle.xa_branch.specs.Due.{due_among}
 use Rattle.xa_branch.proofs.Counting.{gained_here, gained_other, joined_gains, holders_by_kind}
@@ -90,7 +91,9 @@ begun_stands m k s n xid h st free nor keeps = record {
       keeps.working.at q ∙ rw (cmp_is_eq xid q) (begun_look m s n xid q b s.moment (limit_of s n) (xid_eq xid q) refl st zero refl);
   lasting = λ q.
       let b : Branch = new_branch (timestamp_of s.boot (s.given + 1)) xid (new_work s.moment (limit_of s n)) in
-      ap (λ (l : BTreeMap Triple Lasting). get xid_cmp l q) keeps.lasting ∙ begun_lasting m s xid q b (new_work s.moment (limit_of s n)) (xid_eq xid q) refl st nor refl;
+      ap (λ (l : BTreeMap Triple Lasting). unless_working (get xid_cmp k.working q) (get xid_cmp l q)) keeps.lasting
+      ∙ hidden_look m k.working xid (new_kept (timestamp_of s.boot (s.given + 1)) s.moment (limit_of s n)) nor keeps.working q
+      ∙ begun_lasting m s xid q b (new_work s.moment (limit_of s n)) (xid_eq xid q) refl st nor refl;
   times = λ t.
       let new : ℕ = timestamp_of s.boot (s.given + 1) in keeps.times t ∙ ap (cond (new == t) true) (st.times t) ∙ sym (begun_time new t (is_known_at t s.branches));
   due = λ t q.
@@ -98,8 +101,7 @@ begun_stands m k s n xid h st free nor keeps = record {
       more_due m.due k.due s.branches xid q b t (xid_eq xid q) refl st.due (unworking_due m s xid (st.working xid) free) keeps.due;
   known =
       let one : btree_map_len k.working ≡ btree_map_len m.working + 1 = let more = rw free at keeps.working.number in omega (arith, more) in
-      let same : btree_map_len k.lasting ≡ btree_map_len m.lasting = ap btree_map_len keeps.lasting in
-      omega (arith, one, same, st.known);
+      omega (arith, one, keeps.prepared, keeps.completed, st.known);
   prepared = omega (arith, keeps.prepared, st.prepared);
   completed = keeps.completed ∙ st.completed;
 }
@@ -114,7 +116,7 @@ alike_stands m working ts due s st looks number same alike = record {
   given = st.given;
   moment = st.moment;
   working = λ q. looks q ∙ st.working q;
-  lasting = st.lasting;
+  lasting = λ q. ap (λ (w : Option Kept). unless_working w (get xid_cmp m.lasting q)) (looks q) ∙ st.lasting q;
   times = λ t. rw same (st.times t);
   due = λ t q. alike t q ∙ st.due t q;
   known = omega (arith, number, st.known);

@@ -19,6 +19,7 @@ use Rattle.xa_branch.specs.declared.branches.Branches.{Branches}
 use Rattle.xa_branch.specs.declared.lasting.Lasting.{Lasting}
 use Rattle.xa_branch.specs.declared.lasting.Lasting.TheVariants as lasts
 use Rattle.xa_branch.specs.declared.working.Working.{Working as Kept}
+use Rattle.xa_branch.proofs.Rooms.{set_look}
 use Rattle.xa_branch.specs.Branches.{BranchesStandFor, working_at, lasting_at, lasting_among}
 use Rattle.xa_branch.specs.Changes.{Sets, SetsTime}
 use Rattle.xa_branch.proofs.Finding.{found_left, all_counted}
@@ -53,10 +54,10 @@ completed_stands m after ts n k s d xid t bs h st e sets fewer more idle is leav
   given = st.given;
   moment = st.moment;
   working = λ q. none_at (working_at m) xid q (xid_eq xid q) refl idle ∙ left_look m s xid q bs is.branch (xid_eq xid q) refl st leaves;
-  lasting = λ q. sets.at q ∙ rw (cmp_is_eq xid q) (decided_look m s xid q bs is.branch d (xid_eq xid q) refl st leaves);
+  lasting = λ q. set_look m after xid (Some (lasts.Completed d)) idle sets q ∙ rw (cmp_is_eq xid q) (decided_look m s xid q bs is.branch d (xid_eq xid q) refl st leaves);
   times = left_times m ts s xid bs is.branch t st leaves timed (sym is.time);
   due = stayed_due m.due s.branches bs xid st.due (unworking_due m s xid (st.working xid) idle) (λ q. left_named xid q s.branches bs is.branch (xid_eq xid q) refl leaves);
-  known = let same = rw e at sets.number in omega (arith, same, leaves.known, st.known);
+  known = let less = rw is.phase at leaves.prepared in omega (arith, less, fewer, more, leaves.known, st.known, st.prepared, st.completed, h.known);
   prepared = let less = rw is.phase at leaves.prepared in omega (arith, less, fewer, st.prepared);
   completed = omega (arith, more, st.completed, h.known);
 }
@@ -129,7 +130,7 @@ forgotten_look m s xid q true e st none is =
 forgotten_look m s xid q false e st none is = st.lasting q ∙ sym (ap (λ (o : Option Direction). lasting_among (known_of s.branches q) o) (others_rest s xid q e))
 
 forget_by : (m : Branches) (after : BTreeMap Triple Lasting) (n : ℕ) (s : State) (xid : Triple) (d : Direction) (o : Option Kept) (l : Option Lasting) → IsSound s → BranchesStandFor m s
-    → lasting_at m xid ≡ l → l ≡ Some (lasts.Completed d) → Sets m.lasting xid None after → n ≡ m.completed - 1 → Seen s xid o l → BranchesStandFor (record m { lasting = after; completed = n }) (forgotten s xid)
+    → working_at m xid ≡ o → l ≡ Some (lasts.Completed d) → Sets m.lasting xid None after → n ≡ m.completed - 1 → Seen s xid o l → BranchesStandFor (record m { lasting = after; completed = n }) (forgotten s xid)
 forget_by m after n s xid d None None h st f e sets fewer (Nowhere none nor) = absurd (cc e)
 forget_by m after n s xid d (Some w) None h st f e sets fewer (There v is) = absurd (cc e)
 forget_by m after n s xid d (Some w) (Some l) h st f e sets fewer x = elim x [ ]
@@ -143,8 +144,8 @@ forget_by m after n s xid d None (Some l) h st f e sets fewer (Done direction no
       working = st.working;
       times = st.times;
       due = st.due;
-      lasting = λ q. sets.at q ∙ rw (cmp_is_eq xid q) (forgotten_look m s xid q (xid_eq xid q) refl st none is);
-      known = let less = rw f at sets.number in omega (arith, less, is.fewer, st.known);
+      lasting = λ q. set_look m after xid None f sets q ∙ rw (cmp_is_eq xid q) (forgotten_look m s xid q (xid_eq xid q) refl st none is);
+      known = omega (arith, fewer, is.fewer, st.known, st.completed);
       prepared = st.prepared;
       completed = omega (arith, fewer, is.fewer, st.completed);
     }

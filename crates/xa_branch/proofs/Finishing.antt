@@ -1,10 +1,10 @@
 -- Known branches that stand for a state, after a branch is committed or rolled back.
 use Rattle.std.proofs.Common.{◌≡◌, ℕ, ◌+◌, ◌-◌, ◌≤◌, ◌==◌, Bool, true, false, cond, Option, Some, None, List, refl, ap, sym, ◌∙◌, subst, arith}
 use Rattle.std.specs.Prelude.{is_some, option_map, option_and_then}
-use Rattle.std.specs.BTreeMap.{BTreeMap}
+use Rattle.std.specs.BTreeMap.{BTreeMap, get}
 use Rattle.std.specs.BTreeSet.{BTreeSet}
 use Rattle.std.specs.List.{list_any}
-use Rattle.xa_xid.specs.Triple.{Triple, xid_eq}
+use Rattle.xa_xid.specs.Triple.{Triple, xid_cmp, xid_eq}
 use Rattle.xa_xid.proofs.Same.{xid_same}
 use Rattle.xa_model.specs.State.{State, Branch, count, name_of, is_known_as, known_of, known_count, decided_of, timestamp_of, without, change}
 use Rattle.xa_model.specs.Logging.{is_in_doubt}
@@ -21,6 +21,7 @@ use Rattle.xa_branch.specs.declared.branches.Branches.{Branches}
 use Rattle.xa_branch.specs.declared.lasting.Lasting.{Lasting}
 use Rattle.xa_branch.specs.declared.lasting.Lasting.TheVariants as lasts
 use Rattle.xa_branch.specs.declared.working.Working.{Working as Kept}
+use Rattle.xa_branch.proofs.Rooms.{left_look as no_more, set_look}
 use Rattle.xa_branch.specs.Branches.{BranchesStandFor, working_at, working_in, lasting_at, lasting_among, timed_at, prepared_among}
 use Rattle.xa_branch.specs.Changes.{Sets, SetsTime}
 use Rattle.xa_branch.proofs.Beginning.{named as is_named}
@@ -106,17 +107,19 @@ left_named xid q bs after b false e leaves = ap (option_and_then due_in) (leaves
 
 -- A branch at work leaves
 
-working_left : (m : Branches) (after : BTreeMap Triple Kept) (ts : BTreeSet ℕ) (due : BTreeSet (ℕ × Triple)) (s : State) (xid : Triple) (bs : List Branch) (b : Branch) (w : Kept) → BranchesStandFor m s → Leaves xid s.branches bs b → working_at m xid ≡ Some w
-    → lasting_at m xid ≡ None → decided_of s.decided xid ≡ None → is_in_doubt b.phase ≡ false → Sets m.working xid None after → SetsTime m.times w.timestamp false ts → w.timestamp ≡ b.timestamp
-    → LosesDue m.due xid (due_of (work_of w)) due → BranchesStandFor (record m { working = after; times = ts; due = due }) (record s { branches = bs })
-working_left m after ts due s xid bs b w st leaves there nor none plain sets timed same loses = record {
+working_left : (m : Branches) (after : BTreeMap Triple Kept) (rooms : BTreeMap Triple Lasting) (ts : BTreeSet ℕ) (due : BTreeSet (ℕ × Triple)) (s : State) (xid : Triple) (bs : List Branch) (b : Branch) (w : Kept) → BranchesStandFor m s → Leaves xid s.branches bs b → working_at m xid ≡ Some w
+    → decided_of s.decided xid ≡ None → is_in_doubt b.phase ≡ false → Sets m.working xid None after → Sets m.lasting xid None rooms → SetsTime m.times w.timestamp false ts → w.timestamp ≡ b.timestamp
+    → LosesDue m.due xid (due_of (work_of w)) due → BranchesStandFor (record m { working = after; lasting = rooms; times = ts; due = due }) (record s { branches = bs })
+working_left m after rooms ts due s xid bs b w st leaves there none plain sets takes timed same loses = record {
   boot = st.boot;
   given = st.given;
   moment = st.moment;
   working = λ q. sets.at q ∙ rw (cmp_is_eq xid q) (left_look m s xid q bs b (xid_eq xid q) refl st leaves);
   times = left_times m ts s xid bs b w.timestamp st leaves timed same;
   due = lost_stands m.due due s.branches bs xid (due_of (work_of w)) st.due (working_due m s xid w (st.working xid) there) loses (λ q. left_named xid q s.branches bs b (xid_eq xid q) refl leaves);
-  lasting = λ q. none_at (lasting_at m) xid q (xid_eq xid q) refl nor ∙ left_lasting m s xid q bs b (xid_eq xid q) refl st leaves none;
+  lasting = λ q.
+      rw (sets.at q, takes.at q, cmp_is_eq xid q)
+      (no_more (working_at m q) (get xid_cmp m.lasting q) None (xid_eq xid q) ∙ left_lasting m s xid q bs b (xid_eq xid q) refl st leaves none);
   known = let fewer = rw there at sets.number in omega (arith, fewer, leaves.known, st.known);
   prepared = let same = rw plain at leaves.prepared in omega (arith, same, st.prepared);
   completed = st.completed;
@@ -133,8 +136,8 @@ prepared_left m after ts n t s xid bs b l st leaves nor there none prepared fewe
   working = λ q. none_at (working_at m) xid q (xid_eq xid q) refl nor ∙ left_look m s xid q bs b (xid_eq xid q) refl st leaves;
   times = left_times m ts s xid bs b t st leaves timed same;
   due = stayed_due m.due s.branches bs xid st.due (unworking_due m s xid (st.working xid) nor) (λ q. left_named xid q s.branches bs b (xid_eq xid q) refl leaves);
-  lasting = λ q. sets.at q ∙ rw (cmp_is_eq xid q) (left_lasting m s xid q bs b (xid_eq xid q) refl st leaves none);
-  known = let less = rw there at sets.number in omega (arith, less, leaves.known, st.known);
+  lasting = λ q. set_look m after xid None nor sets q ∙ rw (cmp_is_eq xid q) (left_lasting m s xid q bs b (xid_eq xid q) refl st leaves none);
+  known = let less = rw prepared at leaves.prepared in omega (arith, less, fewer, leaves.known, st.known, st.prepared);
   prepared = let less = rw prepared at leaves.prepared in omega (arith, less, st.prepared);
   completed = st.completed;
 }
@@ -169,13 +172,13 @@ stayed_stands m s xid bs l st finishes plain e = stayed_by m s xid bs l (working
 
 -- one that is at work leaves, or none is known
 
-pub finished_stands : (m : Branches) (after : BTreeMap Triple Kept) (ts : BTreeSet ℕ) (due : BTreeSet (ℕ × Triple)) (s : State) (xid : Triple) (bs : List Branch) (w : Kept) → IsSound s → BranchesStandFor m s → Finishes s xid bs
-    → working_at m xid ≡ Some w → lasting_at m xid ≡ None → Sets m.working xid None after → SetsTime m.times w.timestamp false ts
-    → LosesDue m.due xid (due_of (work_of w)) due → BranchesStandFor (record m { working = after; times = ts; due = due }) (record s { branches = bs })
-finished_stands m after ts due s xid bs w h st finishes e nor sets timed loses =
+pub finished_stands : (m : Branches) (after : BTreeMap Triple Kept) (rooms : BTreeMap Triple Lasting) (ts : BTreeSet ℕ) (due : BTreeSet (ℕ × Triple)) (s : State) (xid : Triple) (bs : List Branch) (w : Kept) → IsSound s → BranchesStandFor m s → Finishes s xid bs
+    → working_at m xid ≡ Some w → Sets m.working xid None after → Sets m.lasting xid None rooms → SetsTime m.times w.timestamp false ts
+    → LosesDue m.due xid (due_of (work_of w)) due → BranchesStandFor (record m { working = after; lasting = rooms; times = ts; due = due }) (record s { branches = bs })
+finished_stands m after rooms ts due s xid bs w h st finishes e sets takes timed loses =
     let is = works_at m s xid w st e in
     let same : w.timestamp ≡ is.branch.timestamp = ap (λ (k : Kept). k.timestamp) is.kept in
-    working_left m after ts due s xid bs is.branch w st (finishes.leaves is.branch is.found) e nor (undecided s xid is.branch h is.found) (rw is.phase refl) sets timed same loses
+    working_left m after rooms ts due s xid bs is.branch w st (finishes.leaves is.branch is.found) e (undecided s xid is.branch h is.found) (rw is.phase refl) sets takes timed same loses
 
 unknown_by : (s : State) (xid : Triple) (o : Option Kept) (l : Option Lasting) → o ≡ None → l ≡ None → Seen s xid o l → known_of s.branches xid ≡ None
 unknown_by s xid None None e f (Nowhere none nor) = none

@@ -1,7 +1,7 @@
 -- Known branches that stand for a state, after a session hangs up.
 use Rattle.std.proofs.Common.{◌≡◌, ℕ, ◌+◌, ◌≤◌, Bool, true, false, not, ◌&&◌, ◌||◌, cond, Option, Some, None, List, [], ◌∷◌, length, refl, ap, sym, ◌∙◌, arith}
 use Rattle.std.specs.Prelude.{find, filter, map, is_some, option_map, option_and_then}
-use Rattle.std.specs.BTreeMap.{BTreeMap, btree_map_len}
+use Rattle.std.specs.BTreeMap.{BTreeMap, get, btree_map_len}
 use Rattle.std.specs.BTreeSet.{BTreeSet, contains}
 use Rattle.std.specs.List.{list_any}
 use Rattle.xa_codes.specs.declared.codes.TheConstants.{XA_RBCOMMFAIL}
@@ -19,6 +19,7 @@ use Rattle.xa_branch.specs.declared.branches.Branches.{Branches}
 use Rattle.xa_branch.specs.declared.kind.Kind.TheVariants as kind
 use Rattle.xa_branch.specs.declared.working.Working.{Working as Kept}
 use Rattle.xa_branch.specs.Kinds.{kind_of, same_kind, is_as, held_as, own_kind}
+use Rattle.xa_branch.proofs.Rooms.{as_hidden}
 use Rattle.xa_branch.specs.Branches.{BranchesStandFor, kept_of, working_at, working_by, working_in, lasting_in}
 use Rattle.xa_branch.specs.Due.{due_of, due_phase, due_in, due_named, due_kept, is_then, LosesAllDue}
 use Rattle.xa_branch.specs.Changes.{LeavesAll, marked, less_one, left_behind}
@@ -258,6 +259,11 @@ time_by b false = refl
 behind_keeps : (held : List Association) (n : ℕ) → KeepsLasting (left_by_session held n)
 behind_keeps held n = record { name = (left_keeps held n).name; lasts = λ b. lasts_by b (is_worked_by held n b.phase); plain = λ b. plain_by b (is_worked_by held n b.phase); time = λ b. time_by b (is_worked_by held n b.phase) }
 
+still_some : (c : Bool) (f : Kept → Kept) (w : Option Kept) → is_some (cond c (option_map f w) w) ≡ is_some w
+still_some true f None = refl
+still_some true f (Some w) = refl
+still_some false f w = refl
+
 pub hung_up_stands : (m : Branches) (kept : BTreeMap Triple Kept) (due : BTreeSet (ℕ × Triple)) (s : State) (n : ℕ) (own : BTreeSet Triple) (active : Option Triple) → IsSound s
     → ((q : Triple) → contains xid_cmp own q ≡ list_any (owns n q) s.associations) → active ≡ active_of s.associations n → BranchesStandFor m s → LeavesAll m.working own active kept
     → LosesAllDue m.working m.due own due → BranchesStandFor (record m { working = kept; due = due }) (hang_up_by s n).after
@@ -273,8 +279,11 @@ hung_up_stands m kept due s n own active h owned_ active_ st all loses = record 
   known =
       let names : known_count (map (left_by_session s.associations n) s.branches) ≡ known_count s.branches =
       count_map (left_by_session s.associations n) (λ b. is_some (name_of b.phase)) (λ b. ap (λ (o : Option Triple). is_some o) ((left_keeps s.associations n).name b)) s.branches in
-      ap (λ (k : ℕ). k + btree_map_len m.lasting) all.number ∙ st.known ∙ ap (λ (k : ℕ). k + length s.decided) (sym names);
-  lasting = λ q. st.lasting q ∙ sym (lasting_map (left_by_session s.associations n) (behind_keeps s.associations n) q (decided_of s.decided q) s.branches);
+      ap (λ (k : ℕ). k + (m.prepared + m.completed)) all.number ∙ st.known ∙ ap (λ (k : ℕ). k + length s.decided) (sym names);
+  lasting = λ q.
+      as_hidden (working_at m q) (get xid_cmp kept q) (get xid_cmp m.lasting q)
+      (ap (λ (o : Option Kept). is_some o) (all.at q) ∙ still_some (contains xid_cmp own q) (left_behind (own_kind active q)) (working_at m q))
+      ∙ st.lasting q ∙ sym (lasting_map (left_by_session s.associations n) (behind_keeps s.associations n) q (decided_of s.decided q) s.branches);
   times = λ t. st.times t ∙ sym (timed_map (left_by_session s.associations n) (behind_keeps s.associations n) t s.branches);
   due = λ t q.
       loses t q

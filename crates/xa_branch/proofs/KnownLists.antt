@@ -34,6 +34,7 @@ use Rattle.xa_branch.specs.Told.{short, told_working, told_lasting, comes_first}
 use Rattle.xa_branch.proofs.Counting.{holders_by_kind, loose_is}
 use Rattle.xa_branch.proofs.Listing.{has, has_keys, has_fold, has_map, member_has, has_member, sorted_pairwise, some_or, keys_filtered}
 use Rattle.xa_branch.proofs.Looks.{IsWorking, Seen, Nowhere, There, Doubtful, Done, seen, seen_at, works_at, idle}
+use Rattle.xa_branch.proofs.NoRooms.{HasNoRooms}
 use Rattle.xa_branch.proofs.Merging.{merge, any_merge, all_merge, ordered_merge}
 use Rattle.xa_branch.proofs.Owners.{few}
 
@@ -203,14 +204,14 @@ lasting_told m s xid l h st e = lasting_seen s xid (working_at m xid) l h (seen_
 abbrev IsTold : State → KnownBranch → Type 0
 IsTold s b = told_of s b.xid ≡ Some b
 
-all_told_of : (m : Branches) (s : State) (after : Option Triple) → IsSound s → BranchesStandFor m s → IsOrdered xid_cmp m.working → IsOrdered xid_cmp m.lasting → AllByRecursion (IsTold s) (all_after after m)
-all_told_of m s after h st ow ol =
+all_told_of : (m : Branches) (s : State) (after : Option Triple) → IsSound s → BranchesStandFor m s → HasNoRooms m → IsOrdered xid_cmp m.working → IsOrdered xid_cmp m.lasting → AllByRecursion (IsTold s) (all_after after m)
+all_told_of m s after h st bare ow ol =
     all_merge (IsTold s) (map told_working (part after m.working)) (map told_lasting (part after m.lasting))
     (all_told (IsTold s) told_working (part after m.working)
     (all_imply (IsFound m.working.entries) (λ e. IsTold s (told_working e)) (λ e f. working_told m s e.0 e.1 h st f) (part after m.working)
     (filter_keeps (IsFound m.working.entries) (λ e. is_above after e.0) m.working.entries (each_found m.working.entries ow))))
     (all_told (IsTold s) told_lasting (part after m.lasting)
-    (all_imply (IsFound m.lasting.entries) (λ e. IsTold s (told_lasting e)) (λ e f. lasting_told m s e.0 e.1 h st f) (part after m.lasting)
+    (all_imply (IsFound m.lasting.entries) (λ e. IsTold s (told_lasting e)) (λ e f. lasting_told m s e.0 e.1 h st (sym (bare e.0) ∙ f)) (part after m.lasting)
     (filter_keeps (IsFound m.lasting.entries) (λ e. is_above after e.0) m.lasting.entries (each_found m.lasting.entries ol))))
 
 -- ---- the XIDs, in order
@@ -231,16 +232,16 @@ both_above : (a b c : Bool) → ((a && b) || (a && c)) ≡ (a && (b || c))
 both_above true b c = refl
 both_above false b c = refl
 
-same_has : (m : Branches) (s : State) (after : Option Triple) (q : Triple) → BranchesStandFor m s
+same_has : (m : Branches) (s : State) (after : Option Triple) (q : Triple) → BranchesStandFor m s → HasNoRooms m
     → has q (map (λ b. b.xid) (all_after after m)) ≡ has q (filter (is_above after) (in_order (known_names s)))
-same_has m s after q st =
+same_has m s after q st bare =
     let a = is_above after q in
     let kept : has q (map (λ (b : KnownBranch). b.xid) (all_after after m)) ≡ ((a && is_some (working_at m q)) || (a && is_some (lasting_at m q))) =
     has_xids q (all_after after m)
     ∙ (any_merge (λ b. xid_eq b.xid q) (map told_working (part after m.working)) (map told_lasting (part after m.lasting))
-    ∙ rw (names_told told_working (λ e. refl) q (part after m.working), names_told told_lasting (λ e. refl) q (part after m.lasting), has_part after q m.working, has_part after q m.lasting) refl) in
+    ∙ rw (names_told told_working (λ e. refl) q (part after m.working), names_told told_lasting (λ e. refl) q (part after m.lasting), has_part after q m.working, has_part after q m.lasting) (ap (λ (o : Option Lasting). (a && is_some (working_at m q)) || (a && is_some o)) (bare q))) in
     let stood : ((a && is_some (working_at m q)) || (a && is_some (lasting_at m q))) ≡ (a && (is_some (working_known s q) || is_some (lasting_known s q))) =
-    both_above a (is_some (working_at m q)) (is_some (lasting_at m q)) ∙ rw (st.working q, st.lasting q) refl in
+    both_above a (is_some (working_at m q)) (is_some (lasting_at m q)) ∙ rw (st.lasting q, st.working q) refl in
     let known : has q (filter (is_above after) (in_order (known_names s))) ≡ (a && (is_some (working_known s q) || is_some (lasting_known s q))) =
     has_above after q (in_order (known_names s)) ∙ ap (λ b. a && b) (has_fold q [] (known_names s) ∙ has_names s q) in
     kept ∙ (stood ∙ sym known)
@@ -284,16 +285,16 @@ apart_by m s x y true e st w l =
     let here : is_some (lasting_at m x) ≡ true = subst (λ (z : Triple). is_some (lasting_at m z) ≡ true) (sym (xid_same x y e)) l in
     absurd (never_both s x (working_at m x) (lasting_at m x) (seen_at m s x (working_at m x) (lasting_at m x) st refl refl) w here)
 
-same_names : (m : Branches) (s : State) (after : Option Triple) → BranchesStandFor m s → IsOrdered xid_cmp m.working → IsOrdered xid_cmp m.lasting
+same_names : (m : Branches) (s : State) (after : Option Triple) → BranchesStandFor m s → HasNoRooms m → IsOrdered xid_cmp m.working → IsOrdered xid_cmp m.lasting
     → map (λ b. b.xid) (all_after after m) ≡ filter (is_above after) (in_order (known_names s))
-same_names m s after st ow ol =
+same_names m s after st bare ow ol =
     let xs = map (λ (b : KnownBranch). b.xid) (all_after after m) in
     let ys = filter (is_above after) (in_order (known_names s)) in
     let ordered : Pairwise below xs = ordered_xids (all_after after m) (ordered_merge (map told_working (part after m.working)) (map told_lasting (part after m.lasting))
     (ordered_part told_working (λ e. refl) after m.working ow) (ordered_part told_lasting (λ e. refl) after m.lasting ol)
-    (λ x y i j. apart_by m s x.xid y.xid (xid_eq x.xid y.xid) refl st (member_found told_working (λ e. refl) after m.working x i) (member_found told_lasting (λ e. refl) after m.lasting y j))) in
+    (λ x y i j. apart_by m s x.xid y.xid (xid_eq x.xid y.xid) refl st (member_found told_working (λ e. refl) after m.working x i) (sym (ap (λ (o : Option Lasting). is_some o) (bare y.xid)) ∙ member_found told_lasting (λ e. refl) after m.lasting y j))) in
     same_members below below_transitive below_strict xs ys ordered (filter_pairwise (is_above after) (in_order (known_names s)) (ordered_pairwise (known_names s)))
-    (λ z i. has_member z ys (sym (same_has m s after z st) ∙ member_has z xs i)) (λ z i. has_member z xs (same_has m s after z st ∙ member_has z ys i))
+    (λ z i. has_member z ys (sym (same_has m s after z st bare) ∙ member_has z xs i)) (λ z i. has_member z xs (same_has m s after z st bare ∙ member_has z ys i))
 
 -- ---- the whole
 
@@ -306,8 +307,8 @@ all_taken P zero xs h = tt
 all_taken P (suc n) [] h = tt
 all_taken P (suc n) (x ∷ xs) h = (h.0, all_taken P n xs h.1)
 
-pub known_same : (m : Branches) (s : State) (after : Option Triple) (n : ℕ) → IsSound s → BranchesStandFor m s → IsOrdered xid_cmp m.working → IsOrdered xid_cmp m.lasting → take n (all_after after m) ≡ branches_after after n s
-known_same m s after n h st ow ol =
+pub known_same : (m : Branches) (s : State) (after : Option Triple) (n : ℕ) → IsSound s → BranchesStandFor m s → HasNoRooms m → IsOrdered xid_cmp m.working → IsOrdered xid_cmp m.lasting → take n (all_after after m) ≡ branches_after after n s
+known_same m s after n h st bare ow ol =
     let bs = all_after after m in
-    sym (told_again s (take n bs) (all_taken (IsTold s) n bs (all_told_of m s after h st ow ol)))
-    ∙ ap (filter_map (told_of s)) (sym (take-map (λ (b : KnownBranch). b.xid) n bs) ∙ ap (take n) (same_names m s after st ow ol))
+    sym (told_again s (take n bs) (all_taken (IsTold s) n bs (all_told_of m s after h st bare ow ol)))
+    ∙ ap (filter_map (told_of s)) (sym (take-map (λ (b : KnownBranch). b.xid) n bs) ∙ ap (take n) (same_names m s after st bare ow ol))

@@ -27,3 +27,4 @@ pub mod Oldest
 pub mod Returning
 pub mod RunningOut
 pub mod Picked
+pub mod NoRooms

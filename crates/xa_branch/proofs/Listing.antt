@@ -2,7 +2,7 @@
 use Rattle.std.proofs.Common.{◌≡◌, ◌⊎◌, inl, inr, ℕ, zero, suc, ◌+◌, ◌<◌, ◌≤◌, length, Bool, true, false, ◌||◌, cond, Option, Some, None, List, [], ◌∷◌, ◌++◌, refl, ap, sym, ◌∙◌, subst, arith}
 use Rattle.std.proofs.lemmas.List.{length-take}
 use Rattle.std.specs.Prelude.{filter, find, fold, is_some, map, take}
-use Rattle.std.specs.BTreeMap.{BTreeMap, IsOrdered, keys, is_at}
+use Rattle.std.specs.BTreeMap.{BTreeMap, IsOrdered, get, keys, is_at}
 use Rattle.std.specs.BTreeSet.{insert_key}
 use Rattle.std.specs.Cmp.{both_ways}
 use Rattle.std.specs.List.{list_any}
@@ -26,7 +26,7 @@ use Rattle.xa_model.proofs.Members.{Member, same_members}
 use Rattle.xa_model.proofs.Xids.{cmp_is_eq}
 use Rattle.xa_branch.specs.declared.branches.Branches.{Branches}
 use Rattle.xa_branch.specs.declared.lasting.Lasting.{Lasting}
-use Rattle.xa_branch.specs.Branches.{BranchesStandFor, lasting_known}
+use Rattle.xa_branch.specs.Branches.{BranchesStandFor, lasting_at, lasting_known}
 use Rattle.xa_branch.specs.Restored.{restored_by}
 use Rattle.xa_branch.proofs.Returning.{found_lasting}
 
@@ -120,23 +120,23 @@ either_restored (Some p) d = refl
 either_restored None (Some d) = refl
 either_restored None None = refl
 
-has_names : (s : State) (q : Triple) → IsSound s → has q (lasting_names (durable s)) ≡ is_some (lasting_known s q)
+pub has_names : (s : State) (q : Triple) → IsSound s → has q (lasting_names (durable s)) ≡ is_some (lasting_known s q)
 has_names s q h =
     let ps = (durable s).prepared in
     let ds = (durable s).decided in
     list_any-append (λ x. xid_eq x q) (map (λ p. p.xid) ps) (map (λ e. e.xid) ds)
     ∙ (rw (has_map (λ p. p.xid) q ps, has_map (λ e. e.xid) q ds) (sym (either_restored (find (λ p. xid_eq p.xid q) ps) (find (λ e. xid_eq e.xid q) ds))) ∙ ap (λ (o : Option Lasting). is_some o) (found_lasting s q h))
 
-same_has : (m : Branches) (s : State) (q : Triple) → IsSound s → BranchesStandFor m s → has q (keys m.lasting) ≡ has q (listed (durable s))
-same_has m s q h st =
-    has_keys q m.lasting.entries ∙ (ap (λ (o : Option Lasting). is_some o) (st.lasting q) ∙ (sym (has_names s q h) ∙ sym (has_fold q [] (lasting_names (durable s)))))
+same_has : (m : Branches) (s : State) (q : Triple) → IsSound s → BranchesStandFor m s → get xid_cmp m.lasting q ≡ lasting_at m q → has q (keys m.lasting) ≡ has q (listed (durable s))
+same_has m s q h st none =
+    has_keys q m.lasting.entries ∙ (ap (λ (o : Option Lasting). is_some o) (none ∙ st.lasting q) ∙ (sym (has_names s q h) ∙ sym (has_fold q [] (lasting_names (durable s)))))
 
-pub listed_same : (m : Branches) (s : State) → IsSound s → BranchesStandFor m s → IsOrdered xid_cmp m.lasting → keys m.lasting ≡ listed (durable s)
-listed_same m s h st ordered =
+pub listed_same : (m : Branches) (s : State) → IsSound s → BranchesStandFor m s → ((q : Triple) → get xid_cmp m.lasting q ≡ lasting_at m q) → IsOrdered xid_cmp m.lasting → keys m.lasting ≡ listed (durable s)
+listed_same m s h st none ordered =
     let kept = keys m.lasting in
     let lasting = listed (durable s) in
     same_members below below_transitive below_strict kept lasting (sorted_pairwise kept ordered) (ordered_pairwise (lasting_names (durable s)))
-    (λ z n. has_member z lasting (sym (same_has m s z h st) ∙ member_has z kept n)) (λ z n. has_member z kept (same_has m s z h st ∙ member_has z lasting n))
+    (λ z n. has_member z lasting (sym (same_has m s z h st (none z)) ∙ member_has z kept n)) (λ z n. has_member z kept (same_has m s z h st (none z) ∙ member_has z lasting n))
 
 -- the XIDs of a part of what is kept
 

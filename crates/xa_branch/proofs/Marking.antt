@@ -14,6 +14,7 @@ use Rattle.xa_model.proofs.Lists.{find_change_same, find_change_other}
 use Rattle.xa_model.proofs.Names.{called_apart}
 use Rattle.xa_branch.specs.declared.branches.Branches.{Branches}
 use Rattle.xa_branch.specs.declared.working.Working.{Working as Kept}
+use Rattle.xa_branch.proofs.Rooms.{mapped_look}
 use Rattle.xa_branch.specs.Branches.{BranchesStandFor, working_at, working_by, working_in, lasting_by}
 use Rattle.xa_branch.specs.Calls.{marked_with}
 use Rattle.xa_branch.specs.Changes.{Sets, marked}
@@ -112,8 +113,8 @@ marked_stands m after due s xid code st sets loses = record {
       let same : btree_map_len after ≡ btree_map_len m.working = same_number (marked code) (working_at m xid) (btree_map_len after) (btree_map_len m.working) sets.number in
       let names : known_count (change (is_known_as xid) (with_mark code) s.branches) ≡ known_count s.branches =
       count_same (is_known_as xid) (with_mark code) (λ b. is_some (name_of b.phase)) (λ b. ap (λ (o : Option Triple). is_some o) (marked_name code b.phase)) s.branches in
-      ap (λ (n : ℕ). n + btree_map_len m.lasting) same ∙ st.known ∙ ap (λ (n : ℕ). n + length s.decided) (sym names);
-  lasting = λ q. st.lasting q ∙ sym (lasting_change (is_known_as xid) (with_mark code) (marked_keeps code) q (decided_of s.decided q) s.branches);
+      ap (λ (n : ℕ). n + (m.prepared + m.completed)) same ∙ st.known ∙ ap (λ (n : ℕ). n + length s.decided) (sym names);
+  lasting = λ q. mapped_look (marked code) m after xid sets q ∙ st.lasting q ∙ sym (lasting_change (is_known_as xid) (with_mark code) (marked_keeps code) q (decided_of s.decided q) s.branches);
   times = λ t. st.times t ∙ sym (timed_change (is_known_as xid) (with_mark code) (marked_keeps code) t s.branches);
   due = lost_stands m.due due s.branches (change (is_known_as xid) (with_mark code) s.branches) xid (due_named s.branches xid) st.due refl loses (λ q. marked_named code xid q s.branches (xid_eq xid q) refl);
   prepared = st.prepared ∙ sym (prepared_change (is_known_as xid) (with_mark code) (marked_keeps code) s.branches);

@@ -22,7 +22,7 @@ use Rattle.xa_model.proofs.Xids.{cmp_is_eq}
 use Rattle.xa_branch.specs.declared.branches.Branches.{Branches}
 use Rattle.xa_branch.specs.declared.lasting.Lasting.{Lasting}
 use Rattle.xa_branch.specs.declared.lasting.Lasting.TheVariants as lasts
-use Rattle.xa_branch.specs.Branches.{BranchesStandFor}
+use Rattle.xa_branch.specs.Branches.{BranchesStandFor, lasting_at}
 use Rattle.xa_branch.specs.Checkpointed.{decided_as, TimesOf}
 use Rattle.xa_branch.specs.Restored.{restored_by}
 use Rattle.xa_branch.proofs.Listing.{flipped}
@@ -170,14 +170,14 @@ told s q h None e (Some d) f =
     let same : d.xid ≡ q = xid_same d.xid q (found_passes (λ d. xid_eq d.xid q) d (durable s).decided f) in
     ap (λ z. Some (one_of z d.direction)) (sym same)
 
-pub picked_all : (m : Branches) (s : State) (rest : List (Triple × Lasting)) (decided : BTreeMap Triple Direction) → IsSound s → BranchesStandFor m s → rest ≡ [] → IsPicked completed_part m.lasting.entries rest decided
+pub picked_all : (m : Branches) (s : State) (rest : List (Triple × Lasting)) (decided : BTreeMap Triple Direction) → IsSound s → BranchesStandFor m s → ((q : Triple) → get xid_cmp m.lasting q ≡ lasting_at m q) → rest ≡ [] → IsPicked completed_part m.lasting.entries rest decided
     → decided.entries ≡ map decided_as (durable s).decided
-picked_all m s rest decided h st none k =
+picked_all m s rest decided h st bare none k =
     sym (same_pairs decided.entries)
     ∙ ap (map decided_as)
     (same_decided (map (λ e. one_of e.0 e.1) decided.entries) (durable s).decided (picked_ascend decided.entries k.ordered) (names_ascend s.decided (distinct_names s h))
     (λ q. find_picked q decided.entries
-    ∙ (ap (option_map (one_of q)) (k.picked q ∙ (ap (λ (es : List (Triple × Lasting)). unless (at q es) (option_and_then completed_part (at q m.lasting.entries))) none ∙ ap (option_and_then completed_part) (st.lasting q ∙ sym (found_lasting s q h))))
+    ∙ (ap (option_map (one_of q)) (k.picked q ∙ (ap (λ (es : List (Triple × Lasting)). unless (at q es) (option_and_then completed_part (at q m.lasting.entries))) none ∙ ap (option_and_then completed_part) (bare q ∙ st.lasting q ∙ sym (found_lasting s q h))))
     ∙ told s q h (find (λ p. xid_eq p.xid q) (durable s).prepared) refl (find (λ d. xid_eq d.xid q) (durable s).decided) refl)))
 
 -- the timestamps of those that are in doubt
@@ -186,9 +186,9 @@ time_told (Some p) d = refl
 time_told None (Some d) = refl
 time_told None None = refl
 
-pub times_all : (m : Branches) (s : State) (rest : List (Triple × Lasting)) (prepared : BTreeMap Triple ℕ) → IsSound s → BranchesStandFor m s → rest ≡ [] → IsPicked prepared_part m.lasting.entries rest prepared → TimesOf (durable s).prepared prepared
-times_all m s rest prepared h st none k q =
+pub times_all : (m : Branches) (s : State) (rest : List (Triple × Lasting)) (prepared : BTreeMap Triple ℕ) → IsSound s → BranchesStandFor m s → ((q : Triple) → get xid_cmp m.lasting q ≡ lasting_at m q) → rest ≡ [] → IsPicked prepared_part m.lasting.entries rest prepared → TimesOf (durable s).prepared prepared
+times_all m s rest prepared h st bare none k q =
     k.picked q
     ∙ (ap (λ (es : List (Triple × Lasting)). unless (at q es) (option_and_then prepared_part (at q m.lasting.entries))) none
-    ∙ (ap (option_and_then prepared_part) (st.lasting q ∙ sym (found_lasting s q h))
+    ∙ (ap (option_and_then prepared_part) (bare q ∙ st.lasting q ∙ sym (found_lasting s q h))
     ∙ time_told (find (λ p. xid_eq p.xid q) (durable s).prepared) (find (λ d. xid_eq d.xid q) (durable s).decided)))

@@ -1,13 +1,13 @@
 -- Branches that are restored one by one, and the states that they stand for then.
 use Rattle.std.proofs.Common.{◌≡◌, ℕ, ◌+◌, ◌<◌, ◌≤◌, ◌^◌, ◌-◌, ◌==◌, Bool, true, false, cond, min, Option, Some, None, List, [], ◌∷◌, ◌++◌, length, refl, ap, sym, ◌∙◌, subst, arith}
 use Rattle.std.specs.Prelude.{find, option_map, option_and_then, is_some}
-use Rattle.std.specs.BTreeMap.{BTreeMap, btree_map_len}
+use Rattle.std.specs.BTreeMap.{BTreeMap, get, btree_map_len}
 use Rattle.std.specs.BTreeSet.{BTreeSet}
 use Rattle.std.specs.List.{AllByRecursion, list_any}
 use Rattle.std.specs.Option.{option_or}
 use Rattle.std.proofs.lemmas.List.{length-append}
 use Rattle.std.proofs.lemmas.List.Folds.{find-append}
-use Rattle.xa_xid.specs.Triple.{Triple, xid_eq}
+use Rattle.xa_xid.specs.Triple.{Triple, xid_cmp, xid_eq}
 use Rattle.xa_xid.proofs.Same.{xid_same, xid_eq_itself, xid_eq_same}
 use Rattle.xa_model.specs.State.{State, Branch, Phase, Working, Prepared, Committed, Decided, count, name_of, is_known_as, known_of, known_count, decided_of, is_working}
 use Rattle.xa_model.specs.Logging.{is_in_doubt}
@@ -23,6 +23,7 @@ use Rattle.xa_model.proofs.Xids.{cmp_is_eq}
 use Rattle.xa_branch.specs.declared.branches.Branches.{Branches}
 use Rattle.xa_branch.specs.declared.lasting.Lasting.{Lasting}
 use Rattle.xa_branch.specs.declared.lasting.Lasting.TheVariants as lasts
+use Rattle.xa_branch.proofs.Rooms.{plainly, set_look}
 use Rattle.xa_branch.specs.Branches.{working_in, lasting_at, lasting_in, lasting_by, lasting_among, lasting_known, prepared_among}
 use Rattle.xa_branch.specs.Changes.{Sets, SetsTime}
 use Rattle.xa_branch.specs.Restored.{HasRestored, RestoredStand, restored_by, restored_at}
@@ -69,12 +70,12 @@ prepared_more m lasting ts k n moment ps ds p a b h adds few more timed = record
   given = h.given;
   moment = h.moment;
   working = h.working;
-  lasting = λ q. adds.at q ∙ rw (cmp_is_eq p.xid q, found_last (λ x. x.xid) ps p q (xid_eq p.xid q) refl a) (prepared_look m n moment ps ds p q (xid_eq p.xid q) refl h);
+  lasting = λ q. set_look m lasting p.xid (Some (lasts.Prepared p.timestamp)) (rw h.working refl) adds q ∙ rw (cmp_is_eq p.xid q, found_last (λ x. x.xid) ps p q (xid_eq p.xid q) refl a) (prepared_look m n moment ps ds p q (xid_eq p.xid q) refl h);
   times = λ t.
       timed t ∙ ap (λ (q : Bool). cond (p.timestamp == t) true q) (h.times t) ∙ sym (held_last t ps p ∙ begun_time p.timestamp t (is_held_at t ps));
   due = h.due;
   number =
-      let none : lasting_at m p.xid ≡ None = not_there m n moment ps ds p.xid (xid_eq_itself p.xid) a b h in
+      let none : get xid_cmp m.lasting p.xid ≡ None = sym (plainly m p.xid (rw h.working refl)) ∙ not_there m n moment ps ds p.xid (xid_eq_itself p.xid) a b h in
       let counted = rw none at adds.number in
       omega (arith, counted, h.number, one_longer ps p);
   prepared = omega (arith, more, few, h.number, h.prepared, one_longer ps p);
@@ -94,11 +95,11 @@ completed_more m lasting k n moment ps ds d a b h adds few more = record {
   given = h.given;
   moment = h.moment;
   working = h.working;
-  lasting = λ q. adds.at q ∙ rw (cmp_is_eq d.xid q, found_last (λ x. x.xid) ds d q (xid_eq d.xid q) refl b) (completed_look m n moment ps ds d q (xid_eq d.xid q) refl a h);
+  lasting = λ q. set_look m lasting d.xid (Some (lasts.Completed d.direction)) (rw h.working refl) adds q ∙ rw (cmp_is_eq d.xid q, found_last (λ x. x.xid) ds d q (xid_eq d.xid q) refl b) (completed_look m n moment ps ds d q (xid_eq d.xid q) refl a h);
   times = h.times;
   due = h.due;
   number =
-      let none : lasting_at m d.xid ≡ None = not_there m n moment ps ds d.xid (xid_eq_itself d.xid) a b h in
+      let none : get xid_cmp m.lasting d.xid ≡ None = sym (plainly m d.xid (rw h.working refl)) ∙ not_there m n moment ps ds d.xid (xid_eq_itself d.xid) a b h in
       let counted = rw none at adds.number in
       omega (arith, counted, h.number, one_longer ds d);
   prepared = h.prepared;
@@ -137,7 +138,7 @@ inserted_length before x (y ∷ ys) = length_by before x y ys (before y x) (inse
     length_by before x y ys true e = omega (arith, e)
     length_by before x y ys false e = omega arith
 
-named_length : (ds : List Decided) → length (by_name ds) ≡ length ds
+pub named_length : (ds : List Decided) → length (by_name ds) ≡ length ds
 named_length [] = refl
 named_length (d ∷ ds) = omega (arith, inserted_length named_before d (by_name ds), named_length ds)
 

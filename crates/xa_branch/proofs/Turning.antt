@@ -11,6 +11,7 @@ use Rattle.xa_branch.specs.declared.kind.Kind.{Kind}
 use Rattle.xa_branch.specs.declared.kind.Kind.TheVariants as kind
 use Rattle.xa_branch.specs.declared.working.Working.{Working as Kept}
 use Rattle.xa_branch.specs.Kinds.{same_kind, held_as}
+use Rattle.xa_branch.proofs.Rooms.{mapped_look}
 use Rattle.xa_branch.specs.Branches.{BranchesStandFor, kept_of, working_at, working_by, working_in, kept_with}
 use Rattle.xa_branch.specs.Changes.{Sets, with_one, less_one}
 use Rattle.xa_branch.proofs.Counting.{Gains, Loses, gained_here, gained_other, lost_here, lost_other}
@@ -85,10 +86,10 @@ turned_stands m kept s xid after f st turns sets = record {
   given = st.given;
   moment = st.moment;
   working = λ q. sets.at q ∙ rw (cmp_is_eq xid q) (turned_look m s xid q after f (xid_eq xid q) refl st turns);
-  lasting = st.lasting;
+  lasting = λ q. mapped_look f m kept xid sets q ∙ st.lasting q;
   times = st.times;
   due = st.due;
-  known = ap (λ (k : ℕ). k + btree_map_len m.lasting) (same_number f (working_at m xid) (btree_map_len kept) (btree_map_len m.working) sets.number) ∙ st.known;
+  known = ap (λ (k : ℕ). k + (m.prepared + m.completed)) (same_number f (working_at m xid) (btree_map_len kept) (btree_map_len m.working) sets.number) ∙ st.known;
   prepared = st.prepared;
   completed = st.completed;
 }

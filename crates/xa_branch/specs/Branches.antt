@@ -27,17 +27,21 @@ moment_of m = m.moment
 abbrev pub working_at : Branches → Triple → Option Kept
 working_at m xid = get xid_cmp m.working xid
 
--- what is kept of the prepared or completed branch with this XID
+-- what is kept of the prepared or completed branch with this XID: of one at work nothing, though it may have its room there
+abbrev pub unless_working : Option Kept → Option Lasting → Option Lasting
+unless_working None lasting = lasting
+unless_working (Some w) lasting = None
+
 abbrev pub lasting_at : Branches → Triple → Option Lasting
-lasting_at m xid = get xid_cmp m.lasting xid
+lasting_at m xid = unless_working (working_at m xid) (get xid_cmp m.lasting xid)
 
 -- whether a branch at work or a prepared one is kept under this timestamp
 abbrev pub timed_at : Branches → ℕ → Bool
 timed_at m t = contains nat_cmp m.times t
 
--- how many branches are kept
+-- how many branches are kept, each once
 abbrev pub number_of : Branches → ℕ
-number_of m = btree_map_len m.working + btree_map_len m.lasting
+number_of m = btree_map_len m.working + (m.prepared + m.completed)
 
 -- a branch at work: its timestamp, what it has while it is at work, and how many active, suspended and loose associations
 abbrev pub kept_with : ℕ → Work → ℕ → ℕ → ℕ → Kept

@@ -5,6 +5,7 @@ ghost use Rattle.xa_limits.specs.declared.TheConstants.{MOST_GIVEN};
 ghost use Rattle.xa_branch.specs.Branches.{BranchesStandFor, working_at, lasting_at};
 ghost use Rattle.xa_branch.specs.Changes.{Keeps};
 ghost use Rattle.xa_branch.specs.Follows.{FollowsAlways, InEach, InSoundOf, Stays};
+ghost use Rattle.xa_branch.specs.Room.{rooms_of};
 
 use crate::branches::Branches;
 use crate::changes::{add, add_time, mark_working, take};
@@ -27,6 +28,7 @@ impl Branches {
         ensures ok { OnOk result (InSoundOf self.old (λ s n. limit_of s n ≡ limit
             → BranchesStandFor self.new (begun s n xid.now).after)) }
         ensures err { OnErr result (Stays self.old self.new) }
+        ensures rooms { rooms_of self.new ≡ rooms_of self.old }
     {
         if let Some(fault) = self.begin_fault(xid) {
             return Err(fault);
@@ -66,6 +68,7 @@ impl Branches {
     fn keep(&mut self, xid: &Xid, working: Working) -> Result<(), AllocError>
         ensures ok { OnOk result (Keeps self.old xid.now working self.new) }
         ensures err { OnErr result (working_at self.old xid.now ≡ None → Stays self.old self.new) }
+        ensures rooms { rooms_of self.new ≡ rooms_of self.old }
     {
         add_due(&mut self.due, xid, &working)?;
         match add(&mut self.working, xid.copied(), working) {
@@ -86,7 +89,8 @@ impl Branches {
 
     /// Marks a branch at work, unless it is marked: then it can only be rolled back. Of another XID nothing changes.
     pub fn mark(&mut self, xid: &Xid, code: Code)
-        ensures { FollowsAlways self.old (λ s. marked_with code s xid.now) self.new }
+        ensures marks { FollowsAlways self.old (λ s. marked_with code s xid.now) self.new }
+        ensures rooms { rooms_of self.new ≡ rooms_of self.old }
     {
         if let Some(working) = self.working_of(xid) {
             take_due(&mut self.due, xid, &working);

@@ -6,6 +6,7 @@ ghost use Rattle.xa_model.specs.Invariants.Sound.{IsSound};
 ghost use Rattle.xa_branch.specs.Branches.{BranchesStandFor, moment_of};
 ghost use Rattle.xa_branch.specs.Follows.{AreOwn, FollowsEach, InEachOf, InSoundOf};
 ghost use Rattle.xa_branch.specs.Kinds.{ended_kind, resumed_kind};
+ghost use Rattle.xa_branch.specs.Room.{rooms_of};
 
 use crate::branches::Branches;
 use crate::changes::{leave_all, set};
@@ -18,7 +19,8 @@ use xa_xid::Xid;
 impl Branches {
     /// A session joins the branch: one more active association.
     pub fn join(&mut self, xid: &Xid)
-        ensures { FollowsEach self.old (λ s n. (joined s n xid.now).after) self.new }
+        ensures joins { FollowsEach self.old (λ s n. (joined s n xid.now).after) self.new }
+        ensures rooms { rooms_of self.new ≡ rooms_of self.old }
     {
         if let Some(working) = self.working_of(xid) {
             set(&mut self.working, xid, working.with_one(Kind::Active));
@@ -28,8 +30,9 @@ impl Branches {
     /// A session resumes its work for the branch: an association of the kind `from`, the session's own suspended one or
     /// a loose one, becomes active.
     pub fn resume(&mut self, xid: &Xid, from: Kind)
-        ensures { InSoundOf self.old (λ s n. resumed_kind s.associations n xid.now ≡ Some from
+        ensures resumes { InSoundOf self.old (λ s n. resumed_kind s.associations n xid.now ≡ Some from
             → BranchesStandFor self.new (resumed s n xid.now).after) }
+        ensures rooms { rooms_of self.new ≡ rooms_of self.old }
     {
         if let Some(working) = self.working_of(xid) {
             set(
@@ -43,8 +46,9 @@ impl Branches {
     /// A session suspends its work for the branch: an active association is suspended, or becomes loose where it
     /// migrates.
     pub fn suspend(&mut self, xid: &Xid, migrates: bool)
-        ensures { InSoundOf self.old (λ s n. list_any (works_in n xid.now) s.associations ≡ true
+        ensures suspends { InSoundOf self.old (λ s n. list_any (works_in n xid.now) s.associations ≡ true
             → BranchesStandFor self.new (suspended s n migrates xid.now)) }
+        ensures rooms { rooms_of self.new ≡ rooms_of self.old }
     {
         if let Some(working) = self.working_of(xid) {
             let rests = if migrates {
@@ -70,6 +74,7 @@ impl Branches {
         ensures not_suspended { InEachOf self.old (λ s n. kind ≡ Kind.Active
             → list_any (works_in n xid.now) s.associations ≡ true
             → BranchesStandFor self.new (not_suspended s n xid.now)) }
+        ensures rooms { rooms_of self.new ≡ rooms_of self.old }
     {
         if let Some(working) = self.working_of(xid) {
             set(&mut self.working, xid, working.less_one(kind));

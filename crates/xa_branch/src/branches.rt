@@ -1,4 +1,5 @@
-ghost use Rattle.std.specs.Prelude.{◌≡◌, ◌+◌, MatchResult, None, Some, [], length};
+ghost use Rattle.std.specs.Prelude.{◌≡◌, ◌+◌, ◌-◌, ◌^◌, ◌≤◌, MatchResult, None, Some, [], false, length, min};
+ghost use Rattle.std.specs.BTreeMap.{btree_map_len};
 ghost use Rattle.xa_model.specs.State.{State as ModelState, known_as, known_in, loose_of};
 ghost use Rattle.xa_model.specs.{Associations.timestamp_in, Phases.is_associated, Logging.prepared_count};
 
@@ -61,9 +62,18 @@ impl Branches {
 
     /// How many branches are known.
     pub fn len(&self) -> usize
-        ensures value { result ≡ number_of self.now }
+        ensures value { result ≡ min (number_of self.now) (2 ^ 64 - 1) }
+        ensures state { InSound self.now (λ s. result ≡ known_in s) }
     {
-        self.working.len() + self.lasting.len()
+        let lasting = self.prepared.saturating_add(self.completed);
+        self.working.len().saturating_add(lasting)
+    }
+
+    /// Whether a branch at work may have its room: where as many are kept as last, none has.
+    pub(crate) fn has_rooms(&self) -> bool
+        ensures { result ≡ false → btree_map_len self.now.lasting ≤ self.now.prepared + self.now.completed }
+    {
+        self.lasting.len() > self.prepared.saturating_add(self.completed)
     }
 
     /// How many branches are prepared.
@@ -106,7 +116,12 @@ impl Branches {
     pub fn lasting_of(&self, xid: &Xid) -> Option<Lasting>
         ensures { result ≡ lasting_at self.now xid.now }
     {
-        self.lasting.get(xid).copied()
+        let kept = self.lasting.get(xid).copied()?;
+        // of a branch at work it is the room alone
+        match self.working_of(xid) {
+            Some(_) => None,
+            None => Some(kept),
+        }
     }
 
     /// The timestamp of the branch with this XID that is at work or prepared, or 0.

@@ -31,10 +31,13 @@ impl Branches {
     /// The timestamps of the branches in doubt, by XID.
     ///
     /// # Errors
-    /// Want of memory.
+    /// Want of memory, or a branch has its room.
     pub fn in_doubt(&self, alloc: Global) -> Result<BTreeMap<Xid, u64>, AllocError>
         ensures { InSound self.now (λ s. IfOk result (TimesOf (durable s).prepared)) }
     {
+        if self.has_rooms() {
+            return Err(AllocError);
+        }
         let mut times = BTreeMap::new(alloc);
         for (xid, lasting) in &self.lasting {
             if let Lasting::Prepared(timestamp) = lasting {
@@ -47,10 +50,13 @@ impl Branches {
     /// What the operator completed and isn't forgotten, by XID.
     ///
     /// # Errors
-    /// Want of memory.
+    /// Want of memory, or a branch has its room.
     pub fn decided(&self, alloc: Global) -> Result<BTreeMap<Xid, Direction>, AllocError>
         ensures { InSound self.now (λ s. IfOk result (λ m. m.entries ≡ map decided_as (durable s).decided)) }
     {
+        if self.has_rooms() {
+            return Err(AllocError);
+        }
         let mut decided = BTreeMap::new(alloc);
         for (xid, lasting) in &self.lasting {
             if let Lasting::Completed(direction) = lasting {

@@ -17,9 +17,13 @@ use xa_xid::Xid;
 /// How branches are prepared, completed, and forgotten.
 impl Branches {
     /// Makes room for what will be kept of a branch at work once it is prepared, so that `prepare` takes no memory and
-    /// can't fail. Several may have their rooms at once, of distinct XIDs (`HaveRooms`). For each, either that or
-    /// `give_back` has to follow. Whether the branch may be prepared is to be asked before (`unprepared_refusal`, and
-    /// its mark; `ready_to_prepare` tells both). Of another XID nothing changes, nor where there is no memory.
+    /// can't fail. Several may have their rooms at once, of distinct XIDs (`HaveRooms`), and sessions work on meanwhile:
+    /// no call but those of this file changes `rooms_of`. For each, either `prepare` or `give_back` has to follow. Whether
+    /// the branch may be prepared is to be asked before (`unprepared_refusal`, and its mark; `ready_to_prepare` tells
+    /// both).
+    ///
+    /// # Errors
+    /// Out of memory, or the branch isn't at work: then nothing changes.
     pub fn make_room(&mut self, xid: &Xid) -> Result<(), AllocError>
         ensures ok { OnOk result (InEach self.old (λ s. HasRoom xid.now self.new s)) }
         ensures beside { OnOk result (MakesRoom self.old xid.now self.new) }
@@ -27,7 +31,7 @@ impl Branches {
         ensures kept { OnErr result (KeepsRooms self.old self.new) }
     {
         let Some(working) = self.working_of(xid) else {
-            return Ok(());
+            return Err(AllocError);
         };
         add(
             &mut self.lasting,
@@ -46,6 +50,8 @@ impl Branches {
             Some(working) => {
                 take(&mut self.working, xid);
                 take_due(&mut self.due, xid, &working);
+                let prepared = Lasting::Prepared(working.timestamp);
+                set(&mut self.lasting, xid, prepared);
                 self.prepared = self.prepared.saturating_add(1);
             }
             None => {}
@@ -97,6 +103,7 @@ impl Branches {
             None => {
                 if let Some(working) = self.working_of(xid) {
                     take(&mut self.working, xid);
+                    take(&mut self.lasting, xid);
                     take_time(&mut self.times, working.timestamp);
                     take_due(&mut self.due, xid, &working);
                 }

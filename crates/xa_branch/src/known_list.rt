@@ -104,6 +104,9 @@ fn take_first(one: &mut Option<KnownBranch>, other: &mut Option<KnownBranch>) ->
 impl Branches {
     /// The first `count` of the known branches above the given XID, or of all, ascending. Others are not gone over.
     /// Memory is taken once, for no more than `count`.
+    ///
+    /// # Errors
+    /// Want of memory, or a branch has its room.
     pub fn known_after(
         &self,
         alloc: Global,
@@ -114,6 +117,9 @@ impl Branches {
         ensures known { InSound self.now (λ s.
             IfOk result (λ v. v.items ≡ branches_after (option_copied after.entry) count s)) }
     {
+        if self.has_rooms() {
+            return Err(AllocError);
+        }
         let mut known = Vec::with_capacity(alloc, count.min(self.len()))?;
         let mut working = self.working.range((above(after), Bound::Unbounded));
         let mut lasting = self.lasting.range((above(after), Bound::Unbounded));

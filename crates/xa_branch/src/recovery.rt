@@ -25,6 +25,9 @@ pub(crate) fn above(after: Option<&Xid>) -> Bound<&Xid>
 impl Branches {
     /// The first `count` of the XIDs above the given one, or of all, whose branches are prepared or were completed by
     /// the operator, ascending. Others are not gone over. Memory is taken once, for no more XIDs than `count`.
+    ///
+    /// # Errors
+    /// Want of memory, or a branch has its room.
     pub fn list_after(
         &self,
         alloc: Global,
@@ -35,6 +38,9 @@ impl Branches {
         ensures listed { InSound self.now (λ s.
             IfOk result (λ v. v.items ≡ list_after (option_copied after.entry) count (durable s))) }
     {
+        if self.has_rooms() {
+            return Err(AllocError);
+        }
         let mut listed = Vec::with_capacity(alloc, count.min(self.lasting.len()))?;
         for (xid, _) in self
             .lasting

@@ -1,5 +1,10 @@
 -- What a command did, with some reader or disk: no clause says that it is the one that the runtime gave.
-use Rattle.std.specs.Prelude.{◌≡◌, ◌⊎◌, ℕ, List, Option, Result, Ok, Err}
+use Rattle.std.specs.Prelude.{◌≡◌, ◌⊎◌, ◌++◌, ℕ, Bool, true, false, List, Option, Result, Ok, Err, codes}
+use Rattle.xa_check.specs.Checks.{Checks}
+use Rattle.xa_check.specs.declared.fault.CheckFault.{CheckFault}
+use Rattle.xa_check.specs.declared.fault.CheckFault.TheVariants as check
+use Rattle.xa_commands.specs.declared.checking_fault.CheckingFault.{CheckingFault}
+use Rattle.xa_commands.specs.declared.checking_fault.CheckingFault.TheVariants as checking
 use Rattle.xa_commands.specs.declared.scanning_fault.ScanningFault.{ScanningFault}
 use Rattle.xa_commands.specs.declared.scanning_fault.ScanningFault.TheVariants.{InUse, File, Scan}
 use Rattle.xa_disk.specs.declared.file_fault.FileFault.{FileFault}
@@ -50,3 +55,33 @@ abbrev pub HasTicked : {C X : Type 0} → (T : Type 0) → (C → Option (List �
     → Type 0
 HasTicked T sent left end =
     (ticker : T) × (ticker' : T) × Ticked {T = T} (λ _ _ _. Unit {0}) (λ _ _ _. Unit {0}) sent left end ticker ticker'
+
+-- the status of a check: 0 where a server opens the two files, 1 where it doesn't, 2 where that couldn't be told
+abbrev pub checked_status : {E : Type 0} → Result Bool E → ℕ
+checked_status (Ok true) = 0
+checked_status (Ok false) = 1
+checked_status (Err e) = 2
+
+abbrev pub second_path : List ℕ → List ℕ
+second_path path = path ++ codes ".2"
+
+-- the disks that were opened at a path, and at the path with `.2` behind it, were checked, with this end
+abbrev pub HasChecked : {D : Type 0} → Type 0 → (D → List ℕ) → (D → List ℕ → Type 0) → List ℕ → ℕ
+    → Result Bool CheckFault → Type 0
+HasChecked {D} honest seen opened path log_bytes end =
+    (first : D) × (second : D) × opened first path × opened second (second_path path)
+    × ((output : Option (List ℕ)) × (output' : Option (List ℕ))
+    × Checks honest end path log_bytes (seen first) (seen second) output output')
+
+-- The same by what is told: they were checked, or there was no memory, or one was refused for the reason that is told.
+abbrev pub Checked : {D : Type 0} → Type 0 → (D → List ℕ) → (D → List ℕ → Type 0) → (List ℕ → FileFault → Type 0)
+    → List ℕ → ℕ → Result Bool CheckingFault → Type 0
+Checked honest seen opened refused path log_bytes (Ok whole) = HasChecked honest seen opened path log_bytes (Ok whole)
+Checked honest seen opened refused path log_bytes (Err (checking.Check fault)) =
+    (fault ≡ check.Memory) ⊎ HasChecked honest seen opened path log_bytes (Err fault)
+Checked honest seen opened refused path log_bytes (Err checking.InUse) =
+    refused path file.InUse ⊎ refused (second_path path) file.InUse
+Checked honest seen opened refused path log_bytes (Err (checking.File told fault)) =
+    (told.now ≡ path) × refused path fault
+Checked honest seen opened refused path log_bytes (Err (checking.SecondFile told fault)) =
+    (told.now ≡ path) × refused (second_path path) fault

@@ -1,6 +1,7 @@
 ghost use Rattle.std.specs.IoError.{error_kind};
 ghost use Rattle.std.specs.Prelude.{◌≡◌, ◌≢◌, IfOk, OnErr, OnOk, false, true};
 ghost use Rattle.std.specs.Process.{exit_status};
+ghost use Rattle.xa_commands.specs.Done.{checked_status};
 
 use std::fmt::Display;
 use std::io::{self, ErrorKind};
@@ -34,6 +35,20 @@ pub fn served<R: Eprint, F: Display>(rt: &R, end: &Result<bool, F>) -> ExitCode
             let _ = eprintln!(rt; "xarm: {fault}");
             ExitCode::from(1)
         }
+    }
+}
+
+/// The status of a check of two files, and its line on standard error where it is a fault: 0 where a server opens what they
+/// have, 1 where it doesn't, 2 where that couldn't be told.
+pub fn checked<R: Eprint, F: Display>(rt: &R, end: &Result<bool, F>) -> ExitCode
+    ensures { exit_status result ≡ checked_status end.now }
+{
+    if let Err(fault) = end {
+        let _ = eprintln!(rt; "xarm: {fault}");
+    }
+    match end {
+        Ok(is_whole) => ExitCode::from(if *is_whole { 0 } else { 1 }),
+        Err(_) => ExitCode::from(2),
     }
 }
 

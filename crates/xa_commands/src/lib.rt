@@ -2,13 +2,21 @@
 //!
 //! - `playing`: `play`, a script from standard input is played
 //! - `scanning`: `scan`, the records of a log are printed; `scanning_fault`: `ScanningFault`, why they aren't
+//! - `checking`: `check`, it is told what a log's two files are; `checking_fault`: `CheckingFault`, why it isn't
+//! - `accepting`: `accept_damage`, what stands of a damaged log is made ready to be opened; `accepting_fault`:
+//!   `AcceptingFault`, why it isn't; `keeping`: copies of its files
 //! - `talking`: `talk`, a script goes to a server; `server`: `Server`, one on 127.0.0.1 or at a path; `stream`: `Stream`, a
 //!   connection to it
 //! - `ticking`: `tick`, a server is told what the clock says; `Watch`, the clock and standard error
-//! - `ending`: `ended`, `served` and `words_fault`, the status of an end, and its line on standard error
+//! - `ending`: `ended`, `served`, `checked` and `words_fault`, the status of an end, and its line on standard error
 #![tactic(auto)]
 
+mod accepting;
+mod accepting_fault;
+mod checking;
+mod checking_fault;
 mod ending;
+mod keeping;
 mod playing;
 mod scanning;
 mod scanning_fault;
@@ -17,7 +25,11 @@ mod stream;
 mod talking;
 mod ticking;
 
-pub use ending::{ended, served, words_fault};
+pub use accepting::accept_damage;
+pub use accepting_fault::AcceptingFault;
+pub use checking::check;
+pub use checking_fault::CheckingFault;
+pub use ending::{checked, ended, served, words_fault};
 pub use playing::play;
 pub use scanning::scan;
 pub use scanning_fault::ScanningFault;

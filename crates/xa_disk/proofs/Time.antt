@@ -2,12 +2,12 @@
 use Rattle.std.proofs.Common.{◌≡◌, inl, inr, ℕ, ◌+◌, Bool, true, false, List, [], ◌∷◌, ◌++◌, length, refl, sym, ◌∙◌, ap, subst, arith, length-append, OnOk, Result, Ok, Err, MatchBool, IsTrue}
 use Rattle.std.proofs.lemmas.List.{take_all, take-append-le}
 use Rattle.std.proofs.lemmas.Bool.{cases_lt}
-use Rattle.xa_disk.specs.Disk.{Torn, Same, Only, Passes}
+use Rattle.xa_disk.specs.Disk.{Torn, Cut, Same, Only, Passes}
 use Rattle.xa_disk.specs.declared.call.Call.{Call}
 use Rattle.xa_disk.specs.declared.call.Call.TheVariants.{Write, Sync}
 use Rattle.xa_disk.specs.MemDiskView.{MemDiskView}
 use Rattle.xa_disk.specs.Replay.{Now, after, replay, replay_more, at_first, IsImage, LeftSince}
-use Rattle.xa_disk.specs.Images.{seen_may_stay, torn_same}
+use Rattle.xa_disk.specs.Images.{cut_same, seen_may_stay, torn_same}
 use Rattle.xa_disk.specs.Memory.{Keeps, Wrote, Synced}
 
 abbrev Elapsed : (List ℕ → List ℕ → Type 0) → List ℕ → List Call → List ℕ → List Call → Type 0
@@ -69,6 +69,10 @@ time_sync a b d e true s w k =
 time_sync a b d e false s w k =
     to _ a.first e.first a.calls a.calls e.calls (k.first ∙ w.first ∙ s.first) (k.calls ∙ w.calls ∙ s.calls)
     (none Same (λ c. refl) a.first a.calls)
+
+-- no cut is made
+pub time_uncut : (to : ℕ) (a : MemDiskView) → Between (Cut to) a a
+time_uncut to a = none (Cut to) (cut_same to) a.first a.calls
 
 -- after a sync nothing but what a read gives
 pub durable : (a b d e : MemDiskView) → Keeps a b → Synced b d → Keeps d e → Only a.bytes (IsImage (replay e.first e.calls))

@@ -1,11 +1,11 @@
 -- Laws of the images that a crash of a disk in memory may leave, for the members of its trait, and of torn writes. All
 -- of them are proved here.
-use Rattle.std.specs.Prelude.{◌≡◌, ◌≤◌, ℕ, List, [], ◌∷◌, length, refl}
+use Rattle.std.specs.Prelude.{◌≡◌, ◌+◌, ◌≤◌, ℕ, List, [], ◌∷◌, length, refl}
 use Rattle.std.proofs.Common.{arith, sym, subst}
 use Rattle.std.proofs.lemmas.List.{take_all, places}
 use Rattle.std.proofs.Common.{rules}
 use Rattle.std.proofs.Common.{inl, inr}
-use Rattle.xa_disk.specs.Disk.{put, Torn, AllOrNone}
+use Rattle.xa_disk.specs.Disk.{put, Torn, Cut, AllOrNone}
 use Rattle.xa_disk.specs.declared.call.Call.{Call}
 use Rattle.xa_disk.specs.declared.call.Call.TheVariants.{Write, Sync}
 use Rattle.xa_disk.specs.Replay.{Now, after, replay_from, at_first, replay, Reaches, IsImage, LeftSince}
@@ -57,6 +57,10 @@ pub all_or_none_torn : (old : List ℕ) (at : ℕ) (bytes new : List ℕ)
 all_or_none_torn old at bytes new (inl is) = torn_by_nothing old at bytes new is
 all_or_none_torn old at bytes new (inr is) =
     subst (λ c. Torn at (length bytes) old c) (sym is) (put_torn old at bytes)
+
+-- what a cut may leave: all as it was
+pub cut_same : (to : ℕ) (c : List ℕ) → Cut to c c
+cut_same to c = (to + length c, omega arith, sym (take_all (to + length c) c (omega arith)))
 
 reaches_stable : (stable : List ℕ) (pending : List (ℕ × ℕ)) → Reaches stable pending stable
 reaches_stable stable [] = refl

@@ -8,6 +8,8 @@ pub data RawCall : Type 0 where
   Gets : (at count : ℕ) → RawCall
   -- these bytes are written at an offset
   Puts : (at : ℕ) (bytes : List ℕ) → RawCall
+  -- it is cut to so many bytes
+  Cuts : (to : ℕ) → RawCall
   -- what was written is made to last
   Syncs : RawCall
   -- the answer is taken of a sync by a handle of the file, made behind the last write

@@ -1,7 +1,7 @@
-ghost use Rattle.std.specs.Prelude.{◌≡◌, ◌≤◌, List, ℕ, length, IfOk, IsErr, OnOk, OnErr};
+ghost use Rattle.std.specs.Prelude.{◌≡◌, ◌≤◌, List, ℕ, length, IfOk, IsErr, OnOk, OnErr, true, take, if◌then◌else◌};
 ghost use Rattle.xa_disk.specs.Counts.{with_length, with_read, with_write, with_sync};
 ghost use Rattle.xa_disk.specs.declared.counts.Counts.{Counts};
-ghost use Rattle.xa_disk.specs.Disk.{put, Torn, Same, Only, Passes, CountsFault, Reads};
+ghost use Rattle.xa_disk.specs.Disk.{put, Torn, Cut, Same, Only, Passes, CountsFault, Reads};
 ghost use Rattle.xa_disk.specs.Syncs.{HasFailed};
 ghost use Rattle.xa_disk.specs.declared.syncer.Syncer.{Syncer};
 
@@ -47,6 +47,9 @@ pub trait Disk {
     /// How many calls were made, failed or not. Each call adds itself, and nothing else does.
     ghost counts: { Self → Counts };
 
+    /// Each disk of this type cuts its file where that is asked of it.
+    ghost shortens: { Type 0 };
+
     /// How many bytes a read can give.
     fn length(&mut self) -> Result<u64, DiskFault>
         ensures value { honest → IfOk result (λ n. n ≡ length (seen self.old)) }
@@ -85,6 +88,16 @@ pub trait Disk {
             (left_since self.old) (left_since self.new) (may_leave self.old) (may_leave self.new) }
         ensures calls { counts self.new ≡ with_sync (counts self.old) }
         ensures count { CountsFault result (failures self.old) (failures self.new) };
+
+    /// May cut what a read gives to so many bytes, or leave it as it is: whether it did. Until a sync, a crash may leave
+    /// either, or a length between. It is no device call, and no failure where it isn't done.
+    fn shorten(&mut self, to: u64) -> bool
+        ensures cut { honest → seen self.new ≡ (if result then take to (seen self.old) else seen self.old) }
+        ensures time { honest → Passes (Cut to) (moment self.old) (moment self.new)
+            (left_since self.old) (left_since self.new) (may_leave self.old) (may_leave self.new) }
+        ensures asked { shortens → result ≡ true }
+        ensures calls { counts self.new ≡ counts self.old }
+        ensures count { failures self.new ≡ failures self.old };
 
     /// What makes the sync of this disk that is due.
     ghost its_syncer: { Self → Syncer → Type 0 };

@@ -4,10 +4,10 @@
 //! read and length fails, and is none. So the disk keeps what the trait says where its file does. No contract can say what
 //! the system does: of `HostFile`, whose calls are the system's, that is a premise of whoever rests on it. The code above a
 //! `Disk` is generic, so it is the same code that is proved over each honest disk.
-ghost use Rattle.std.specs.Prelude.{◌≡◌, ◌≢◌, ◌≤◌, ◌∷◌, true, false, None, if◌then◌else◌, length, IfOk, OnOk, OnErr, IsErr, MatchResult};
+ghost use Rattle.std.specs.Prelude.{◌≡◌, ◌≢◌, ◌≤◌, ◌∷◌, true, false, None, if◌then◌else◌, length, take, IfOk, OnOk, OnErr, IsErr, MatchResult};
 ghost use Rattle.xa_disk.specs.Counts.{no_calls, with_length, with_read, with_write, with_sync};
-ghost use Rattle.xa_disk.specs.Disk.{put, Torn, Same, Only, Passes, CountsFault, Reads};
-ghost use Rattle.xa_disk.specs.RawCall.{Measures, Gets, Puts, Syncs, Takes};
+ghost use Rattle.xa_disk.specs.Disk.{put, Torn, Cut, Same, Only, Passes, CountsFault, Reads};
+ghost use Rattle.xa_disk.specs.RawCall.{Measures, Gets, Puts, Cuts, Syncs, Takes};
 ghost use Rattle.xa_disk.specs.Syncs.{HasFailed, IsDue, IsDueSync, IsSyncerOf};
 
 use crate::opening::{locked, shared};
@@ -179,6 +179,8 @@ impl<F: RawFile> Disk for FileDisk<F> {
 
     ghost tears_torn = { F.tears_torn };
 
+    ghost shortens = { F.shortens };
+
     ghost failures = { λ d. d.tally.failures };
 
     ghost counts = { λ d. d.tally.counts };
@@ -280,6 +282,21 @@ impl<F: RawFile> Disk for FileDisk<F> {
         ensures first { self.old.tally.error ≢ None → self.new.tally.error ≡ self.old.tally.error }
     {
         self.take_sync(SyncAnswer::none())
+    }
+
+    // The system may keep the file as it is, as one that can't be cut: that is told nobody, since it costs room alone.
+    fn shorten(&mut self, to: u64) -> bool
+        ensures cut { F.honest
+            → F.seen self.new.file ≡ (if result then take to (F.seen self.old.file) else F.seen self.old.file) }
+        ensures time { F.honest → Passes (Cut to) (F.moment self.old.file) (F.moment self.new.file)
+            (F.left_since self.old.file) (F.left_since self.new.file)
+            (F.may_leave self.old.file) (F.may_leave self.new.file) }
+        ensures asked { F.shortens → result ≡ true }
+        ensures called { F.recorded → F.calls self.new.file ≡ Cuts to ∷ F.calls self.old.file }
+        ensures tally { self.new.tally ≡ self.old.tally }
+        ensures unsynced { self.new.unsynced ≡ self.old.unsynced }
+    {
+        self.file.shorten(to)
     }
 
     fn syncer(&self) -> Syncer {

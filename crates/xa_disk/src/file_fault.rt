@@ -14,6 +14,9 @@ pub enum FileFault {
     /// It is a folder, a device, a pipe or a socket.
     #[error("no regular file")]
     Irregular,
+    /// It isn't there, and the other one of its log has records: so it was removed, and none is made in its place.
+    #[error("missing")]
+    Absent,
     #[error("no memory")]
     Memory,
 }

@@ -65,6 +65,8 @@ impl RawFile for HostFile {
 
     ghost recorded = { ⊥ };
 
+    ghost shortens = { ⊥ };
+
     ghost calls = { λ _. [] };
 
     ghost file = { λ f. f.id };
@@ -98,6 +100,15 @@ impl RawFile for HostFile {
     fn write_at(&mut self, at: u64, from: &[u8]) -> io::Result<()> {
         self.writes = self.writes.saturating_add(1);
         self.file.write_all_at(from, at)
+    }
+
+    // Only where it is longer: the system's call would make it as long otherwise.
+    fn shorten(&mut self, to: u64) -> bool {
+        self.writes = self.writes.saturating_add(1);
+        match self.file.metadata() {
+            Ok(found) if to < found.len() => self.file.set_len(to).is_ok(),
+            _ => false,
+        }
     }
 
     // The bytes, and what of the file's description is needed to read them, its length included.

@@ -1,7 +1,7 @@
 //! A disk in memory that keeps a record of its writes and syncs.
 ghost use Rattle.std.specs.Prelude.{◌≡◌, ◌⊎◌, ◌+◌, ◌≤◌, ◌<◌, ◌≢◌, ◌↔◌, ℕ, [], ⊤, false};
 ghost use Rattle.std.specs.Prelude.{length, Some, None, OnOk, OnErr, IfOk, IsErr, MatchBool, MatchResult, IsTrue, is_ok};
-ghost use Rattle.xa_disk.specs.Disk.{put, Torn, Same, Only, AllOrNone, CountsFault, Reads};
+ghost use Rattle.xa_disk.specs.Disk.{put, Torn, Cut, Same, Only, AllOrNone, CountsFault, Reads};
 ghost use Rattle.xa_disk.specs.Replay.{first_of, replay, IsImage, LeftSince};
 ghost use Rattle.xa_disk.specs.Images.{counts_now, only_now, stays_of, all_or_none_torn};
 
@@ -242,6 +242,8 @@ impl Disk for MemDisk {
 
     ghost tears_torn = { all_or_none_torn };
 
+    ghost shortens = { ⊥ };
+
     ghost failures = { λ d. d.failures };
 
     ghost counts = { λ d. d.counts };
@@ -316,6 +318,15 @@ impl Disk for MemDisk {
         let plan = self.begin(self.counts.with_sync());
         let done = self.try_sync(plan);
         self.end(plan, done)
+    }
+
+    // It has no room to give back.
+    fn shorten(&mut self, to: u64) -> bool
+        ensures same { self.new ≡ self.old }
+        ensures never { result ≡ false }
+        ensures time { PassesTime (Cut to) self.old self.new }
+    {
+        false
     }
 
     fn syncer(&self) -> Syncer {

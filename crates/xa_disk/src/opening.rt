@@ -2,10 +2,13 @@
 use crate::{FileCall, FileFault};
 use std::fs::{self, File, OpenOptions, TryLockError};
 use std::io;
-use std::io::ErrorKind;
+use std::io::{ErrorKind, Read};
 use std::os::fd::AsRawFd;
 use std::os::unix::fs::OpenOptionsExt;
 use std::path::Path;
+
+// With what the file of a log begins, by its format.
+const LOG_NAMES: [&[u8; 8]; 2] = [b"XARMLOG1", b"XARMLOG2"];
 
 // What a call answered, or that it failed.
 fn called<T: Drop>(call: FileCall, answer: io::Result<T>) -> Result<T, FileFault> {
@@ -101,4 +104,27 @@ pub(crate) fn shared(rt: &HostRuntime, path: &str) -> Result<File, FileFault> {
     }
     settle(&file)?;
     Ok(file)
+}
+
+// Whether nothing is at a path, not even a link.
+pub(crate) fn is_absent(rt: &HostRuntime, path: &str) -> bool {
+    match fs::symlink_metadata(rt, path) {
+        Ok(_) => false,
+        Err(error) => error.kind() == ErrorKind::NotFound,
+    }
+}
+
+// Whether the file at a path begins as a log's do.
+pub(crate) fn is_log(rt: &HostRuntime, path: &str) -> bool {
+    match fs::metadata(rt, path) {
+        Ok(found) if found.is_file() => {}
+        _ => return false,
+    }
+    let mut name = [0; 8];
+    match File::open(rt, path) {
+        Ok(mut file) => {
+            file.read_exact(&mut name).is_ok() && LOG_NAMES.iter().any(|it| **it == name)
+        }
+        Err(_) => false,
+    }
 }

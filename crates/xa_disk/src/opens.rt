@@ -1,6 +1,7 @@
 use crate::disk::Disk;
 use crate::file::FileDisk;
 use crate::file_fault::FileFault;
+use crate::opening::{is_absent, is_log};
 
 /// What opens the files of a log as disks.
 pub trait Opens {
@@ -15,8 +16,10 @@ pub trait Opens {
     /// It was asked for the file at a path, by the path's bytes, and refused it for this reason.
     ghost refused: { List ℕ → FileFault → Type 0 };
 
-    /// The file at a path, made if it isn't there. No other disk may have it.
-    fn open_disk(&self, path: &str) -> Result<Self::Disk, FileFault>
+    /// The file at a path, one of a log's two, of which the other one is at the path `beside`. It is made if it isn't there,
+    /// unless the other one is a log: both are made before the first byte is written, so it was removed. No other disk may have
+    /// it.
+    fn open_disk(&self, path: &str, beside: &str) -> Result<Self::Disk, FileFault>
         ensures opened { IfOk result (λ disk. opened disk path.now) }
         ensures refused { IfErr result (refused path.now) };
 
@@ -36,7 +39,10 @@ impl Opens for HostRuntime {
 
     ghost refused = { λ _ _. Unit {0} };
 
-    fn open_disk(&self, path: &str) -> Result<FileDisk, FileFault> {
+    fn open_disk(&self, path: &str, beside: &str) -> Result<FileDisk, FileFault> {
+        if is_absent(self, path) && is_log(self, beside) {
+            return Err(FileFault::Absent);
+        }
         FileDisk::open(self, path)
     }
 

@@ -12,10 +12,10 @@ use std::io;
 /// what was there before or what was written, each byte its own, and a sync that succeeds says nothing of it. So of a file
 /// of which a sync has failed no clause says what is read, nor what a sync has made last.
 pub trait RawFile {
-    ghost use Rattle.std.specs.Prelude.{◌≡◌, ◌≤◌, ◌∷◌, Bool, true, List, ℕ, length, IfOk, IfSome, OnOk, OnErr};
+    ghost use Rattle.std.specs.Prelude.{◌≡◌, ◌≤◌, ◌∷◌, Bool, true, List, ℕ, length, IfOk, IfSome, OnOk, OnErr, take, if◌then◌else◌};
     ghost use Rattle.xa_disk.specs.Counts.{plus};
-    ghost use Rattle.xa_disk.specs.Disk.{put, Torn, Same, Only, Passes, Reads};
-    ghost use Rattle.xa_disk.specs.RawCall.{RawCall, Measures, Gets, Puts, Syncs, Takes};
+    ghost use Rattle.xa_disk.specs.Disk.{put, Torn, Cut, Same, Only, Passes, Reads};
+    ghost use Rattle.xa_disk.specs.RawCall.{RawCall, Measures, Gets, Puts, Cuts, Syncs, Takes};
     ghost use Rattle.xa_disk.specs.Syncs.{IsDue};
     ghost use Rattle.xa_disk.specs.declared.file_id.FileId.{FileId};
 
@@ -49,7 +49,10 @@ pub trait RawFile {
     /// Which file it is.
     ghost file: { Self → FileId };
 
-    /// How many writes were asked for, failed or not; at 2^64 - 1 it stays.
+    /// Each file of this type is cut where that is asked of it.
+    ghost shortens: { Type 0 };
+
+    /// How many writes and cuts were asked for, done or not; at 2^64 - 1 it stays.
     ghost written: { Self → ℕ };
 
     fn id(&self) -> FileId
@@ -87,6 +90,17 @@ pub trait RawFile {
         ensures time { honest → Passes (Torn at (length from.now)) (moment self.old) (moment self.new)
             (left_since self.old) (left_since self.new) (may_leave self.old) (may_leave self.new) }
         ensures called { recorded → calls self.new ≡ Puts at from.now ∷ calls self.old }
+        ensures whole { is_whole self.old ≡ true → is_whole self.new ≡ true }
+        ensures file { (file self.new ≡ file self.old) × (written self.new ≡ plus (written self.old) 1) };
+
+    /// Cuts the file to so many bytes, or leaves it as it is, as where it has no more: whether it was cut. Until a sync, a
+    /// crash may leave either, or a length between.
+    fn shorten(&mut self, to: u64) -> bool
+        ensures cut { honest → seen self.new ≡ (if result then take to (seen self.old) else seen self.old) }
+        ensures time { honest → Passes (Cut to) (moment self.old) (moment self.new)
+            (left_since self.old) (left_since self.new) (may_leave self.old) (may_leave self.new) }
+        ensures asked { shortens → result ≡ true }
+        ensures called { recorded → calls self.new ≡ Cuts to ∷ calls self.old }
         ensures whole { is_whole self.old ≡ true → is_whole self.new ≡ true }
         ensures file { (file self.new ≡ file self.old) × (written self.new ≡ plus (written self.old) 1) };
 

@@ -235,34 +235,21 @@ impl<M: GroupCommits, S: Start, B: Book> Locked<M, S, B> {
         false
     }
 
-    /// Answers the calls of the pending group, by their sync's answer. The letters are back in their trays: of a call that
-    /// wasn't answered nothing has been done.
-    ///
-    /// # Errors
-    /// Out of memory: gives the answer back, and the group is still pending. So it does where no group is pending, which
-    /// never is while somebody has an answer.
-    pub(crate) fn finish_mail(
-        &mut self,
-        tokens: &Tokens<B>,
-        answer: SyncAnswer,
-    ) -> Result<(), SyncAnswer>
-        ensures told { OnOk result (TellsMail self.old self.new) }
-        ensures still { OnErr result (LeavesMail self.old self.new × (self.new.history ≡ self.old.history)) }
+    /// Answers the calls of the pending group, by their sync's answer. The letters are back in their trays, which have room
+    /// for them: of a call that wasn't answered nothing has been done. Takes no memory.
+    pub(crate) fn finish_mail(&mut self, tokens: &Tokens<B>, answer: SyncAnswer)
+        requires { M.pending self.old.at.now ≢ None }
+        ensures { TellsMail self.old self.new }
     {
-        if self.sequencer.is_settled() {
-            return Err(answer);
-        }
-        self.finish_group(tokens, answer)?;
+        self.finish_group(tokens, answer);
         self.hand_out();
-        Ok(())
     }
 
     // Answers the calls of the pending group, each by its letter.
-    fn finish_group(&mut self, tokens: &Tokens<B>, answer: SyncAnswer) -> Result<(), SyncAnswer>
+    fn finish_group(&mut self, tokens: &Tokens<B>, answer: SyncAnswer)
         requires { M.pending self.old.at.now ≢ None }
-        ensures settled { OnOk result (M.pending self.new.at.now ≡ None) }
-        ensures told { OnOk result (TellsMail self.old self.new) }
-        ensures still { OnErr result (LeavesMail self.old self.new × (self.new.history ≡ self.old.history)) }
+        ensures settled { M.pending self.new.at.now ≡ None }
+        ensures told { TellsMail self.old self.new }
     {
         let Locked {
             sequencer,
@@ -272,10 +259,9 @@ impl<M: GroupCommits, S: Start, B: Book> Locked<M, S, B> {
             ..
         } = self;
         sequencer.promises();
-        let (replies, back) = sequencer.finish_group(answer)?;
+        let (replies, back) = sequencer.finish_group(answer);
         answer_all(tokens, keeper, letters, &back, replies);
         *calls = back;
-        Ok(())
     }
 
     // Puts the letters into their trays, as long as there is memory.

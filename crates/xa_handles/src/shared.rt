@@ -1,4 +1,4 @@
-ghost use Rattle.std.specs.Prelude.{◌≡◌, ◌-◌, ◌<◌, [], None};
+ghost use Rattle.std.specs.Prelude.{◌≡◌, ◌≢◌, ◌-◌, ◌<◌, [], None};
 ghost use Rattle.xa_handles.specs.Shared.{IsWhole};
 ghost use Rattle.xa_sequencer.specs.Stands.{Stands};
 ghost use Rattle.xa_tokens.specs.Account.{Owes, account, merged};
@@ -143,8 +143,23 @@ impl<M: GroupCommits, S: Start, B: Book> SharedSequencer<M, S, B> {
         unreachable!()
     }
 
+    // Takes the lock for several calls when a group is pending, as one is until its sync's answer is taken.
+    fn hold_pending<R: Wait>(&self, rt: &R) -> Held<'_, M, S, B>
+        ensures { M.pending result.at.now ≢ None }
+    {
+        for _ in rt.forever() {
+            let held = self.hold(rt);
+            if !held.locked.is_settled() {
+                return held;
+            }
+            drop(held);
+            yield_now();
+        }
+        unreachable!()
+    }
+
     /// Makes the sync of the pending group, for which the lock that was taken is let go, and finishes the group. Gives the
-    /// lock, taken again. Where there is no memory for the answers it waits until there is.
+    /// lock, taken again.
     pub(crate) fn sync<'a, R: Wait>(
         &'a self,
         rt: &R,
@@ -153,23 +168,12 @@ impl<M: GroupCommits, S: Start, B: Book> SharedSequencer<M, S, B> {
     ) -> Held<'a, M, S, B> {
         self.syncing.store(1, Ordering::SeqCst);
         drop(held);
-        let mut answer = syncer.sync();
-        let mut tries = 0u32;
-        for _ in rt.forever() {
-            let mut held = self.hold(rt);
-            match held.locked.finish_mail(&self.tokens, answer) {
-                Ok(()) => {
-                    self.syncing.store(0, Ordering::SeqCst);
-                    self.answered.notify_all();
-                    return held;
-                }
-                Err(given) => answer = given,
-            }
-            drop(held);
-            self.rest(rt, tries);
-            tries = tries.saturating_add(1);
-        }
-        unreachable!()
+        let answer = syncer.sync();
+        let mut held = self.hold_pending(rt);
+        held.locked.finish_mail(&self.tokens, answer);
+        self.syncing.store(0, Ordering::SeqCst);
+        self.answered.notify_all();
+        held
     }
 
     /// The sequencer. Its history is what the share of all parts was told, each entry once, since that owes nothing.

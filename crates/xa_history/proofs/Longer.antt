@@ -13,12 +13,12 @@ use Rattle.xa_model.specs.State.{State}
 use Rattle.xa_model.specs.Answer.{Answer}
 use Rattle.xa_model.specs.Turn.{Asked}
 use Rattle.xa_model.specs.Step.{step}
-use Rattle.xa_model.specs.Events.{HaveHappened, IsEvent, begins_boot}
+use Rattle.xa_model.specs.Events.{HaveHappened, IsEvent, is_restart}
 use Rattle.xa_model.specs.declared.outcome.Appending.{Appending}
 use Rattle.xa_model.specs.History.{Leads, HasGroups, JoinAfter, append_in, joins}
 use Rattle.xa_history.specs.declared.entry.Entry.{Entry}
 use Rattle.xa_history.specs.declared.manages.Manages.{Ghosts}
-use Rattle.xa_history.specs.Book.{AreNumbered, HasNoBoot, entry_of, plain_entries, unplaced}
+use Rattle.xa_history.specs.Book.{AreNumbered, HasNoRestart, entry_of, plain_entries, unplaced}
 use Rattle.xa_history.specs.Manages.{Acts, Counts, StepsTo}
 use Rattle.xa_history.specs.Upholds.{Upholds}
 
@@ -61,12 +61,12 @@ after_snoc before (x ∷ es) e other h = (h.0, after_snoc (append_in x.outcome) 
 groups_snoc : (es : List Entry) (e : Entry) → joins e.outcome ≡ false → HasGroups (plain_entries es) → HasGroups (plain_entries (es ++ e ∷ []))
 groups_snoc es e other h = after_snoc None es e other h
 
-before_last : (es : List Entry) (e : Entry) → HasNoBoot (es ++ e ∷ []) → HasNoBoot es × (begins_boot e.event ≡ false)
+before_last : (es : List Entry) (e : Entry) → HasNoRestart (es ++ e ∷ []) → HasNoRestart es × (is_restart e.event ≡ false)
 before_last [] e h = (tt, h.0)
 before_last (x ∷ es) e h = let rest = before_last es e h.1 in ((h.0, rest.0), rest.1)
 
-premises : (trusts : Type 0) (es : List Entry) (e : Entry) → trusts ⊎ HasNoBoot (es ++ e ∷ [])
-    → (trusts ⊎ HasNoBoot es) × (trusts ⊎ (begins_boot e.event ≡ false))
+premises : (trusts : Type 0) (es : List Entry) (e : Entry) → trusts ⊎ HasNoRestart (es ++ e ∷ [])
+    → (trusts ⊎ HasNoRestart es) × (trusts ⊎ (is_restart e.event ≡ false))
 premises trusts es e (inl t) = (inl t, inl t)
 premises trusts es e (inr h) = let parts = before_last es e h in (inr parts.0, inr parts.1)
 

@@ -3,7 +3,7 @@ use Rattle.std.specs.Prelude.{ℕ, ◌≡◌, ◌+◌, false, List, [], ◌∷�
 use Rattle.xa_frame.specs.declared.reply.Reply.{Reply}
 use Rattle.xa_model.specs.declared.event.Event.{Event}
 use Rattle.xa_model.specs.declared.outcome.Outcome.{Outcome}
-use Rattle.xa_model.specs.Events.{begins_boot}
+use Rattle.xa_model.specs.Events.{is_restart}
 use Rattle.xa_model.specs.Turn.{Asked}
 use Rattle.xa_model.specs.History as history
 use Rattle.xa_history.specs.declared.entry.Entry.{Entry}
@@ -34,7 +34,7 @@ abbrev pub AreNumbered : ℕ → List Entry → Type 0
 AreNumbered k [] = Unit {0}
 AreNumbered k (e ∷ es) = (e.place ≡ k + 1) × (e.reply.place ≡ k + 1) × AreNumbered (k + 1) es
 
--- nobody asked for a restart or for a trim
-abbrev pub HasNoBoot : List Entry → Type 0
-HasNoBoot [] = Unit {0}
-HasNoBoot (e ∷ es) = (begins_boot e.event ≡ false) × HasNoBoot es
+-- nobody asked for a restart
+abbrev pub HasNoRestart : List Entry → Type 0
+HasNoRestart [] = Unit {0}
+HasNoRestart (e ∷ es) = (is_restart e.event ≡ false) × HasNoRestart es

@@ -7,7 +7,7 @@ use Rattle.xa_model.specs.declared.outcome.Outcome.{Outcome}
 use Rattle.xa_model.specs.State.{State}
 use Rattle.xa_model.specs.Turn.{Asked}
 use Rattle.xa_model.specs.Step.{step}
-use Rattle.xa_model.specs.Events.{begins_boot}
+use Rattle.xa_model.specs.Events.{is_restart}
 use Rattle.xa_model.specs.History.{joins}
 use Rattle.xa_manager.specs.Answered.{IsPinned}
 use Rattle.xa_manager.specs.Counted.{RiseBy, failures_in}
@@ -20,21 +20,21 @@ Stays stands old new = (s : State) → stands old s → stands new s
 -- restart finds is said under the premises on devices.
 abbrev pub StepsTo : {M : Type 0} → (M → State → Type 0) → Type 0 → M → Event → Outcome → Reply → M → Type 0
 StepsTo stands trusts old event outcome reply new =
-    (s : State) → stands old s → trusts ⊎ (begins_boot event ≡ false)
+    (s : State) → stands old s → trusts ⊎ (is_restart event ≡ false)
     → IsSomeAnd (step s (Asked event) outcome) (λ a. (a.reply ≡ reply) × stands new a.after)
 
 -- An event that found its memory tells of no more failures than were counted. Its record joins no other's, whose entry
 -- would tell of its failure.
 abbrev pub Counts : {M : Type 0} → (M → State → Type 0) → Type 0 → (M → ℕ × ℕ) → M → Event → Outcome → M → Type 0
 Counts stands trusts failures old event outcome new =
-    (s : State) → stands old s → trusts ⊎ (begins_boot event ≡ false)
+    (s : State) → stands old s → trusts ⊎ (is_restart event ≡ false)
     → (joins outcome ≡ false) × RiseBy (failures_in outcome) (failures old) (failures new)
 
 -- what the device did of the outcome, said of events that found their memory under the same premises
 abbrev pub Calls : {M : Type 0} → (M → State → Type 0) → Type 0 → (Event → Outcome → M → M → Type 0) → M → Event → Outcome → M
     → Type 0
 Calls stands trusts has_called old event outcome new =
-    (s : State) → stands old s → trusts ⊎ (begins_boot event ≡ false) → has_called event outcome old new
+    (s : State) → stands old s → trusts ⊎ (is_restart event ≡ false) → has_called event outcome old new
 
 -- what an event does
 pub record Acts {M : Type 0} (stands : M → State → Type 0) (trusts : Type 0) (told : M → Outcome)

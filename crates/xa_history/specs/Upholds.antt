@@ -6,20 +6,20 @@ use Rattle.xa_model.specs.History.{Leads, HasGroups}
 use Rattle.xa_manager.specs.Counted.{RiseBy, failures_of}
 use Rattle.xa_history.specs.declared.entry.Entry.{Entry}
 use Rattle.xa_history.specs.declared.manages.Manages.{Ghosts}
-use Rattle.xa_history.specs.Book.{AreNumbered, HasNoBoot, plain_entries}
+use Rattle.xa_history.specs.Book.{AreNumbered, HasNoRestart, plain_entries}
 
 -- From each starting state the book is a legal history, and the manager stands for its last state. Where somebody asked
 -- for a restart it is so under the premises on devices.
 abbrev pub IsLegal : {M : Type 0} → Ghosts M → (State → Type 0) → M → List Entry → Type 0
 IsLegal m start now entries =
-    (s : State) → start s → m.trusts ⊎ HasNoBoot entries
+    (s : State) → start s → m.trusts ⊎ HasNoRestart entries
     → (t : State) × Leads s (plain_entries entries) t × m.stands now t
 
 -- Under the same premises, the book tells of no more failures than were counted since it was begun, and each record in
 -- it that joined became what the one before it became.
 abbrev pub IsCounted : {M : Type 0} → Ghosts M → (State → Type 0) → ℕ × ℕ → M → List Entry → Type 0
 IsCounted m start base now entries =
-    (s : State) → start s → m.trusts ⊎ HasNoBoot entries
+    (s : State) → start s → m.trusts ⊎ HasNoRestart entries
     → HasGroups (plain_entries entries) × RiseBy (failures_of (plain_entries entries)) base (m.failures now)
 
 -- a book that began at these states, with these failures counted

@@ -15,7 +15,7 @@ pub trait Manages {
     /// The states that it stands for.
     ghost stands: { Self → State → Type 0 };
 
-    /// The premises on its devices, of which restarts and trims alone speak.
+    /// The premises on its devices, of which restarts alone speak.
     ghost trusts: { Type 0 };
 
     /// What the device did in the last event that found its memory.

@@ -16,7 +16,8 @@ use Rattle.xa_log.specs.declared.found.Found.{Found}
 use Rattle.xa_log.specs.declared.heads.Head.{Head}
 use Rattle.xa_log.specs.Chain.{magic, start, format_of, format_in, is_record, body_at, rest_at, digest_at, bodies_from, logged, records, Rests}
 use Rattle.xa_log.specs.declared.reading.Scan.{Scan}
-use Rattle.xa_log.specs.Damage.{breaks_off, is_cut, is_damaged, is_headless}
+use Rattle.xa_log.specs.Damage.{breaks_behind, breaks_off, is_cut, is_damaged, is_headless}
+use Rattle.xa_log.specs.LeftOut.{stops_short}
 use Rattle.xa_log.specs.Reading.{is_newer, fault_unless, front_fault, fault_of, Explains, Finds, IsScan, bodies_of}
 use Rattle.xa_log.specs.Pair.{number_in, generation, is_nil, beats, has_log, on_first, current_of, is_broken, pair_fault}
 use Rattle.xa_log.specs.Looking.{AreShort, either_log, Tells, IsHead, IsCurrent}
@@ -148,14 +149,14 @@ module _ (a window b other_window : List ℕ) where
 
 -- ---- why two files have no log
 
-none_cut : (format : Format) (file : List ℕ) → is_cut format [] file ≡ false
-unfolding is_cut
-none_cut One file = refl
-none_cut Two file = refl
+none_broken : (format : Format) (file : List ℕ) → breaks_behind format [] file ≡ false
+unfolding is_cut stops_short
+none_broken One file = refl
+none_broken Two file = refl
 
 -- a file that was read, and shows no first record that doesn't chain, is damaged where what was read of it is cut
 pub scan_damaged : (file : List ℕ) (scan : Scan) → IsScan file scan → is_headless file ≡ false → scan.broken ≡ is_damaged file
-unfolding is_damaged breaks_off is_cut
+unfolding is_damaged breaks_off
 scan_damaged file scan it headed = by (bodies_of scan.bodies.items) it.rests it.broken
   where
     named : (bodies : List (List ℕ)) → Rests scan.format bodies file → take 8 file ≡ magic scan.format
@@ -169,8 +170,8 @@ scan_damaged file scan it headed = by (bodies_of scan.bodies.items) it.rests it.
     own : (bodies : List (List ℕ)) → Rests scan.format bodies file → format_in file ≡ scan.format
     own bodies r = ap format_in r.split ∙ format_text scan.format bodies r.rest
 
-    by : (bodies : List (List ℕ)) → Rests scan.format bodies file → scan.broken ≡ is_cut scan.format bodies file → scan.broken ≡ is_damaged file
-    by [] r is = is ∙ none_cut scan.format file ∙ sym (none_damaged file (log [] r) headed (rests_logged scan.format [] file r))
+    by : (bodies : List (List ℕ)) → Rests scan.format bodies file → scan.broken ≡ breaks_behind scan.format bodies file → scan.broken ≡ is_damaged file
+    by [] r is = is ∙ none_broken scan.format file ∙ sym (none_damaged file (log [] r) headed (rests_logged scan.format [] file r))
     by (b ∷ bodies) r is = is ∙ (λ i. breaks_off (sym (own (b ∷ bodies) r) i) (sym (rests_logged scan.format (b ∷ bodies) file r) i) file)
 
 -- what is told of two files of which one is a log

@@ -1,11 +1,11 @@
 -- The first record of a checkpoint, where it is shown but doesn't chain.
-use Rattle.std.proofs.Common.{◌≡◌, ℕ, ◌+◌, ◌-◌, ◌≤◌, ◌<◌, min, Bool, true, false, not, ◌&&◌, List, length, take, drop, refl, sym, ◌∙◌, ap, subst, arith, nat_le, nat_lt, Some, None, Option, length-drop}
+use Rattle.std.proofs.Common.{◌≡◌, ℕ, ◌+◌, ◌-◌, ◌≤◌, ◌<◌, min, Bool, true, false, not, ◌&&◌, List, length, take, drop, refl, sym, ◌∙◌, ap, arith, nat_le, nat_lt, Some, None, Option, length-drop}
 use Rattle.std.specs.Prelude.{is_some, is_none}
 use Rattle.std.proofs.lemmas.Bool.{and_left, and_right}
 use Rattle.std.proofs.lemmas.Bool.Decides.{nat_tests}
 use Rattle.std.proofs.lemmas.List.{drop-take, take-take, take_all, length-take}
-use Rattle.xa_log.specs.Chain.{start, format_of, format_in, is_record, begins, size_at}
-use Rattle.xa_log.specs.Damage.{is_appended, lost_first, is_headless}
+use Rattle.xa_log.specs.Chain.{start, format_of, format_in, is_record, begins}
+use Rattle.xa_log.specs.Damage.{lost_first, is_headless}
 use Rattle.xa_log.specs.Generation.{number_in}
 use Rattle.xa_log.specs.Reading.{Finds}
 use Rattle.xa_log.specs.Window.{Caches}

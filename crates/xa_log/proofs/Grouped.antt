@@ -2,13 +2,13 @@
 use Rattle.std.proofs.Common.{◌≡◌, ◌≢◌, ◌⊎◌, inl, inr, ⊎_elim, ℕ, zero, suc, ◌+◌, ◌≤◌, Bool, true, false, cond, List, [], ◌∷◌, ◌++◌, length, take, drop, replicate, refl, sym, ◌∙◌, ap, subst, arith, append_assoc, length-append, nat_eq}
 use Rattle.std.specs.List.{AllByRecursion}
 use Rattle.std.proofs.lemmas.Bool.{cases_Bool}
-use Rattle.std.proofs.lemmas.List.{append-nil, take_at, take-append-drop, length-replicate}
+use Rattle.std.proofs.lemmas.List.{append-nil, drop_at, take_at, take-append-drop, length-replicate}
 use Rattle.xa_disk.specs.Disk.{put, Torn, Only}
 use Rattle.xa_disk.specs.Time.{TimePasses, LeavesOnly}
 use Rattle.xa_disk.specs.declared.disk.Disk.{Ghosts}
 use Rattle.xa_disk.specs.Images.{torn_same, put_torn}
 use Rattle.xa_log.specs.Answers.{Wrote, PutAheadBecame, FailedPut, FailedPutAhead}
-use Rattle.xa_log.specs.Chain.{start, last, text, closing, IsBody, digest, record_of, records, is_record, digest_at, rest_at, Rests}
+use Rattle.xa_log.specs.Chain.{start, last, text, closing, IsBody, behind_text, digest, record_of, records, is_record, digest_at, rest_at, size_at, Rests}
 use Rattle.xa_log.specs.Damage.{breaks_off, AreAppended}
 use Rattle.xa_log.specs.Group.{group_bytes, as_one, first_of_group, closed, closed_by, HasFirstPart, IsFirstPart, IsPlain}
 use Rattle.xa_log.specs.Pair.{number_in, generation, beats}
@@ -23,7 +23,7 @@ use Rattle.xa_log.proofs.Records.{length-record_of, text_more, sizes_more, close
 use Rattle.xa_log.proofs.Torn.{torn_then, put_within}
 use Rattle.xa_log.proofs.Tried.{torn_wider, torn_wrote}
 use Rattle.xa_log.proofs.Two.{beats_more}
-use Rattle.xa_log.proofs.Whole.{not_broken, whole_more, zeros_on, zeros_size}
+use Rattle.xa_log.proofs.Whole.{not_broken, whole_more, zero_size, zeros_on, zeros_size}
 
 -- ---- bytes
 
@@ -67,17 +67,30 @@ sizes_group format [] group sizes ok = ok
 sizes_group format (b ∷ bodies) group sizes ok = (sizes.0, sizes_group format bodies group sizes.1 ok)
 
 -- with a closing length after it
+closed_split : (format : Format) (bodies group : List (List ℕ)) (file more : List ℕ)
+    → file ≡ text format bodies ++ (closed (last (start format) bodies) group ++ more) → file ≡ text format (bodies ++ group) ++ (0 ∷ 0 ∷ 0 ∷ 0 ∷ more)
+closed_split format bodies group file more is =
+    is
+    ∙ ap (λ (l : List ℕ). text format bodies ++ l) (append_assoc (records (last (start format) bodies) group) (0 ∷ 0 ∷ 0 ∷ 0 ∷ []) more)
+    ∙ sym (append_assoc (text format bodies) (records (last (start format) bodies) group) (0 ∷ 0 ∷ 0 ∷ 0 ∷ more))
+    ∙ ap (λ (l : List ℕ). l ++ 0 ∷ 0 ∷ 0 ∷ 0 ∷ more) (sym (text_group format bodies group))
+
 pub rests_group : (format : Format) (bodies group : List (List ℕ)) (file more : List ℕ) → AllByRecursion (IsBody format) bodies → AllByRecursion (IsBody format) group
     → file ≡ text format bodies ++ (closed (last (start format) bodies) group ++ more) → Rests format (bodies ++ group) file
 rests_group format bodies group file more sizes ok is = record {
   rest = 0 ∷ 0 ∷ 0 ∷ 0 ∷ more;
-  split = is
-      ∙ ap (λ (l : List ℕ). text format bodies ++ l) (append_assoc (records (last (start format) bodies) group) (0 ∷ 0 ∷ 0 ∷ 0 ∷ []) more)
-      ∙ sym (append_assoc (text format bodies) (records (last (start format) bodies) group) (0 ∷ 0 ∷ 0 ∷ 0 ∷ more))
-      ∙ ap (λ (l : List ℕ). l ++ 0 ∷ 0 ∷ 0 ∷ 0 ∷ more) (sym (text_group format bodies group));
+  split = closed_split format bodies group file more is;
   sizes = sizes_group format bodies group sizes ok;
   closed = closed_zeros format (last (start format) (bodies ++ group)) more;
 }
+
+-- what stands behind it begins with a length 0
+pub closed_behind : (format : Format) (bodies group : List (List ℕ)) (file more : List ℕ)
+    → file ≡ text format bodies ++ (closed (last (start format) bodies) group ++ more) → size_at (behind_text format (bodies ++ group) file) ≡ 0
+closed_behind format bodies group file more is =
+    ap size_at (ap (λ (l : List ℕ). drop (length (text format (bodies ++ group))) l) (closed_split format bodies group file more is)
+    ∙ drop_at (text format (bodies ++ group)) (0 ∷ 0 ∷ 0 ∷ 0 ∷ more) (length (text format (bodies ++ group))) refl)
+    ∙ zero_size more
 
 -- ---- what keeps the log's front, and after it has no records but the group's
 
@@ -160,17 +173,25 @@ module _ (format : Format) (bodies group : List (List ℕ)) (file : List ℕ) (r
       let fits : length c ≤ most = omega (arith, torn.no_longer, whole, room) in
       record { fits = fits; front = at.1; opens = no_fault most format c bodies fits at.1; reads = plain_group format bodies group c rests.sizes ok at.1 }
 
-  pub kept : (more : ℕ) (mid new : List ℕ) → (end ≤ length mid) × (take end mid ≡ text format bodies)
-      → new ≡ put mid end (closed_by more (last (start format) bodies) group) → Rests format (bodies ++ group) new
-  kept more mid new begins is =
+  kept_split : (more : ℕ) (mid new : List ℕ) → (end ≤ length mid) × (take end mid ≡ text format bodies)
+      → new ≡ put mid end (closed_by more (last (start format) bodies) group)
+      → new ≡ text format bodies ++ (closed (last (start format) bodies) group ++ (replicate more 0 ++ drop (end + length (closed_by more (last (start format) bodies) group)) mid))
+  kept_split more mid new begins is =
       let bytes = closed_by more (last (start format) bodies) group in
       let n = end + length bytes in
       let zeros : List ℕ = replicate more 0 in
-      rests_group format bodies group new (zeros ++ drop n mid) rests.sizes ok
-      (is ∙ put_within mid end bytes begins.0
+      is ∙ put_within mid end bytes begins.0
       ∙ ap (λ (l : List ℕ). l ++ bytes ++ drop n mid) begins.1
       ∙ append_assoc (text format bodies) bytes (drop n mid)
-      ∙ ap (λ (l : List ℕ). text format bodies ++ l) (append_assoc (closed (last (start format) bodies) group) zeros (drop n mid)))
+      ∙ ap (λ (l : List ℕ). text format bodies ++ l) (append_assoc (closed (last (start format) bodies) group) zeros (drop n mid))
+
+  pub kept : (more : ℕ) (mid new : List ℕ) → (end ≤ length mid) × (take end mid ≡ text format bodies)
+      → new ≡ put mid end (closed_by more (last (start format) bodies) group)
+      → Rests format (bodies ++ group) new × (size_at (behind_text format (bodies ++ group) new) ≡ 0)
+  kept more mid new begins is =
+      let rest : List ℕ = replicate more 0 ++ drop (end + length (closed_by more (last (start format) bodies) group)) mid in
+      let split = kept_split more mid new begins is in
+      (rests_group format bodies group new rest rests.sizes ok split, closed_behind format bodies group new rest split)
 
   -- from a log at rest, whatever a write after it left
   pub moments : {D : Type 0} (disks : Ghosts D) (old new : D) (most n : ℕ)
@@ -242,7 +263,8 @@ module _ {D : Type 0} (disks : Ghosts D) (bodies group : List (List ℕ)) (more 
       (subst (λ e. Torn e (length (closed_by more old.digest group)) (disks.seen old.disk) mid) stands.end torn)
 
   -- whether the zeros went with the records or not
-  file_kept : Wrote disks old.end (closed old.digest group) (closed_by more old.digest group) old.disk new.disk → Rests format (bodies ++ group) (disks.seen new.disk)
+  file_kept : Wrote disks old.end (closed old.digest group) (closed_by more old.digest group) old.disk new.disk
+      → Rests format (bodies ++ group) (disks.seen new.disk) × (size_at (behind_text format (bodies ++ group) (disks.seen new.disk)) ≡ 0)
   file_kept (inl is) =
       kept format bodies group (disks.seen old.disk) stands.file ok more (disks.seen old.disk) (disks.seen new.disk) (begins_same format bodies (disks.seen old.disk) stands.file)
       (is ∙ (λ i. put (disks.seen old.disk) (stands.end i) (closed_by more (stands.digest i) group)))
@@ -257,14 +279,15 @@ module _ {D : Type 0} (disks : Ghosts D) (bodies group : List (List ℕ)) (more 
       → Stands disks (bodies ++ group) new
   answer_kept room went end_is digest_is number_is lost_is = record {
     fits = fits_after room.0 room.1 (torn_wrote disks tears_torn old.end (closed old.digest group) (closed_by more old.digest group) old.disk new.disk went.0);
-    file = subst (λ k. Rests k (bodies ++ group) (disks.seen new.disk)) (sym room.2) (file_kept went.0);
+    file = subst (λ k. Rests k (bodies ++ group) (disks.seen new.disk)) (sym room.2) (file_kept went.0).0;
     end = subst (λ k. new.end ≡ length (text k (bodies ++ group))) (sym room.2)
         (omega (arith, end_is, stands.end, ap length (text_group format bodies group), length-append (text format bodies) (records (last (start format) bodies) group), length-records (last (start format) bodies) group, bytes_as_one group some));
     digest = subst (λ k. new.digest ≡ last (start k) (bodies ++ group)) (sym room.2) (digest_is ∙ ap (λ (d : List ℕ). last d group) stands.digest ∙ sym (last_group (start format) bodies group));
     number = number_is ∙ generation_group format bodies group old.end old.generation some stands.end stands.number;
     durable = went.1;
     alive = lost_is ∙ stands.alive;
-    whole = whole_more new.format bodies group (disks.seen new.disk) appended some;
+    whole = subst (λ k. breaks_off k (bodies ++ group) (disks.seen new.disk) ≡ false) (sym room.2)
+        (whole_more format bodies group (disks.seen new.disk) appended some (file_kept went.0).1);
   }
 
   pub answer_refused : Room → Went_by Refused → new.end ≡ old.end → new.digest ≡ old.digest → new.generation ≡ old.generation → new.lost ≡ old.lost

@@ -1,6 +1,7 @@
 -- How far the two files are known to reach.
-use Rattle.std.proofs.Common.{◌≡◌, inl, inr, ℕ, ◌+◌, ◌≤◌, Bool, true, false, cond, List, ◌++◌, length, drop, replicate, sym, ◌∙◌, ap, arith, length-append, length-drop, Result, Ok, Err, OnOk, OnErr, IfOk, rules}
+use Rattle.std.proofs.Common.{◌≡◌, inl, inr, ℕ, ◌+◌, ◌≤◌, Bool, true, false, cond, List, ◌++◌, length, drop, replicate, sym, ◌∙◌, ap, subst, arith, length-append, length-drop, Result, Ok, Err, OnOk, OnErr, IfOk, rules}
 use Rattle.std.specs.Prelude.{max}
+use Rattle.std.specs.Int.{w32, to_be_bytes}
 use Rattle.std.proofs.lemmas.List.{places, length-replicate}
 use Rattle.xa_disk.specs.declared.disk.Disk.{Ghosts}
 use Rattle.xa_disk.specs.Disk.{put, Torn}
@@ -33,6 +34,13 @@ seal_grows tears Refused at bytes old new left went =
     omega (arith, went.1.no_shorter, (put_torn went.0 at zeros).no_shorter, ap (λ (l : List ℕ). length l) went.2)
 seal_grows tears Lost at bytes old new left went = went.0.no_shorter
 seal_grows tears Full at bytes old new left went = absurd went
+
+-- a seal that is kept is no longer than what is longer than the header
+pub seal_within : (tears : List ℕ → ℕ → List ℕ → List ℕ → Type 0) (o : Appended) (n : ℕ) (old new : List ℕ) (left : List ℕ → Type 0) → (m : ℕ) → o ≡ Kept
+    → length old ≤ m → 12 ≤ length old → PutBecame tears o 8 (to_be_bytes w32 n) old new left → length new ≤ m
+seal_within tears o n old new left m is le long went =
+    let now : PutBecame tears Kept 8 (to_be_bytes w32 n) old new left = subst (λ x. PutBecame tears x 8 (to_be_bytes w32 n) old new left) is went in
+    omega (arith, le, long, (put_torn old 8 (to_be_bytes w32 n)).no_longer, ap (λ (l : List ℕ). length l) now.0)
 
 -- the records of a checkpoint reach up to their closing length
 pub records_reach : (more : ℕ) (format : Format) (bodies : List (List ℕ)) (mid new : List ℕ) → new ≡ put mid 12 (behind_front format bodies ++ replicate more 0)
@@ -70,17 +78,17 @@ module _ {D : Type 0} (disks : Ghosts D) (tears_torn : (old : List ℕ) (at : �
 
 -- ---- a checkpoint
 
-module _ {D : Type 0} (disks : Ghosts D) (old new : LogView D) (wrote : D) (grows : length (disks.seen old.other) ≤ length (disks.seen wrote)) (k : IsKnown disks old) where
-  pub known_swapped : (n : ℕ) → n ≤ length (disks.seen wrote) → new.disk ≡ wrote → new.other ≡ old.disk → new.known ≡ max old.other_known n → new.other_known ≡ old.known → IsKnown disks new
+module _ {D : Type 0} (disks : Ghosts D) (old new : LogView D) (wrote : D) (now : ℕ) (reaches : old.other_known ≤ length (disks.seen old.other) → now ≤ length (disks.seen wrote)) (k : IsKnown disks old) where
+  pub known_swapped : (n : ℕ) → n ≤ length (disks.seen wrote) → new.disk ≡ wrote → new.other ≡ old.disk → new.known ≡ max now n → new.other_known ≡ old.known → IsKnown disks new
   known_swapped n long disk other known other_known = record {
-    current = omega (arith, known, k.other, grows, long, ap (λ (d : D). length (disks.seen d)) disk);
+    current = omega (arith, known, reaches k.other, long, ap (λ (d : D). length (disks.seen d)) disk);
     other = omega (arith, other_known, k.current, ap (λ (d : D). length (disks.seen d)) other);
   }
 
-  pub known_beside : new.disk ≡ old.disk → new.other ≡ wrote → new.known ≡ old.known → new.other_known ≡ old.other_known → IsKnown disks new
+  pub known_beside : new.disk ≡ old.disk → new.other ≡ wrote → new.known ≡ old.known → new.other_known ≡ now → IsKnown disks new
   known_beside disk other known other_known = record {
     current = omega (arith, known, k.current, ap (λ (d : D). length (disks.seen d)) disk);
-    other = omega (arith, other_known, k.other, grows, ap (λ (d : D). length (disks.seen d)) other);
+    other = omega (arith, other_known, reaches k.other, ap (λ (d : D). length (disks.seen d)) other);
   }
 
 -- ---- what was measured

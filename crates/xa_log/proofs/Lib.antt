@@ -4,6 +4,7 @@ pub mod Torn
 pub mod Tried
 pub mod Whole
 pub mod Mixed
+pub mod Short
 pub mod First
 pub mod Known
 pub mod Encode
@@ -23,6 +24,7 @@ pub mod Ready
 pub mod Tail
 pub mod Steps
 pub mod Counted
+pub mod Cuts
 pub mod Parts
 pub mod Cleared
 pub mod Two
@@ -33,6 +35,7 @@ pub mod Which
 pub mod Choosing
 pub mod Told
 pub mod Opens
+pub mod Leaves
 pub mod Standings
 pub mod Interrupting
 pub mod Fits
@@ -47,3 +50,5 @@ pub mod States
 pub mod Settled
 pub mod Writing
 pub mod Snapshot
+pub mod Shown
+pub mod Left

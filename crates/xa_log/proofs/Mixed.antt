@@ -1,13 +1,12 @@
 -- What an append that is torn between bytes leaves behind a snapshot.
-use Rattle.std.proofs.Common.{◌≡◌, ◌⊎◌, inl, inr, ⊎_elim, ℕ, zero, suc, ◌+◌, ◌≤◌, Bool, true, false, not, ◌&&◌, ◌||◌, get_or, List, [], ◌∷◌, ◌++◌, length, take, drop, replicate, refl, sym, ◌∙◌, ap, subst, arith, append_assoc, nat_lt, nat_le, nat_eq, length-drop, length-append}
-use Rattle.std.specs.List.{AllByRecursion}
-use Rattle.std.proofs.lemmas.Bool.{cases_Bool, and_from, and_parts, or_left, or_right, or_cases, eq-eqb}
+use Rattle.std.proofs.Common.{◌≡◌, ⊎_elim, ℕ, ◌+◌, ◌≤◌, Bool, true, false, not, ◌&&◌, ◌||◌, get_or, List, [], ◌∷◌, ◌++◌, length, take, drop, refl, sym, ◌∙◌, ap, subst, arith, append_assoc, nat_lt, nat_le, nat_eq, length-drop, length-append}
+use Rattle.std.proofs.lemmas.Bool.{and_from, and_parts, or_left, or_right, or_cases, eq-eqb}
 use Rattle.std.proofs.lemmas.Bool.Decides.{nat_tests}
 use Rattle.std.proofs.lemmas.List.{drop_at, get_or-drop, get_or_past, length-take-le}
 use Rattle.xa_disk.specs.Disk.{put}
-use Rattle.xa_log.specs.Chain.{start, last, text, headed, digest, record_of, records, closing, behind_text, Rests}
-use Rattle.xa_log.specs.Damage.{is_appended, is_snapshot, goes_on, breaks_off, is_cut}
-use Rattle.xa_log.specs.Generation.{generation, number_in}
+use Rattle.xa_log.specs.Chain.{start, last, text, headed, behind_text, Rests}
+use Rattle.xa_log.specs.Damage.{is_appended, is_snapshot, goes_on, is_cut}
+use Rattle.xa_log.specs.Generation.{generation}
 use Rattle.xa_log.specs.Group.{closed_by}
 use Rattle.xa_log.specs.Laws.{IsMixed, MixedLaw}
 use Rattle.xa_log.specs.declared.format.Format.{Format}
@@ -87,7 +86,6 @@ cut_mixed Two bodies old file goes whole =
     same_else (nat_lt 1 (generation bodies)) (is_snapshot bodies) (goes_on (behind_text Two bodies old)) (goes_on (behind_text Two bodies file)) goes whole
 
 pub mixed_law : MixedLaw
-unfolding breaks_off
 mixed_law format [] group more old file rests some whole one appended mixed = absurd (omega (arith, some))
 mixed_law format (b ∷ bodies) [] more old file rests some whole one appended mixed = absurd (omega (arith, one))
 mixed_law format (b ∷ bodies) (body ∷ group) more old file rests some whole one appended mixed =

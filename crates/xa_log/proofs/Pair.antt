@@ -143,7 +143,7 @@ first_of format (suc m) prev x body is = elim (cases_Bool (is_record format prev
 ]
 
 -- a record's body is as long as its length says
-length-body : (format : Format) (prev x : List ℕ) → is_record format prev x ≡ true → length (body_at x) ≡ size_at x
+pub length-body : (format : Format) (prev x : List ℕ) → is_record format prev x ≡ true → length (body_at x) ≡ size_at x
 length-body format prev x is = let r = record_to format prev x is in length-take-le (size_at x) (drop 4 x) (omega (arith, r.whole, length-drop 4 x))
 
 -- by the limits of two formats the same bodies chain, where as many do

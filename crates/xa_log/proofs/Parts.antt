@@ -66,11 +66,11 @@ none_torn format most n d c room none torn = record {
 -- at each moment while the records are written
 pub during : {D : Type 0} (format : Format) (disks : Ghosts D) (old new : D) (n : ℕ) → ((c : List ℕ) → disks.left_since old (disks.moment old) c → disks.may_leave old c)
     → TimePasses disks (Torn 12 n) old new
-    → (most : ℕ) → 12 + n ≤ most → LeavesNone most format (disks.seen old) → Only (disks.seen old) (disks.may_leave old)
+    → (most : ℕ) → 12 + n ≤ most → ((c : List ℕ) → disks.may_leave old c → LeavesNone most format c)
     → LeavesOnly disks old new (LeavesNone most format)
-during format disks old new n only_now time most room none only =
+during format disks old new n only_now time most room each =
     leaves_by disks old new (Torn 12 n) (LeavesNone most format) only_now (torn_same 12 n)
-    (λ d c left torn. none_torn format most n d c room (subst (λ f. LeavesNone most format f) (sym (only d left)) none) torn) time
+    (λ d c left torn. none_torn format most n d c room (each d left) torn) time
 
 -- at each moment of all three parts, one behind the other
 module _ {D : Type 0} (disks : Ghosts D) (most : ℕ) (format : Format) (stood bodies : List (List ℕ))

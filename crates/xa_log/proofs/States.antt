@@ -8,7 +8,7 @@ use Rattle.xa_log.specs.declared.format.Format.{Format}
 use Rattle.xa_log.specs.LogView.{LogView}
 use Rattle.xa_log.specs.Group.{IsFirstPart}
 use Rattle.xa_log.specs.Pair.{generation, beats, CalmTears, IsCalm, fault_pair, logged_of, pair_fault, logged_pair}
-use Rattle.xa_log.specs.Checkpoint.{LeavesOf, SealTears}
+use Rattle.xa_log.specs.Checkpoint.{SealTears}
 use Rattle.xa_log.specs.Laws.{IsLogOf}
 use Rattle.xa_log.specs.Stands.{LeavesLog}
 use Rattle.xa_log.specs.TwoFiles.{Pair, MayStandPair, first_of, second_of}

@@ -1,22 +1,21 @@
 -- A log whose files and disks stay as they were.
-use Rattle.std.proofs.Common.{◌≡◌, ◌⊎◌, ⊎_elim, inl, inr, ℕ, ◌≤◌, Bool, true, false, List, ◌++◌, length, take, refl, sym, ◌∙◌, ap, subst, arith, cond, None, Result, Ok, Err, IfErr}
+use Rattle.std.proofs.Common.{◌≡◌, ◌⊎◌, ⊎_elim, inl, inr, ℕ, ◌≤◌, Bool, true, false, List, ◌++◌, length, take, refl, sym, ◌∙◌, ap, subst, arith, cond, Result, Ok, Err, IfErr}
 use Rattle.std.specs.Result.{IsErrAnd}
 use Rattle.xa_disk.specs.Disk.{Same, Passes}
 use Rattle.xa_disk.specs.declared.disk.Disk.{Ghosts}
 use Rattle.xa_log.specs.LogView.{LogView}
 use Rattle.xa_log.specs.declared.fault.OpenFault.{OpenFault}
 use Rattle.xa_log.specs.declared.fault.OpenFault.TheVariants.{Device, Memory}
-use Rattle.xa_log.specs.Chain.{start, last, text, Rests, logged}
+use Rattle.xa_log.specs.Chain.{start, last, text, Rests}
 use Rattle.xa_log.specs.Damage.{breaks_off}
 use Rattle.xa_log.specs.Group.{IsFirstPart}
-use Rattle.xa_log.specs.Reading.{is_newer, fault_of}
-use Rattle.xa_log.specs.Pair.{beats, has_log, Behind, IsCalm, CalmTears, pair_fault, fault_pair, logged_pair, logged_of}
+use Rattle.xa_log.specs.Pair.{beats, Behind, IsCalm, pair_fault, fault_pair, logged_pair, logged_of}
 use Rattle.xa_log.specs.Checkpoint.{IsOther, IsQuiet, LeavesOf, LeavesSealed}
 use Rattle.xa_log.specs.Ahead.{IsKnown}
 use Rattle.xa_log.specs.Stands.{Stands, MayStand, Leaves, LeavesLog, Untouched}
 use Rattle.xa_log.specs.TwoFiles.{Pair, MayStandPair, MaySeal}
 use Rattle.xa_log.specs.LogStates.{LogState, Whole, LostAppend, LostCheckpoint, IsIn, KeepsAll}
-use Rattle.xa_log.proofs.Again.{no_fault, rests_front, fits_of}
+use Rattle.xa_log.proofs.Again.{no_fault, rests_front}
 use Rattle.xa_log.proofs.Pair.{calm_logged}
 
 module _ {D : Type 0} (disks : Ghosts D) (old new : LogView D) (u : Untouched old new)

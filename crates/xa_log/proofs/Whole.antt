@@ -1,13 +1,14 @@
 -- Where a log doesn't break off.
-use Rattle.std.proofs.Common.{◌≡◌, ◌⊎◌, inl, inr, ⊎_elim, ℕ, zero, suc, ◌+◌, ◌≤◌, ◌<◌, Bool, true, false, not, ◌&&◌, ◌||◌, get_or, List, [], ◌∷◌, ◌++◌, length, take, drop, replicate, refl, sym, ◌∙◌, ap, subst, arith, cond, nat_lt, nat_le, nat_eq, length-drop}
+use Rattle.std.proofs.Common.{◌≡◌, ◌⊎◌, inl, inr, ℕ, zero, suc, ◌+◌, ◌≤◌, ◌<◌, Bool, true, false, not, ◌&&◌, ◌||◌, get_or, List, [], ◌∷◌, ◌++◌, length, take, drop, replicate, refl, sym, ◌∙◌, ap, subst, arith, cond, nat_lt, nat_le, nat_eq, length-drop}
 use Rattle.std.specs.List.{AllByRecursion}
 use Rattle.std.proofs.lemmas.Bool.{cases_Bool, and_left, and_from, or_left, or_right, eq-eqb}
 use Rattle.std.proofs.lemmas.Bool.Decides.{nat_tests}
 use Rattle.std.proofs.lemmas.List.{drop_at, get_or-take, take-take, length-take, length-replicate}
 use Rattle.std.specs.Int.{w32, from_be_bytes}
-use Rattle.xa_log.specs.Chain.{start, begins, body_at, digest_at, rest_at, is_record, size_at, bodies_from, format_in, logged, text, behind_text, Rests}
-use Rattle.xa_log.specs.Damage.{is_appended, is_cut, is_snapshot, goes_on, shows_first, lost_first, breaks_off, is_damaged, is_headless, AreAppended}
+use Rattle.xa_log.specs.Chain.{start, last, begins, body_at, digest_at, rest_at, is_record, size_at, bodies_from, format_in, logged, text, behind_text, Rests}
+use Rattle.xa_log.specs.Damage.{is_appended, is_cut, is_snapshot, goes_on, shows_first, lost_first, breaks_behind, breaks_off, is_damaged, is_headless, AreAppended}
 use Rattle.xa_log.specs.Generation.{generation, number_in}
+use Rattle.xa_log.specs.LeftOut.{digest_left, has_own, left_out, stops_short}
 use Rattle.xa_log.specs.Pair.{has_log}
 use Rattle.xa_log.specs.declared.format.Format.{Format}
 use Rattle.xa_log.specs.declared.format.Format.TheVariants.{One, Two}
@@ -96,12 +97,29 @@ unfolding is_cut
 uncut One bodies file whole = refl
 uncut Two bodies file whole = whole refl
 
+-- behind a length 0 no record is shown, so none is left out
+pub none_left : (format : Format) (bodies : List (List ℕ)) (file : List ℕ) → size_at (behind_text format bodies file) ≡ 0 → left_out format bodies file ≡ []
+none_left format [] file closed = refl
+none_left format (body ∷ bodies) file closed =
+    let tail : List ℕ = behind_text format (body ∷ bodies) file in
+    let some : nat_le 1 (size_at tail) ≡ false = ap (λ (n : ℕ). nat_le 1 n) closed in
+    ap (λ (shown : Bool). cond shown (bodies_from format (length tail) (digest_left format (last (start format) (body ∷ bodies)) tail) (rest_at tail)) []) (and_left (nat_le 1 (size_at tail)) _ some)
+
+pub not_short : (format : Format) (bodies : List (List ℕ)) (file : List ℕ) → size_at (behind_text format bodies file) ≡ 0 → stops_short format bodies file ≡ false
+unfolding stops_short
+not_short format bodies file closed = ap (λ (left : List (List ℕ)). has_own (generation bodies) (36 + size_at (behind_text format bodies file)) left) (none_left format bodies file closed)
+
+-- nor does a log break off there whose snapshot isn't cut
+behind_whole : (format : Format) (bodies : List (List ℕ)) (file : List ℕ) → size_at (behind_text format bodies file) ≡ 0 → is_cut format bodies file ≡ false → breaks_behind format bodies file ≡ false
+behind_whole format bodies file closed uncut = ap (λ (cut : Bool). cut || stops_short format bodies file) uncut ∙ not_short format bodies file closed
+
 pub not_broken : (format : Format) (bodies : List (List ℕ)) (file : List ℕ) → size_at (behind_text format bodies file) ≡ 0 → goes_on (behind_text format bodies file) ≡ true → breaks_off format bodies file ≡ false
-unfolding breaks_off is_cut
+unfolding breaks_off
 not_broken format [] file closed on = none_shown format (take 41 (behind_text format [] file)) (front_size (behind_text format [] file) ∙ closed)
 not_broken format (body ∷ bodies) file closed on =
-    uncut format (body ∷ bodies) file (λ two. and_right (nat_lt 1 (number_in body)) _ (and_right (is_snapshot (body ∷ bodies)) _
-    (ap (λ (b : Bool). not b) (subst (λ (f : Format). goes_on (behind_text f (body ∷ bodies) file) ≡ true) two on))))
+    behind_whole format (body ∷ bodies) file closed
+    (uncut format (body ∷ bodies) file (λ two. and_right (nat_lt 1 (number_in body)) _ (and_right (is_snapshot (body ∷ bodies)) _
+    (ap (λ (b : Bool). not b) (subst (λ (f : Format). goes_on (behind_text f (body ∷ bodies) file) ≡ true) two on)))))
 
 zeros_front : (n : ℕ) → take 4 (replicate {A = ℕ} (4 + n) 0) ≡ 0 ∷ 0 ∷ 0 ∷ 0 ∷ []
 zeros_front n = let m : 4 + n ≡ suc (suc (suc (suc n))) = omega arith in ap (λ (k : ℕ). take 4 (replicate {A = ℕ} k 0)) m
@@ -154,15 +172,22 @@ appended_more [] [] ok some = absurd (omega arith)
 appended_more [] (b ∷ group) ok some = ap (λ (t : Bool). not t && is_snapshot group) ok.0
 appended_more (b ∷ bodies) group ok some = and_right (not (is_appended (get_or b 0 0))) _ (appended_more bodies group ok some)
 
-pub whole_more : (format : Format) (bodies group : List (List ℕ)) (file : List ℕ) → AreAppended bodies group → 1 ≤ length group → breaks_off format (bodies ++ group) file ≡ false
-unfolding breaks_off is_cut
-whole_more format [] [] file kinds some = absurd (omega arith)
-whole_more format [] (b ∷ group) file (inl ok) some =
+-- a snapshot to which something was appended isn't cut, whatever follows
+pub uncut_more : (format : Format) (bodies group : List (List ℕ)) (file : List ℕ) → AreAppended bodies group → 1 ≤ length group → is_cut format (bodies ++ group) file ≡ false
+uncut_more format [] [] file kinds some = absurd (omega arith)
+uncut_more format [] (b ∷ group) file (inl ok) some =
     uncut format (b ∷ group) file (λ two. and_right (nat_lt 1 (number_in b)) _ (and_left (is_snapshot (b ∷ group)) _ (appended_more [] (b ∷ group) ok some)))
-whole_more format [] (b ∷ group) file (inr first) some =
+uncut_more format [] (b ∷ group) file (inr first) some =
     let few : number_in b ≤ 1 = first.1 in
     let a : nat_lt 1 (number_in b) ≡ false = grind (arith, nat_tests) in
     uncut format (b ∷ group) file (λ two. and_left (nat_lt 1 (number_in b)) _ a)
-whole_more format (b ∷ bodies) group file (inl ok) some =
+uncut_more format (b ∷ bodies) group file (inl ok) some =
     uncut format (b ∷ (bodies ++ group)) file (λ two. and_right (nat_lt 1 (number_in b)) _ (and_left (is_snapshot (b ∷ (bodies ++ group))) _ (appended_more (b ∷ bodies) group ok some)))
-whole_more format (b ∷ bodies) group file (inr first) some = absurd (cc first.0)
+uncut_more format (b ∷ bodies) group file (inr first) some = absurd (cc first.0)
+
+-- and behind a length 0 it doesn't break off
+pub whole_more : (format : Format) (bodies group : List (List ℕ)) (file : List ℕ) → AreAppended bodies group → 1 ≤ length group → size_at (behind_text format (bodies ++ group) file) ≡ 0 → breaks_off format (bodies ++ group) file ≡ false
+unfolding breaks_off
+whole_more format [] [] file kinds some closed = absurd (omega arith)
+whole_more format [] (b ∷ group) file kinds some closed = behind_whole format (b ∷ group) file closed (uncut_more format [] (b ∷ group) file kinds some)
+whole_more format (b ∷ bodies) group file kinds some closed = behind_whole format (b ∷ (bodies ++ group)) file closed (uncut_more format (b ∷ bodies) group file kinds some)

@@ -6,6 +6,7 @@ use Rattle.std.specs.Str.{bytes_eq}
 use Rattle.xa_limits.specs.declared.TheConstants.{DIGEST_BYTES, FORMAT_BYTES, LENGTH_BYTES}
 use Rattle.xa_log.specs.Chain.{start, behind_text, begins, digest, format_in, format_of, logged, size_at}
 use Rattle.xa_log.specs.Generation.{generation, number_in}
+use Rattle.xa_log.specs.LeftOut.{stops_short}
 use Rattle.xa_log.specs.declared.damage.TheConstants.{BOOT_RECORD, LEAST_APPENDED, MOST_APPENDED}
 use Rattle.xa_log.specs.declared.format.Format.{Format}
 use Rattle.xa_log.specs.declared.format.Format.TheVariants.{One, Two}
@@ -59,11 +60,16 @@ is_cut One bodies file = false
 is_cut Two bodies file =
     nat_lt 1 (generation bodies) && (is_snapshot bodies && not (goes_on (behind_text Two bodies file)))
 
+-- behind records that chain, the snapshot is cut, or the log stops short
+abbrev pub breaks_behind : Format → List (List ℕ) → List ℕ → Bool
+breaks_behind format bodies file = is_cut format bodies file || stops_short format bodies file
+
 -- A log of generation 2 or more begins with the snapshot that a checkpoint wrote and synced before it counted. It breaks
--- off where its first record is shown but doesn't chain, or where its snapshot is cut.
+-- off where its first record is shown but doesn't chain, or where its snapshot is cut; and any log where it stops short of
+-- what was appended and synced later.
 unfoldable pub breaks_off : Format → List (List ℕ) → List ℕ → Bool
 breaks_off format [] file = lost_first format (take BOOT_RECORD (behind_text format [] file))
-breaks_off format (body ∷ bodies) file = is_cut format (body ∷ bodies) file
+breaks_off format (body ∷ bodies) file = breaks_behind format (body ∷ bodies) file
 
 -- the log that a file is breaks off
 unfoldable pub is_damaged : List ℕ → Bool

@@ -55,7 +55,8 @@ pub record IsFirstPart (format : Format) (bodies group : List (List ℕ)) (file 
 -- ---- chance
 
 -- Without chance: after the bodies no records chain but the group's, in their order and from the first on; and where none
--- does, the log doesn't break off: what a torn append leaves behind a snapshot isn't what a body of a snapshot begins with.
+-- does, the log doesn't break off: what a torn append leaves behind a snapshot isn't what a body of a snapshot begins with,
+-- and no records of the log's own chain behind what it wrote.
 abbrev pub IsPlain : Format → List (List ℕ) → List (List ℕ) → List ℕ → Type 0
 IsPlain format bodies [] file = (chains_on format bodies file ≡ false) × (breaks_off format bodies file ≡ false)
 IsPlain format bodies (body ∷ group) file =

@@ -1,15 +1,17 @@
 -- Which log two files have, from what an image of each is.
-use Rattle.std.specs.Prelude.{◌≡◌, ◌⊎◌, ℕ, ◌+◌, ◌≤◌, ◌<◌, Bool, true, false, List, [], ◌∷◌, length, take, slice_index, None}
+use Rattle.std.specs.Prelude.{◌≡◌, ◌⊎◌, ℕ, ◌+◌, ◌≤◌, ◌<◌, Bool, true, false, List, [], ◌∷◌, ◌++◌, length, take, drop, slice_index, None}
 use Rattle.std.specs.List.{AllByRecursion}
 use Rattle.xa_log.specs.declared.format.Format.{Format}
 use Rattle.xa_log.specs.declared.format.TheConstants.{PREAMBLE_BYTES}
 use Rattle.xa_disk.specs.Disk.{put, Torn}
 use Rattle.xa_disk.specs.declared.disk.Disk.{Ghosts}
-use Rattle.xa_log.specs.Chain.{start, last, text, Rests, body_at, behind_text, chains_on, logged}
-use Rattle.xa_log.specs.Group.{closed_by, HasFirstPart, IsPlain}
+use Rattle.xa_log.specs.Chain.{start, last, text, Rests, body_at, behind_text, chains_on, is_record, logged}
+use Rattle.xa_log.specs.Group.{closed_by, group_bytes, HasFirstPart, IsPlain}
 use Rattle.xa_log.specs.Pair.{generation, has_log, beats, logged_of, fault_pair, IsCalm, Behind}
 use Rattle.xa_log.specs.Checkpoint.{IsCleared, LeavesOf, LeavesNone, LeavesSealed}
-use Rattle.xa_log.specs.Damage.{breaks_off, is_appended}
+use Rattle.xa_log.specs.Damage.{breaks_off, is_appended, is_cut}
+use Rattle.xa_log.specs.LeftOut.{is_own, stops_short}
+use Rattle.xa_log.specs.declared.left_out.TheConstants.{MOST_GROUP}
 use Rattle.xa_log.specs.declared.checkpointing.TheConstants.{CLEARED_BYTES}
 use Rattle.xa_limits.specs.declared.TheConstants.{LENGTH_BYTES}
 use Rattle.xa_log.specs.Stands.{Leaves}
@@ -85,10 +87,24 @@ pub record IsMixed (old new file : List ℕ) : Type 0 where
   pub no_shorter : length old ≤ length file
   pub each : (i : ℕ) → (slice_index file i ≡ slice_index old i) ⊎ (slice_index file i ≡ slice_index new i) ⊎ (slice_index file i ≡ 0)
 
--- An append that is torn so leaves no snapshot that breaks off: that takes a byte that neither stood there nor was written.
+-- An append that is torn so leaves no snapshot that is cut: that takes a byte that neither stood there nor was written.
 abbrev pub MixedLaw : Type 0
 MixedLaw = (format : Format) (bodies group : List (List ℕ)) (more : ℕ) (old file : List ℕ)
-    → Rests format bodies old → 1 ≤ length bodies → breaks_off format bodies old ≡ false
+    → Rests format bodies old → 1 ≤ length bodies → is_cut format bodies old ≡ false
     → 1 ≤ length group → AllByRecursion (λ body. is_appended (slice_index body 0) ≡ true) group
     → IsMixed old (put old (length (text format bodies)) (closed_by more (last (start format) bodies) group)) file
-    → breaks_off format bodies file ≡ false
+    → is_cut format bodies file ≡ false
+
+-- No record of a log of this generation begins at an offset or behind it, on whichever digest.
+abbrev pub NoOwn : Format → ℕ → ℕ → List ℕ → Type 0
+NoOwn format generation from file = (at : ℕ) (prev : List ℕ) → from ≤ at → is_record format prev (drop at file) ≡ true
+    → is_own generation (body_at (drop at file)) ≡ false
+
+-- Whatever an append of a group leaves of its records, and however it was torn: the log doesn't stop short by them, where the
+-- group is within its bound. Only by what begins behind all that it wrote: records of its own, which never stood there.
+abbrev pub TailLaw : Type 0
+TailLaw = (format : Format) (bodies group : List (List ℕ)) (many : ℕ) (file : List ℕ)
+    → 1 ≤ length bodies → many ≤ length group → group_bytes group + LENGTH_BYTES ≤ MOST_GROUP
+    → take (length (text format (bodies ++ take many group))) file ≡ text format (bodies ++ take many group)
+    → NoOwn format (generation bodies) (length (text format bodies) + (group_bytes group + LENGTH_BYTES)) file
+    → stops_short format (bodies ++ take many group) file ≡ false

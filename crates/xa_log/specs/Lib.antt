@@ -1,6 +1,7 @@
 pub mod Chain
 pub mod Ahead
 pub mod Generation
+pub mod LeftOut
 pub mod Damage
 pub mod Behind
 pub mod Buffer
@@ -9,6 +10,7 @@ pub mod Calls
 pub mod Stands
 pub mod Window
 pub mod Reading
+pub mod Shown
 pub mod Opened
 pub mod Planned
 pub mod Pair
@@ -24,4 +26,6 @@ pub mod Worked
 pub mod Finding
 pub mod Standing
 pub mod Unfit
+pub mod Contents
+pub mod Ending
 pub mod Written

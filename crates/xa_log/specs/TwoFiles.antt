@@ -3,6 +3,7 @@ use Rattle.std.specs.Prelude.{◌≡◌, ◌⊎◌, ◌+◌, ◌≤◌, ◌<◌,
 use Rattle.xa_disk.specs.Disk.{Only}
 use Rattle.xa_disk.specs.declared.disk.Disk.{Ghosts}
 use Rattle.xa_limits.specs.declared.TheConstants.{LENGTH_BYTES}
+use Rattle.xa_log.specs.Ahead.{Shortens}
 use Rattle.xa_log.specs.Chain.{newest, start, last, text, Rests, logged}
 use Rattle.xa_log.specs.Pair.{generation, beats, has_log, IsCalm, CalmTears}
 use Rattle.xa_log.specs.Checkpoint.{IsOther, IsQuiet, LeavesSealed, SealTears}
@@ -59,22 +60,26 @@ written Refused log = log.other
 written Lost log = log.other
 written Full log = log.other
 
+-- where a checkpoint of new bodies ends in its file, closing length included
+abbrev pub closed_end : List (List ℕ) → ℕ
+closed_end fresh = length (text newest fresh) + LENGTH_BYTES
+
 -- A log's fields after a checkpoint of new bodies: what was known of the two files changes places with them, and the
--- one that was written is known to reach as far as the new log's closing length.
+-- one that was written is known to reach as far as the new log's closing length. It may have been cut behind it.
 abbrev pub Swaps : {D : Type 0} → Appended → List (List ℕ) → LogView D → LogView D → Type 0
 Swaps Kept fresh old new =
     (new.other ≡ old.disk) × (new.on_first ≡ not old.on_first) × (new.format ≡ newest)
     × (new.end ≡ length (text newest fresh)) × (new.digest ≡ last (start newest) fresh) × (new.lost ≡ old.lost)
     × (new.generation ≡ generation fresh)
-    × (new.known ≡ max old.other_known (length (text newest fresh) + LENGTH_BYTES)) × (new.other_known ≡ old.known)
+    × Shortens (closed_end fresh) (max old.other_known (closed_end fresh)) new.known × (new.other_known ≡ old.known)
 Swaps Refused fresh old new =
     (new.disk ≡ old.disk) × (new.on_first ≡ old.on_first) × (new.format ≡ old.format)
     × (new.end ≡ old.end) × (new.digest ≡ old.digest) × (new.lost ≡ old.lost)
-    × (new.generation ≡ old.generation) × (new.known ≡ old.known) × (new.other_known ≡ old.other_known)
+    × (new.generation ≡ old.generation) × (new.known ≡ old.known) × Shortens (closed_end fresh) old.other_known new.other_known
 Swaps Lost fresh old new =
     (new.disk ≡ old.disk) × (new.on_first ≡ old.on_first) × (new.format ≡ old.format)
     × (new.end ≡ old.end) × (new.digest ≡ old.digest) × (new.lost ≡ true)
-    × (new.generation ≡ old.generation) × (new.known ≡ old.known) × (new.other_known ≡ old.other_known)
+    × (new.generation ≡ old.generation) × (new.known ≡ old.known) × Shortens (closed_end fresh) old.other_known new.other_known
 Swaps Full fresh old new = new ≡ old
 
 -- what each answer of an append of a group says of two files

@@ -4,6 +4,7 @@ use Rattle.std.specs.Prelude.{◌≡◌, List, [], ◌∷◌, ◌++◌, ℕ, tru
 use Rattle.xa_log.specs.declared.fault.OpenFault.TheVariants.{NotALog, TooNew, TooLong, Damaged}
 use Rattle.xa_log.specs.declared.format.Format.TheVariants.{One, Two}
 use Rattle.xa_log.specs.Chain.{magic, start, record_of, preamble, logged}
+use Rattle.xa_log.specs.LeftOut.{has_own, is_own, left_out}
 use Rattle.xa_log.specs.Pair.{beats, on_first, logged_pair, pair_fault}
 use Rattle.xa_log.specs.Unfit.{unfit_of}
 use Rattle.xa_log.specs.declared.unfit.Unfit.TheVariants.{Neither, MissingFirst, MissingSecond, StrayFirst, StraySecond}
@@ -157,6 +158,27 @@ LostFirst =
     × (pair_fault 115 first_file (slice_set second_file 11 4) ≡ Some Damaged)
     × (pair_fault 115 first_file unsealed ≡ None) × (pair_fault 115 first_file renamed ≡ None)
     × (pair_fault 115 (slice_set first_file 17 125) [] ≡ None)
+
+-- a log of three records, of which the second one stands at 49, with its length there, its body from 53 on, its digest from 78
+abbrev pub three_records : List ℕ
+three_records = torn_behind known ++ 0 ∷ 0 ∷ 0 ∷ 0 ∷ []
+
+-- Of the second record one byte changed: the third one is found, behind a body and behind a digest that isn't its own, but not
+-- behind a length of 0, or of one byte less. The log of all three leaves nothing out.
+abbrev pub LeftBehind : Type 0
+LeftBehind =
+    (left_out Two (again ∷ []) (slice_set three_records 60 171) ≡ known ∷ [])
+    × (left_out Two (again ∷ []) (slice_set three_records 78 197) ≡ known ∷ [])
+    × (left_out Two (again ∷ []) (slice_set three_records 52 0) ≡ []) × (left_out Two (again ∷ []) (slice_set three_records 52 24) ≡ [])
+    × (left_out Two (again ∷ held ∷ known ∷ []) three_records ≡ [])
+
+-- A branch prepared in the first boot is the own one of a log of the first generation, not of the second; a snapshot's record is
+-- of none. It tells from 262,144 bytes behind the log's end on, also where another comes before it.
+abbrev pub OwnRecords : Type 0
+OwnRecords =
+    (is_own 0 prepared ≡ true) × (is_own 1 prepared ≡ true) × (is_own 2 prepared ≡ false) × (is_own 1 held ≡ false)
+    × (has_own 1 262144 (prepared ∷ []) ≡ true) × (has_own 1 262143 (prepared ∷ []) ≡ false)
+    × (has_own 1 262098 (known ∷ prepared ∷ []) ≡ true) × (has_own 1 262097 (known ∷ prepared ∷ []) ≡ false)
 
 -- ---- which of two files isn't a log's
 

@@ -10,6 +10,7 @@ ghost use Rattle.xa_log.specs.Chain.{start, preamble, last, digest, text, behind
 ghost use Rattle.xa_log.specs.Answers.{PutBecame, FailedPut, HasCause};
 ghost use Rattle.xa_log.specs.Buffer.{EachFits};
 ghost use Rattle.xa_log.specs.Calls.{PutCalls, RecordsCalls, AppendCalls, CheckpointCalls};
+ghost use Rattle.xa_log.specs.{Ahead.IsCut, Ahead.Shortens};
 ghost use Rattle.xa_log.specs.Pair.{IsCalm, CalmTears};
 ghost use Rattle.xa_log.specs.Checkpoint.{behind_preamble, bytes_behind, tailed, records_bytes, behind_front, first_length, IsComplete, IsTailed};
 ghost use Rattle.xa_log.specs.Checkpoint.{IsOther, LeavesOf, LeavesNone, LeavesSealed, LeavesAny, Checkpointed};
@@ -17,6 +18,7 @@ ghost use Rattle.xa_log.specs.Checkpoint.{IsOther, LeavesOf, LeavesNone, LeavesS
 use crate::appending::{Appended, put_or_clear, put_synced};
 use crate::format::{Format, PREAMBLE_BYTES};
 use crate::record::{clear, encode};
+use crate::shortening::shorten;
 use xa_disk::{Disk, DiskFault};
 use xa_limits::{AROUND_BODY, AROUND_CLOSED, DIGEST_BYTES, FIRST_OFFSET, LENGTH_BYTES, MOST_BODY};
 use xa_shared::SharedBytes;
@@ -116,7 +118,7 @@ pub(crate) fn put_records<D: Disk>(
         → Torn PREAMBLE_BYTES (records_bytes format bodies.now + more) (D.seen disk.old) (D.seen disk.new) }
     // Whichever image is left: nothing.
     ensures any_moment { D.honest → (most : ℕ) → PREAMBLE_BYTES + (records_bytes format bodies.now + more) ≤ most
-        → LeavesNone most format (D.seen disk.old) → Only (D.seen disk.old) (D.may_leave disk.old)
+        → ((c : List ℕ) → D.may_leave disk.old c → LeavesNone most format c)
         → LeavesOnly D.Disk disk.old disk.new (LeavesNone most format) }
     ensures time { D.honest
         → TimePasses D.Disk (Torn PREAMBLE_BYTES (records_bytes format bodies.now + more)) disk.old disk.new }
@@ -163,19 +165,24 @@ pub(crate) fn put_seal<D: Disk>(disk: &mut D, size: u32) -> Appended
     put_or_clear(disk, FIRST_OFFSET, &mut bytes)
 }
 
-// The three parts. Gives the last record's digest, if the checkpoint is kept.
+// The three parts, for a log that ends at `end`, closing length included. Gives the last record's digest, if the checkpoint
+// is kept. Between the first and the second one the file is cut if it is known to reach far behind that end: it has no record
+// then, whatever a crash leaves of the cut, and the second part's sync makes it last.
 pub(crate) fn checkpoint_on<D: Disk>(
     disk: &mut D,
     format: Format,
     buffer: &mut [u8],
     bodies: &[SharedBytes],
     more: usize,
+    end: u64,
+    known: &mut u64,
 ) -> (Appended, [u8; DIGEST_BYTES])
     requires room { EachFits (length buffer.old) bodies.now }
     requires some { 1 ≤ length bodies.now }
     requires sizes { AllByRecursion (IsBody format) bodies.now }
     requires few { LENGTH_BYTES + more ≤ CLEARED_BYTES }
     requires fits { PREAMBLE_BYTES + (records_bytes format bodies.now + more) < 2 ^ 64 }
+    requires end { end ≡ PREAMBLE_BYTES + records_bytes format bodies.now }
     ensures digest { result.0 ≡ Appended.Kept → result.1 ≡ last (start format) bodies.now }
     ensures answer { D.honest → (most : ℕ) (stood : List (List ℕ))
         → PREAMBLE_BYTES + (records_bytes format bodies.now + more) ≤ most → IsTailed more most format bodies.now
@@ -185,7 +192,9 @@ pub(crate) fn checkpoint_on<D: Disk>(
         → PREAMBLE_BYTES + (records_bytes format bodies.now + more) ≤ most → IsTailed more most format bodies.now
         → IsOther D.Disk most stood disk.old
         → LeavesOnly D.Disk disk.old disk.new (LeavesAny most format stood bodies.now) }
-    ensures grows { D.honest → length (D.seen disk.old) ≤ length (D.seen disk.new) }
+    ensures known { D.honest → known.old ≤ length (D.seen disk.old) → known.new ≤ length (D.seen disk.new) }
+    ensures shortens { Shortens end known.old known.new }
+    ensures cut { D.honest → D.shortens → result.0 ≡ Appended.Kept → IsCut end known.old (D.seen disk.new) }
     ensures reaches { D.honest → result.0 ≡ Appended.Kept
         → PREAMBLE_BYTES + (records_bytes format bodies.now + more) ≤ length (D.seen disk.new) }
     ensures cleared { D.honest → result.0 ≡ Appended.Kept
@@ -199,6 +208,7 @@ pub(crate) fn checkpoint_on<D: Disk>(
         Ok(()) => {}
         Err(_) => return (Appended::Refused, [0; DIGEST_BYTES]),
     }
+    *known = shorten(disk, end, *known);
     match put_records(disk, format, buffer, bodies, more) {
         Ok(digest) => {
             let outcome = put_seal(disk, bodies[0].len() as u32);

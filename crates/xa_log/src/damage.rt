@@ -1,7 +1,8 @@
 //! Where a log's bytes show that they were damaged.
 ghost use Rattle.std.specs.Prelude.{◌≡◌, ◌⊎◌, ◌+◌, ◌≤◌, List, ℕ, [], length, slice_index};
-ghost use Rattle.xa_log.specs.Damage.{goes_on, is_appended, is_cut, is_renamed, is_snapshot, lost_first, shows_first};
-ghost use Rattle.xa_log.specs.{Behind.IsBehind, Chain.behind_text, Reading.bodies_of};
+ghost use Rattle.xa_log.specs.Damage.{breaks_behind, goes_on, is_appended, is_cut, is_renamed, is_snapshot, lost_first, shows_first};
+ghost use Rattle.xa_log.specs.{Behind.IsBehind, Chain.behind_text, Reading.bodies_of, Shown.IsLeftOut};
+ghost use Rattle.xa_log.specs.{Generation.generation, LeftOut.has_own};
 ghost use Rattle.xa_limits.specs.declared.TheConstants.{LENGTH_BYTES};
 ghost use Rattle.xa_log.specs.declared.format.Format.TheVariants.{Two};
 ghost use Rattle.xa_log.specs.declared.looking.TheConstants.{NUMBER_END};
@@ -9,6 +10,7 @@ ghost use Rattle.xa_log.specs.declared.looking.TheConstants.{NUMBER_END};
 use crate::behind::Behind;
 use crate::format::Format;
 use crate::generation::generation_of_bodies;
+use crate::left_out::{Left, is_own_left};
 use crate::looking::{NUMBER_END, number_of};
 use crate::record::{chained, size_of};
 use xa_limits::{AROUND_BODY, LENGTH_BYTES};
@@ -37,7 +39,7 @@ fn is_appended_body(body: &[u8]) -> bool
 }
 
 // Whether none of these bodies was appended.
-fn are_snapshot(bodies: &[Vec<u8>]) -> bool
+pub(crate) fn are_snapshot(bodies: &[Vec<u8>]) -> bool
     ensures { result ≡ is_snapshot (bodies_of bodies.now) }
 {
     for body in bodies {
@@ -82,6 +84,28 @@ fn is_short(bodies: &[Vec<u8>], behind: Behind) -> bool
         return false;
     }
     !may_follow(behind)
+}
+
+// Whether a log of these bodies, behind which this stands, and behind that what is left out, breaks off behind them.
+pub(crate) fn is_broken_behind(
+    format: Format,
+    bodies: &[Vec<u8>],
+    behind: Behind,
+    left: &Left,
+) -> bool
+    ensures { (file : List ℕ)
+        → (bodies_of bodies.now ≡ []) ⊎ IsBehind (behind_text format (bodies_of bodies.now) file) behind
+        → IsLeftOut format (bodies_of bodies.now) file left.now
+        → result ≡ breaks_behind format (bodies_of bodies.now) file }
+{
+    is_broken(format, bodies, behind) || stops_short(bodies, left)
+}
+
+// Whether it stops short of what is left out.
+fn stops_short(bodies: &[Vec<u8>], left: &Left) -> bool
+    ensures { result ≡ has_own (generation (bodies_of bodies.now)) left.now.distance (bodies_of left.now.bodies.items) }
+{
+    is_own_left(&left.bodies, generation_of_bodies(bodies), left.distance)
 }
 
 // Whether these bytes, which stand behind a file's name, are a boot's record that chains behind the other format's.

@@ -1,10 +1,11 @@
 //! One record of a log that is read: by way of a window, and where it is long mostly straight into its body.
-ghost use Rattle.std.specs.Prelude.{◌≡◌, ◌≢◌, ◌⊎◌, ◌+◌, ◌-◌, ◌≤◌, ◌<◌, List, ℕ, length, take, drop, OnOk, IfOk, IfErr, IfSome, MatchResult};
+ghost use Rattle.std.specs.Prelude.{◌≡◌, ◌≢◌, ◌⊎◌, ◌+◌, ◌-◌, ◌≤◌, ◌<◌, List, ℕ, false, length, take, drop, Some, OnOk, IfOk, IfErr, IfSome, MatchResult};
 ghost use Rattle.std.specs.Int.{w32, to_be_bytes};
 ghost use Rattle.xa_disk.specs.{Disk.Same, Disk.CountsFault, Time.TimePasses, declared.counts.Counts.Counts};
 ghost use Rattle.xa_log.specs.Answers.{CountsDevice};
 ghost use Rattle.xa_log.specs.Calls.{Fetched, FetchedWithin, FetchedUpto, FetchedNext, Reaches, ReachesTo};
-ghost use Rattle.xa_log.specs.{Chain.most_body, Chain.size_at, Reading.Finds, Reading.Fits};
+ghost use Rattle.xa_log.specs.{Chain.is_record, Chain.most_body, Chain.size_at, Reading.Finds, Reading.Fits};
+ghost use Rattle.xa_log.specs.Shown.{IsShown, Shows, FetchedShown, as_found};
 ghost use Rattle.xa_log.specs.Window.{Caches, Covers, Ahead};
 
 use crate::OpenFault;
@@ -21,6 +22,15 @@ use xa_limits::{AROUND_BODY, DIGEST_BYTES, LENGTH_BYTES, MOST_BODY, MOST_BODY_OF
 pub struct Found {
     pub body: Vec<u8>,
     pub digest: [u8; DIGEST_BYTES],
+    pub span: Span,
+}
+
+/// A record that is shown, whether or not it chains: its body, the digest that stands behind it, and what the window has
+/// by then.
+#[derive(Debug, Drop)]
+pub struct Shown {
+    pub body: Vec<u8>,
+    pub stored: [u8; DIGEST_BYTES],
     pub span: Span,
 }
 
@@ -232,8 +242,8 @@ fn read_body<D: Disk>(
     Ok((body, span))
 }
 
-// The record of a body of this size that stands at an offset, if it chains. A window has its length.
-fn record_at<D: Disk>(
+// The record that is shown at an offset, with a body of this size. A window has its length.
+fn shown_at<D: Disk>(
     alloc: Global,
     disk: &mut D,
     window: &mut [u8],
@@ -241,8 +251,7 @@ fn record_at<D: Disk>(
     at: u64,
     size: usize,
     len: u64,
-    prev: &[u8; DIGEST_BYTES],
-) -> Result<Option<Found>, OpenFault>
+) -> Result<Shown, OpenFault>
     requires room { length window.old ≡ WINDOW }
     requires some { 1 ≤ size }
     requires small { size ≤ MOST_BODY }
@@ -251,26 +260,85 @@ fn record_at<D: Disk>(
     requires begins { span.from ≤ at }
     requires reaches { at + LENGTH_BYTES ≤ span.from + span.have }
     requires inside { span.from + span.have ≤ len }
-    ensures finds { (format : Format) → size ≤ most_body format
-        → D.honest → len ≡ length (D.seen disk.old) → Caches (D.seen disk.old) window.old span
+    ensures shown { D.honest → Caches (D.seen disk.old) window.old span
         → take LENGTH_BYTES (drop at (D.seen disk.old)) ≡ to_be_bytes w32 size
-        → IfOk result (Finds format prev.now (D.seen disk.old) at window.new) }
+        → IfOk result (IsShown (D.seen disk.old) at window.new) }
     ensures fits { (format : Format) → size ≤ most_body format
-        → IfOk result (λ o. IfSome o (Fits format at len WINDOW)) }
+        → IfOk result (λ s. Fits format at len WINDOW (as_found s)) }
     ensures same { D.honest → D.seen disk.new ≡ D.seen disk.old }
     ensures time { D.honest → TimePasses D.Disk Same disk.old disk.new }
     ensures count { CountsDevice result (D.failures disk.old) (D.failures disk.new) }
     ensures kinds { IfErr result (λ e. (e ≡ OpenFault.Device) ⊎ (e ≡ OpenFault.Memory)) }
     ensures fetched { (start : Counts) (most : ℕ) → Fetched len (span.from + span.have) start (D.counts disk.old)
         → ReachesTo (at + (AROUND_BODY + size)) (span.from + span.have) most
-        → MatchResult result (FetchedNext len most start (D.counts disk.new))
+        → MatchResult result (λ s. FetchedUpto len most start (D.counts disk.new) s.span)
         (λ _. FetchedWithin len most start (D.counts disk.new)) }
 {
     let (body, span) = read_body(alloc, disk, window, span, at, size, len)?;
     let tail = (at + (LENGTH_BYTES + size) as u64 - span.from) as usize;
-    match chained(&body, &window[tail..tail + DIGEST_BYTES], prev) {
-        Some(digest) => Ok(Some(Found { body, digest, span })),
-        None => Ok(None),
+    let mut stored = [0; DIGEST_BYTES];
+    stored.copy_from_slice(&window[tail..tail + DIGEST_BYTES]);
+    Ok(Shown { body, stored, span })
+}
+
+// The record that is shown at an offset of a file of this format, whether or not it chains, if one is.
+pub(crate) fn next_shown<D: Disk>(
+    alloc: Global,
+    disk: &mut D,
+    window: &mut [u8],
+    span: Span,
+    at: u64,
+    len: u64,
+    format: Format,
+) -> Result<Option<Shown>, OpenFault>
+    requires room { length window.old ≡ WINDOW }
+    requires within { at ≤ len }
+    requires held { span.have ≤ WINDOW }
+    requires begins { span.from ≤ at }
+    requires reaches { at ≤ span.from + span.have }
+    requires inside { span.from + span.have ≤ len }
+    ensures shows { D.honest → len ≡ length (D.seen disk.old) → Caches (D.seen disk.old) window.old span
+        → IfOk result (Shows format (D.seen disk.old) at window.new) }
+    ensures fits { IfOk result (λ o. IfSome o (λ s. Fits format at len WINDOW (as_found s))) }
+    ensures small { IfOk result (λ o. IfSome o (λ s. length s.body.items ≤ MOST_BODY)) }
+    ensures same { D.honest → D.seen disk.new ≡ D.seen disk.old }
+    ensures time { D.honest → TimePasses D.Disk Same disk.old disk.new }
+    ensures count { CountsDevice result (D.failures disk.old) (D.failures disk.new) }
+    ensures kinds { IfErr result (λ e. (e ≡ OpenFault.Device) ⊎ (e ≡ OpenFault.Memory)) }
+    ensures fetched { (start : Counts) (most : ℕ) → Fetched len (span.from + span.have) start (D.counts disk.old)
+        → Reaches (λ size. D.honest → len ≡ length (D.seen disk.old) → Caches (D.seen disk.old) window.old span
+        → size ≡ size_at (drop at (D.seen disk.old))) (most_body format) len at (span.from + span.have) most
+        → MatchResult result (FetchedShown len most start (D.counts disk.new))
+        (λ _. FetchedWithin len most start (D.counts disk.new)) }
+{
+    if len - at < AROUND_BODY as u64 {
+        return Ok(None);
+    }
+    let span = fill(disk, window, span, at, LENGTH_BYTES, len)?;
+    let begin = (at - span.from) as usize;
+    let size = size_of(&window[begin..begin + LENGTH_BYTES]);
+    if size == 0 || size > format.most_body() || len - at < AROUND_BODY as u64 + size as u64 {
+        return Ok(None);
+    }
+    let shown = shown_at(alloc, disk, window, span, at, size, len)?;
+    Ok(Some(shown))
+}
+
+// The record that is shown, if it chains behind one of this digest.
+pub(crate) fn chain_on(shown: Shown, prev: &[u8; DIGEST_BYTES]) -> Result<Found, Shown>
+    requires { length shown.body.items ≤ MOST_BODY }
+    ensures kept { MatchResult result (λ f. (f.body ≡ shown.body) × (f.span ≡ shown.span)) (λ s. s ≡ shown) }
+    ensures chains { (format : Format) (file window : List ℕ) (at : ℕ) → Shows format file at window (Some shown)
+        → MatchResult result (λ f. Finds format prev.now file at window (Some f))
+        (λ _. is_record format prev.now (drop at file) ≡ false) }
+{
+    match chained(&shown.body, &shown.stored, prev) {
+        Some(digest) => Ok(Found {
+            body: shown.body,
+            digest,
+            span: shown.span,
+        }),
+        None => Err(shown),
     }
 }
 
@@ -304,14 +372,8 @@ pub(crate) fn next_record<D: Disk>(
         → MatchResult result (FetchedNext len most start (D.counts disk.new))
         (λ _. FetchedWithin len most start (D.counts disk.new)) }
 {
-    if len - at < AROUND_BODY as u64 {
-        return Ok(None);
+    match next_shown(alloc, disk, window, span, at, len, format)? {
+        None => Ok(None),
+        Some(shown) => Ok(chain_on(shown, prev).ok()),
     }
-    let span = fill(disk, window, span, at, LENGTH_BYTES, len)?;
-    let begin = (at - span.from) as usize;
-    let size = size_of(&window[begin..begin + LENGTH_BYTES]);
-    if size == 0 || size > format.most_body() || len - at < AROUND_BODY as u64 + size as u64 {
-        return Ok(None);
-    }
-    record_at(alloc, disk, window, span, at, size, len, prev)
 }

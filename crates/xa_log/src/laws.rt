@@ -1,7 +1,7 @@
 //! What can be said of every log, and of logs on disks in memory.
 ghost use Rattle.std.specs.Prelude.{List, ℕ};
 ghost use Rattle.xa_log.specs.{Group.NoChance, Group.PlainByBody, Pair.CalmTears, Checkpoint.SealTears};
-ghost use Rattle.xa_log.specs.Laws.{BehindLaw, PairLaw, AppendLaw, HeaderLaw, SealLaw, OpenedLaw, StrayLaw, StaleLaw, MixedLaw};
+ghost use Rattle.xa_log.specs.Laws.{BehindLaw, PairLaw, AppendLaw, HeaderLaw, SealLaw, OpenedLaw, StrayLaw, StaleLaw, MixedLaw, TailLaw};
 
 use xa_disk::{Disk, MemDisk};
 
@@ -51,7 +51,9 @@ pub fn no_stale_record()
     ensures { StaleLaw }
 {}
 
-/// An append that is torn between bytes leaves behind a snapshot what stood there or what was written, so no damage.
+/// An append that is torn between bytes leaves behind a snapshot what stood there or what was written, so no damage; and
+/// whatever it leaves of a group's records, the log doesn't stop short by them.
 pub fn torn_append_is_whole()
-    ensures { MixedLaw }
+    ensures snapshot { MixedLaw }
+    ensures tail { TailLaw }
 {}

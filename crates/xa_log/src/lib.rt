@@ -8,17 +8,21 @@
 //!   that is to be settled; `group`: `Group`, what is appended together; `appending`: how it goes to the disk, and
 //!   `Appended`, what became of it
 //! - `ahead`: how far a file is made ready ahead of its log, by pieces of `READY_BYTES`
-//! - `checkpointing`: how a checkpoint goes to the other disk, in its three parts; `end_of`, whether it fits
+//! - `checkpointing`: how a checkpoint goes to the other disk, in its three parts; `end_of`, whether it fits; `shortening`: how
+//!   its file is cut where it reaches more than `SPARE_BYTES` behind it
 //! - `opening`: making and reading a log on disks that are lent: `create_on`, `open_on`, `read_log`,
 //!   `read_log_damage`
-//! - `opened`: `Opened`, a log that was made or read so, without its disks
+//! - `opened`: `Opened`, a log that was made or read so, without its disks; `leaving`: `PassedOver`, what it passed over
 //! - `looking`: which of two files is the current one, by the number in its first body, `heads`; `generation`: that
 //!   number, of bodies; `finding`: `find_damage`, where two files are damaged
+//! - `ending`: `end_damage`, a damaged log is ended before what isn't as it was written
 //! - `standing`: what stands in a file, by its beginning; `unfit`: `unfit_file`, which of two files is missing or is no
 //!   log's, with what a crash makes of two that fit, `fit_has_no_stray`, `interrupted_stays_fit`, `interrupted_is_no_stray`
 //! - `reading`, `window`: reading a file record by record, and in pieces; `found`: one record, by way of a window or
 //!   straight into its body; `behind`: what stands behind the last one
-//! - `damage`: whether a log breaks off in the records that a checkpoint wrote, `LEAST_APPENDED`, `MOST_APPENDED`
+//! - `contents`: `read_contents`, what stands in one of the files, whichever is the current one
+//! - `damage`: whether a log breaks off, in the records that a checkpoint wrote (`LEAST_APPENDED`, `MOST_APPENDED`) or behind
+//!   them; `left_out`: what chains behind a record that doesn't, and the bound of groups, `MOST_GROUP`
 //! - `format`: `Format`, a file's first bytes and its limit of bodies; `record`: the bytes of a record
 //! - `fault`: `OpenFault`, why a file's bytes aren't taken as a log
 //! - `laws`: `pair_is_current`, `pair_is_current_or_new` and `opened_is_pair`, which log two files have;
@@ -34,7 +38,9 @@ mod ahead;
 mod appending;
 mod behind;
 mod checkpointing;
+mod contents;
 mod damage;
+mod ending;
 mod fault;
 mod finding;
 mod format;
@@ -43,6 +49,8 @@ mod generation;
 mod group;
 mod heads;
 mod laws;
+mod leaving;
+mod left_out;
 mod log;
 mod log_group;
 mod looking;
@@ -54,6 +62,7 @@ mod reading;
 mod record;
 mod rescanning;
 mod reserving;
+mod shortening;
 mod standing;
 mod unfit;
 mod window;
@@ -63,7 +72,9 @@ mod written;
 pub use ahead::READY_BYTES;
 pub use appending::Appended;
 pub use checkpointing::{CLEARED_BYTES, end_of};
+pub use contents::{Contents, LogContents, read_contents};
 pub use damage::{BOOT_RECORD, LEAST_APPENDED, MOST_APPENDED};
+pub use ending::{LeftOut, end_at, end_damage};
 pub use fault::OpenFault;
 pub use finding::{Damage, find_damage};
 pub use format::{Format, PREAMBLE_BYTES};
@@ -74,11 +85,14 @@ pub use laws::{
     pair_is_current, pair_is_current_or_new, plain_by_body, stray_is_possible,
     torn_append_is_whole,
 };
+pub use leaving::PassedOver;
+pub use left_out::MOST_GROUP;
 pub use log::Log;
 pub use looking::{NUMBER_END, NUMBER_OFFSET};
 pub use opened::Opened;
 pub use opening::{create_on, open_on, read_log, read_log_damage};
 pub use record::{MOST_RECORD, SHORT_RECORD};
+pub use shortening::SPARE_BYTES;
 pub use standing::{Standing, interrupted_is_no_stray};
 pub use unfit::{Unfit, fit_has_no_stray, interrupted_stays_fit, unfit_file};
 pub use window::{LEAST_READ, WINDOW};

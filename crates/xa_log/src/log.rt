@@ -59,10 +59,10 @@ impl<D> Model for Log<D> {
 }
 
 impl<D: Disk> Log<D> {
-    ghost use Rattle.xa_log.specs.Ahead.{Writes, AppendsBy, IsKnown};
+    ghost use Rattle.xa_log.specs.Ahead.{Writes, AppendsBy, IsCut, IsKnown};
     ghost use Rattle.xa_log.specs.Buffer.{Holds, HoldsEach, KeepsRoom};
     ghost use Rattle.xa_log.specs.Stands.{Stands, Leaves, Moves, Renumbers, Answers};
-    ghost use Rattle.xa_log.specs.TwoFiles.{Pair, AppendsTo, Checkpoints, Swaps, written};
+    ghost use Rattle.xa_log.specs.TwoFiles.{Pair, AppendsTo, Checkpoints, Swaps, closed_end, written};
 
     /// Adds a record of a body that the current file's format takes: the group of one (`append_group`), so one write and
     /// one sync where nothing fails. Takes no memory: there is room for a body of up to `MOST_BODY_OF_ONE` bytes, and for
@@ -138,7 +138,8 @@ impl<D: Disk> Log<D> {
     /// Writes a log of these bodies, each of which the newest format takes, to the other file, in that format. Their
     /// generation is above the log's: an opening takes the file with the greater one, nothing else is written to say
     /// which is current, and the old log stays where it is. Behind the last record go `CLEARED_BYTES` zeros, or as many
-    /// as the limit leaves room for. `Kept`: that file is the current one from then on. `Refused`: the current file
+    /// as the limit leaves room for. A file that is known to reach more than `SPARE_BYTES` behind its new log is cut, if its
+    /// disk does that. `Kept`: that file is the current one from then on. `Refused`: the current file
     /// stays in use. `Full`: they don't fit, with a closing length. Where nothing fails: a
     /// write and a sync, a write a record and a sync, a write and a sync. Takes no memory, as an append does. After
     /// `Lost`, its own or an append's, every checkpoint answers so, and asks nothing of the disks, until a rescan
@@ -161,6 +162,8 @@ impl<D: Disk> Log<D> {
         // Whichever length an append then leaves alone behind its records brings back nothing that stood there.
         ensures cleared { D.honest → result ≡ Appended.Kept → self.old.lost ≡ false
             → IsCleared self.new.log_bytes newest bodies.now (D.seen self.new.disk) }
+        ensures cut { D.honest → D.shortens → result ≡ Appended.Kept → self.old.lost ≡ false
+            → IsCut (closed_end bodies.now) self.old.other_known (D.seen self.new.disk) }
         ensures swaps { self.old.lost ≡ false → Swaps result bodies.now self.old self.new }
         ensures lost { self.old.lost ≡ true → (result ≡ Appended.Lost) × (self.new ≡ self.old) }
         ensures full { self.old.lost ≡ false
@@ -194,6 +197,8 @@ impl<D: Disk> Log<D> {
             &mut self.buffer,
             bodies,
             more,
+            end + LENGTH_BYTES as u64,
+            &mut self.other_known,
         );
         match outcome {
             Appended::Kept => {

@@ -12,9 +12,10 @@ ghost use Rattle.xa_log.specs.Window.{Caches, Covers};
 
 use crate::OpenFault;
 use crate::behind::{Behind, look_behind};
-use crate::damage::{BOOT_RECORD, is_broken, is_lost_first};
+use crate::damage::{BOOT_RECORD, is_broken_behind, is_lost_first};
 use crate::format::Format;
 use crate::found::{Found, next_record};
+use crate::left_out::{next_or_left, none_left};
 use crate::window::{Span, WINDOW, fill};
 use std::alloc::Global;
 use xa_disk::{Disk, DiskFault};
@@ -27,7 +28,9 @@ pub struct Scan {
     pub bodies: Vec<Vec<u8>>,
     pub end: u64,
     pub digest: [u8; DIGEST_BYTES],
-    /// Whether it breaks off in its snapshot (`is_cut`).
+    /// The bodies that chain behind a record that is shown behind these, but doesn't (`left_out`).
+    pub left: Vec<Vec<u8>>,
+    /// Whether it breaks off behind these bodies (`breaks_behind`).
     pub broken: bool,
 }
 
@@ -63,16 +66,18 @@ pub(crate) fn read_records<D: Disk>(
     let mut end = FIRST_OFFSET;
     let mut digest = format.first_digest();
     let mut behind = Behind::Length;
+    let mut left = none_left(alloc);
     let mut next = first;
     'records: loop {
         match next {
             None => {
-                let broken = is_broken(format, &bodies, behind);
+                let broken = is_broken_behind(format, &bodies, behind, &left);
                 return Ok(Scan {
                     format,
                     bodies,
                     end,
                     digest,
+                    left: left.bodies,
                     broken,
                 });
             }
@@ -82,7 +87,11 @@ pub(crate) fn read_records<D: Disk>(
                 bodies.push(found.body)?;
                 let (span, byte) = look_behind(disk, window, found.span, end, len)?;
                 behind = byte;
-                next = next_record(alloc, disk, window, span, end, len, format, &digest)?;
+                let (found, rest) = next_or_left(
+                    alloc, disk, window, span, end, len, format, &digest,
+                )?;
+                next = found;
+                left = rest;
             }
         }
     }

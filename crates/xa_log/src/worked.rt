@@ -1,4 +1,4 @@
-ghost use Rattle.xa_log.specs.Worked.{GreaterGeneration, BeforeTheSeal, StaleTail, Ties, OneLog, SecondFormat, Faults, Damages, LostFirst, Unfits};
+ghost use Rattle.xa_log.specs.Worked.{GreaterGeneration, BeforeTheSeal, StaleTail, Ties, OneLog, SecondFormat, Faults, Damages, LostFirst, LeftBehind, OwnRecords, Unfits};
 
 /// Worked rows of two files, computed on the definitions alone: which of them is current, what is left behind a
 /// checkpoint's records, why none is, and where damage is told.
@@ -12,5 +12,7 @@ pub fn worked_pairs()
     ensures faults { Faults }
     ensures damages { Damages }
     ensures lost_first { LostFirst }
+    ensures left_behind { LeftBehind }
+    ensures own_records { OwnRecords }
     ensures unfits { Unfits }
 {}

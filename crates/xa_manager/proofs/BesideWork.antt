@@ -27,6 +27,7 @@ use Rattle.xa_manager.specs.declared.pending.PendingGroup.{PendingGroup}
 use Rattle.xa_manager.specs.declared.manager.Manager.{Manager}
 use Rattle.xa_manager.specs.declared.together.Asked as asked
 use Rattle.xa_manager.specs.declared.together.Joining.{Joining}
+use Rattle.xa_branch.specs.Room.{AreRooms, rooms_of}
 use Rattle.xa_manager.specs.Answered.{may_want, memory_code}
 use Rattle.xa_manager.specs.Parts.{with_log}
 use Rattle.xa_manager.specs.Pending.{IsPendingFrom, IsGroupOf, WorksApartFrom, WorksBeside, pending_members, work_by}
@@ -87,20 +88,20 @@ module _ {D : Type 0} (disks : Ghosts D) where
 
   -- a call that was done, of the manager with the log before
   pub works : (m m' : Manager D) (f : PendingGroup) (n : ℕ) (request : Request) (reply : Reply) (log : LogView D) (s : State) → IsGroupOf m f → IsPendingFrom disks log m f s
-      → is_work request ≡ true → WorksApartFrom request f → m'.up ≡ m.up → m'.log ≡ m.log → HasDone disks (with_log log m) (Call n request) reply Quiet (with_log log m')
+      → is_work request ≡ true → WorksApartFrom request f → m'.up ≡ m.up → m'.log ≡ m.log → rooms_of (view m').branches ≡ rooms_of (view m).branches → HasDone disks (with_log log m) (Call n request) reply Quiet (with_log log m')
       → IsSomeAnd (step s (Asked (Call n request)) Quiet) (λ a. (a.reply ≡ reply) × IsPendingFrom disks log m' f a.after)
-  works m m' f n request reply log s is fl work apart up same done =
+  works m m' f n request reply log s is fl work apart up same rooms done =
       let stood = tables_up disks (with_log log m) s fl.up fl.stands in
       let it = work_is_now s n request stood.up work in
       let steps : step s (Asked (Call n request)) Quiet ≡ Some it.0 = ap (λ (t : Turn). taken t Quiet) it.1 in
-      let x = subst (λ (o : _). IsSomeAnd o (λ a. (a.reply ≡ reply) × ManagerStandsFor disks (with_log log m') a.after)) steps (done.steps s fl.stands (inr (no_boot request work))) in
+      let x = subst (λ (o : _). IsSomeAnd o (λ a. (a.reply ≡ reply) × ManagerStandsFor disks (with_log log m') a.after)) steps (done.steps s fl.stands (inr (no_restart request work))) in
       subst (λ (o : _). IsSomeAnd o (λ a. (a.reply ≡ reply) × IsPendingFrom disks log m' f a.after)) (sym steps)
       (x.0, pends it.0 x.1 it.1 f.together.members.items refl)
     where
-      no_boot : (q : Request) → is_work q ≡ true → Rattle.xa_model.specs.Events.begins_boot (Call n q) ≡ false
-      no_boot kind.Restart e = absurd (cc e)
-      no_boot kind.Trim e = absurd (cc e)
-      no_boot q e = refl
+      no_restart : (q : Request) → is_work q ≡ true → Rattle.xa_model.specs.Events.is_restart (Call n q) ≡ false
+      no_restart kind.Restart e = absurd (cc e)
+      no_restart kind.Trim e = absurd (cc e)
+      no_restart q e = refl
 
       pends : (a : Answer) → ManagerStandsFor disks (with_log log m') a.after → turn s (Asked (Call n request)) ≡ Now a → (js : List Joining) → f.together.members.items ≡ js → IsPendingFrom disks log m' f a.after
       pends a st now [] e = let none : length f.together.members.items ≡ 0 = ap (λ (l : List Joining). length l) e in absurd (omega (arith, none, is.some))
@@ -113,6 +114,7 @@ module _ {D : Type 0} (disks : Ghosts D) where
             written = subst (λ (l : LogView D). HasWritten disks (bodies_of f.together.bodies.items) f.written log l) (sym same) fl.written;
             at = both.0;
             bodies = ap (λ (l : List Part). map spelled (records_of l)) both.1 ∙ fl.bodies;
+            rooms = subst (AreRooms f.together.prepares.items) (sym rooms) fl.rooms;
           }
 
   map_some : (o : Option Answer) (P Q : Answer → Type 0) → ((a : Answer) → P a → Q a) → IsSomeAnd o P → IsSomeAnd o Q
@@ -122,11 +124,11 @@ module _ {D : Type 0} (disks : Ghosts D) where
   -- it was refused before its row
   pub refused_beside : (m m' : Manager D) (f : PendingGroup) (n : ℕ) (request : Request) (reply : Reply) → IsGroupOf m f → is_work request ≡ true → WorksApartFrom request f
       → Some reply ≡ early_refusal (context_at m.up (view m) n) request → is_memory reply.detail ≡ false
-      → m'.up ≡ m.up → m'.log ≡ m.log → m'.doubt ≡ m.doubt → Stays (view m) (view m') → WorksBeside disks m f (Call n request) reply m'
-  refused_beside m m' f n request reply is work apart refused served up same doubt stays = record {
+      → m'.up ≡ m.up → m'.log ≡ m.log → m'.doubt ≡ m.doubt → Stays (view m) (view m') → rooms_of (view m').branches ≡ rooms_of (view m).branches → WorksBeside disks m f (Call n request) reply m'
+  refused_beside m m' f n request reply is work apart refused served up same doubt stays rooms = record {
     answered = λ l s fl. served_not disks (is_memory reply.detail) _ _ served
-        (map_some (step s (Asked (Call n request)) Quiet) _ _ (λ a x. (x.0, still_pending disks m m' f l a.after up same doubt stays x.1))
-        (works m m f n request reply l s is fl work apart refl refl (refused_done disks (with_log l m) n request reply refused served)));
+        (map_some (step s (Asked (Call n request)) Quiet) _ _ (λ a x. (x.0, still_pending disks m m' f l a.after up same doubt stays rooms x.1))
+        (works m m f n request reply l s is fl work apart refl refl refl (refused_done disks (with_log l m) n request reply refused served)));
     pinned = λ w. absurd (cc (w, served));
     log = same;
     crash = λ l s fl. leaves_still disks l m m' f s same (leaves_pending disks l m f s is fl);
@@ -134,10 +136,10 @@ module _ {D : Type 0} (disks : Ghosts D) where
 
   -- its row wanted memory
   pub wanted_beside : (m m' : Manager D) (f : PendingGroup) (n : ℕ) (request : Request) (reply : Reply) → IsGroupOf m f → may_want request ≡ true → reply ≡ detailed (memory_code request) detail.Memory
-      → m'.up ≡ m.up → m'.log ≡ m.log → m'.doubt ≡ m.doubt → Stays (view m) (view m') → WorksBeside disks m f (Call n request) reply m'
-  wanted_beside m m' f n request reply is may told up same doubt stays =
+      → m'.up ≡ m.up → m'.log ≡ m.log → m'.doubt ≡ m.doubt → Stays (view m) (view m') → rooms_of (view m').branches ≡ rooms_of (view m).branches → WorksBeside disks m f (Call n request) reply m'
+  wanted_beside m m' f n request reply is may told up same doubt stays rooms =
       rw told (record {
-        answered = λ l s fl. still_pending disks m m' f l s up same doubt stays fl;
+        answered = λ l s fl. still_pending disks m m' f l s up same doubt stays rooms fl;
         pinned = λ w. (may, refl);
         log = same;
         crash = λ l s fl. leaves_still disks l m m' f s same (leaves_pending disks l m f s is fl);
@@ -146,12 +148,12 @@ module _ {D : Type 0} (disks : Ghosts D) where
   -- its row was done, and then the records were given the low water
   pub work_done : (m m1 m' : Manager D) (f : PendingGroup) (n : ℕ) (request : Request) (o : Option Reply) (reply : Reply) → IsAsked request → IsGroupOf m f → is_work request ≡ true → WorksApartFrom request f
       → o ≡ None → o ≡ early_refusal (context_at m.up (view m) n) request → (o ≡ None → m.up ≡ false → passes_down (call_of request) ≡ true)
-      → m1.up ≡ m.up → m1.log ≡ m.log → m1.doubt ≡ m.doubt → Follows (view m) (λ s. work_by s n request) reply (view m1)
-      → m'.up ≡ m1.up → m'.log ≡ m1.log → m'.doubt ≡ m1.doubt → Stays (view m1) (view m') → WorksBeside disks m f (Call n request) reply m'
-  work_done m m1 m' f n request o reply event is work apart none h passes up log doubt follows up' log' doubt' stays = record {
+      → m1.up ≡ m.up → m1.log ≡ m.log → m1.doubt ≡ m.doubt → Follows (view m) (λ s. work_by s n request) reply (view m1) → rooms_of (view m1).branches ≡ rooms_of (view m).branches
+      → m'.up ≡ m1.up → m'.log ≡ m1.log → m'.doubt ≡ m1.doubt → Stays (view m1) (view m') → rooms_of (view m').branches ≡ rooms_of (view m1).branches → WorksBeside disks m f (Call n request) reply m'
+  work_done m m1 m' f n request o reply event is work apart none h passes up log doubt follows rooms up' log' doubt' stays rooms' = record {
     answered = λ l s fl. served_not disks (is_memory reply.detail) _ _ follows.served
-        (map_some (step s (Asked (Call n request)) Quiet) _ _ (λ a x. (x.0, still_pending disks m1 m' f l a.after up' log' doubt' stays x.1))
-        (works m m1 f n request reply l s is fl work apart up log
+        (map_some (step s (Asked (Call n request)) Quiet) _ _ (λ a x. (x.0, still_pending disks m1 m' f l a.after up' log' doubt' stays rooms' x.1))
+        (works m m1 f n request reply l s is fl work apart up log rooms
         (follows_done disks (with_log l m) (with_log l m1) n request request o (λ t. work_by t n request) reply event refl (alone request work) (stops request work) none h passes (λ t. row_of t n request work) refl up doubt follows)));
     pinned = λ w. absurd (cc (w, follows.served));
     log = log' ∙ log;

@@ -1,5 +1,5 @@
 -- What a call has done, by its refusals and its row.
-use Rattle.std.proofs.Common.{◌≡◌, ⊎_elim, ℕ, ◌+◌, Bool, true, false, List, Option, Some, None, IsSomeAnd, MatchBool, if◌then◌else◌, refl, ap, sym, ◌∙◌, subst, w32, to_z, of_z}
+use Rattle.std.proofs.Common.{◌≡◌, ◌⊎◌, ⊎_elim, ℕ, ◌+◌, Bool, true, false, List, Option, Some, None, IsSomeAnd, MatchBool, if◌then◌else◌, refl, ap, sym, ◌∙◌, subst, w32, to_z, of_z}
 use Rattle.std.specs.Prelude.{Result, Ok, Err, IsOk, IfOk, OnErr}
 use Rattle.std.specs.declared.alloc.AllocError.{AllocError}
 use Rattle.xa_disk.specs.declared.disk.Disk.{Ghosts}
@@ -207,15 +207,15 @@ module _ {D : Type 0} (disks : Ghosts D) where
       turn_done m m' n request handed o (λ s. Now (act s)) reply Quiet event same other stops none h passes is (takes_row disks m m' act reply Quiet refl log up doubt f)
 
   -- a request that begins a boot, by what its turn does of whichever state the manager stood for
-  boot_done : (m m' : Manager D) (n : ℕ) (request : Request) (reply : Reply) (outcome : Outcome) → asks_boot request ≡ true → ((s : State) → turn_of s (Asked (Call n request)) ≡ asked s.standing (respond s (Call n request)))
+  boot_done : (m m' : Manager D) (n : ℕ) (request : Request) (reply : Reply) (outcome : Outcome) → ((s : State) → turn_of s (Asked (Call n request)) ≡ asked s.standing (respond s (Call n request)))
       → None ≡ early_refusal (context_at m.up (view m) n) request
-      → ((s : State) → ManagerStandsFor disks m s → Trusts disks → AnswersAs disks (taken (row s n request) outcome) reply m')
-      → ((s : State) → ManagerStandsFor disks m s → Trusts disks → HasCalledFor disks (asks_trim request) outcome m.log m'.log)
+      → ((s : State) → ManagerStandsFor disks m s → Trusts disks ⊎ (asks_restart request ≡ false) → AnswersAs disks (taken (row s n request) outcome) reply m')
+      → ((s : State) → ManagerStandsFor disks m s → HasCalledFor disks (asks_trim request) outcome m.log m'.log)
       → ((s : State) → ManagerStandsFor disks m s → Trusts disks → LeavesBy disks m.log (row s n request) outcome m'.log s)
       → is_memory reply.detail ≡ false → HasDone disks m (Call n request) reply outcome m'
-  boot_done m m' n request reply outcome boots alone h answers called leaves served = record {
-    steps = λ s st premises. ⊎_elim (λ trusts. subst (λ (t : Turn). AnswersAs disks (taken t outcome) reply m') (sym (is s st)) (answers s st trusts)) (λ no. absurd (cc (boots, no))) premises;
-    called = λ s st premises. ⊎_elim (λ trusts. called s st trusts) (λ no. absurd (cc (boots, no))) premises;
+  boot_done m m' n request reply outcome alone h answers called leaves served = record {
+    steps = λ s st premises. subst (λ (t : Turn). AnswersAs disks (taken t outcome) reply m') (sym (is s st)) (answers s st premises);
+    called = λ s st premises. called s st;
     crash = λ s st trusts. subst (λ (t : Turn). LeavesBy disks m.log t outcome m'.log s) (sym (is s st)) (leaves s st trusts);
     served = served;
   }
@@ -234,7 +234,8 @@ module _ {D : Type 0} (disks : Ghosts D) where
   restart_done m m' n request r same h =
       both_ok r (λ d x bare. (
         subst (λ (q : Request). HasDone disks m (Call n q) d.reply d.outcome m') (sym same)
-            (boot_done m m' n Restart d.reply d.outcome refl (λ s. restart_alone s n) (subst (λ (q : Request). None ≡ early_refusal (context_at m.up (view m) n) q) same h) x.turn (λ s st trusts. x.called) x.leaves x.served),
+            (boot_done m m' n Restart d.reply d.outcome (λ s. restart_alone s n) (subst (λ (q : Request). None ≡ early_refusal (context_at m.up (view m) n) q) same h)
+            (λ s st premises. ⊎_elim (λ trusts. x.turn s st trusts) (λ no. absurd (cc no)) premises) (λ s st. x.called) x.leaves x.served),
         bare_fresh d.reply bare,
       ))
 
@@ -245,13 +246,13 @@ module _ {D : Type 0} (disks : Ghosts D) where
   trim_done m m' n request r same h =
       both_ok r (λ d x fresh. (
         subst (λ (q : Request). HasDone disks m (Call n q) d.reply d.outcome m') (sym same)
-            (boot_done m m' n Trim d.reply d.outcome refl (λ s. trim_alone s n) (subst (λ (q : Request). None ≡ early_refusal (context_at m.up (view m) n) q) same h) x.turn x.called x.leaves x.served),
+            (boot_done m m' n Trim d.reply d.outcome (λ s. trim_alone s n) (subst (λ (q : Request). None ≡ early_refusal (context_at m.up (view m) n) q) same h) (λ s st premises. x.turn s st) x.called x.leaves x.served),
         fresh,
       ))
 
   -- the outcome is no part of what a manager stands for
   told : (m : Manager D) (o : Outcome) (s : State) → ManagerStandsFor disks m s → ManagerStandsFor disks (record m { outcome = o }) s
-  told m o s st = record { tables = st.tables; roomy = st.roomy; end = st.end; alive = st.alive; modern = st.modern; log_bytes = st.log_bytes; doubt = st.doubt; log = st.log }
+  told m o s st = record { tables = st.tables; roomy = st.roomy; end = st.end; alive = st.alive; modern = st.modern; log_bytes = st.log_bytes; doubt = st.doubt; backed = st.backed; log = st.log }
 
   and_then : (o : Option Answer) (P Q : Answer → Type 0) → ((a : Answer) → P a → Q a) → IsSomeAnd o P → IsSomeAnd o Q
   and_then None P Q f h = h
@@ -331,6 +332,7 @@ module _ {D : Type 0} (disks : Ghosts D) where
     modern = λ e. ap (λ (l : LogView D). l.format) log ∙ st.modern (sym up ∙ e);
     log_bytes = ap (λ (l : LogView D). l.log_bytes) log ∙ st.log_bytes;
     doubt = rw doubt st.doubt;
+    backed = λ e. rw log (st.backed (sym up ∙ e));
     log = λ trusts. rw log (st.log trusts);
   }
 

@@ -13,12 +13,12 @@ use Rattle.xa_model.specs.Answer.{Answer}
 use Rattle.xa_model.specs.Turn.{Asked}
 use Rattle.xa_model.specs.Step.{step}
 use Rattle.xa_model.specs.History.{Entry, Leads, Steps}
-use Rattle.xa_model.specs.Events.{begins_boot}
+use Rattle.xa_model.specs.Events.{is_restart}
 use Rattle.xa_assoc.specs.Refusals.{is_memory}
 use Rattle.xa_manager.specs.declared.manager.Manager.{Manager}
 use Rattle.xa_manager.specs.LogStands.{Trusts}
 use Rattle.xa_manager.specs.Managed.{ManagerStandsFor}
-use Rattle.xa_manager.specs.Answered.{Answered, AnswersAll, ArePinned, FullyAnswered, IsPinned, RunsAll, StaysFor, StepsAs, recorded, no_boot}
+use Rattle.xa_manager.specs.Answered.{Answered, AnswersAll, ArePinned, FullyAnswered, IsPinned, RunsAll, StaysFor, StepsAs, recorded, no_restart}
 
 -- a legal history goes on by one entry
 pub leads_more : (s : State) (es : List Entry) (mid : State) (e : Entry) (s' : State) → Leads s es mid → Steps mid e s' → Leads s (es ++ e ∷ []) s'
@@ -57,34 +57,34 @@ told_more (e ∷ es) (x ∷ os) event o same = ap (λ (n : ℕ). suc n) (told_mo
 
 -- Where there is no restart among the events, there is none before the last, and the last is none.
 
-no_boot_first : (r rest : Bool) → cond r false rest ≡ true → rest ≡ true
-no_boot_first true rest h = absurd (cc h)
-no_boot_first false rest h = h
+no_restart_first : (r rest : Bool) → cond r false rest ≡ true → rest ≡ true
+no_restart_first true rest h = absurd (cc h)
+no_restart_first false rest h = h
 
-no_boot_head : (r rest : Bool) → cond r false rest ≡ true → r ≡ false
-no_boot_head true rest h = absurd (cc h)
-no_boot_head false rest h = refl
+no_restart_head : (r rest : Bool) → cond r false rest ≡ true → r ≡ false
+no_restart_head true rest h = absurd (cc h)
+no_restart_head false rest h = refl
 
-no_boot_both : (r rest : Bool) → r ≡ false → rest ≡ true → cond r false rest ≡ true
-no_boot_both r rest er h = rw er h
+no_restart_both : (r rest : Bool) → r ≡ false → rest ≡ true → cond r false rest ≡ true
+no_restart_both r rest er h = rw er h
 
-no_boot_before : (es : List Event) (event : Event) → no_boot (es ++ event ∷ []) ≡ true → no_boot es ≡ true
-no_boot_before [] event h = refl
-no_boot_before (e ∷ es) event h =
-    no_boot_both (begins_boot e) (no_boot es) (no_boot_head (begins_boot e) (no_boot (es ++ event ∷ [])) h)
-    (no_boot_before es event (no_boot_first (begins_boot e) (no_boot (es ++ event ∷ [])) h))
+no_restart_before : (es : List Event) (event : Event) → no_restart (es ++ event ∷ []) ≡ true → no_restart es ≡ true
+no_restart_before [] event h = refl
+no_restart_before (e ∷ es) event h =
+    no_restart_both (is_restart e) (no_restart es) (no_restart_head (is_restart e) (no_restart (es ++ event ∷ [])) h)
+    (no_restart_before es event (no_restart_first (is_restart e) (no_restart (es ++ event ∷ [])) h))
 
-no_boot_last : (es : List Event) (event : Event) → no_boot (es ++ event ∷ []) ≡ true → begins_boot event ≡ false
-no_boot_last [] event h = no_boot_head (begins_boot event) true h
-no_boot_last (e ∷ es) event h = no_boot_last es event (no_boot_first (begins_boot e) (no_boot (es ++ event ∷ [])) h)
+no_restart_last : (es : List Event) (event : Event) → no_restart (es ++ event ∷ []) ≡ true → is_restart event ≡ false
+no_restart_last [] event h = no_restart_head (is_restart event) true h
+no_restart_last (e ∷ es) event h = no_restart_last es event (no_restart_first (is_restart e) (no_restart (es ++ event ∷ [])) h)
 
-pub trusted_before : (trusts : Type 0) (es : List Event) (event : Event) → trusts ⊎ (no_boot (es ++ event ∷ []) ≡ true) → trusts ⊎ (no_boot es ≡ true)
+pub trusted_before : (trusts : Type 0) (es : List Event) (event : Event) → trusts ⊎ (no_restart (es ++ event ∷ []) ≡ true) → trusts ⊎ (no_restart es ≡ true)
 trusted_before trusts es event (inl t) = inl t
-trusted_before trusts es event (inr h) = inr (no_boot_before es event h)
+trusted_before trusts es event (inr h) = inr (no_restart_before es event h)
 
-pub trusted_last : (trusts : Type 0) (es : List Event) (event : Event) → trusts ⊎ (no_boot (es ++ event ∷ []) ≡ true) → trusts ⊎ (begins_boot event ≡ false)
+pub trusted_last : (trusts : Type 0) (es : List Event) (event : Event) → trusts ⊎ (no_restart (es ++ event ∷ []) ≡ true) → trusts ⊎ (is_restart event ≡ false)
 trusted_last trusts es event (inl t) = inl t
-trusted_last trusts es event (inr h) = inr (no_boot_last es event h)
+trusted_last trusts es event (inr h) = inr (no_restart_last es event h)
 
 -- what is answered and followed
 pub stepped : (Stands : State → Type 0) (reply : Reply) (o : Option Answer) → IsSomeAnd o (λ a. (a.reply ≡ reply) × Stands a.after)

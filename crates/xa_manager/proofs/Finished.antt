@@ -14,7 +14,8 @@ use Rattle.xa_manager.specs.declared.pending.PendingGroup.{PendingGroup}
 use Rattle.xa_manager.specs.declared.manager.Manager.{Manager}
 use Rattle.xa_manager.specs.declared.tables.Tables.{Tables}
 use Rattle.xa_manager.specs.declared.together.Joining.{Joining}
-use Rattle.xa_manager.specs.Acts.{AreDistinct, GiveRoomsBack, MakeRooms, StaysIfDistinct}
+use Rattle.xa_branch.specs.Room.{AreRooms, rooms_of}
+use Rattle.xa_manager.specs.Acts.{AreDistinct, GiveRoomsBack}
 use Rattle.xa_manager.specs.Answered.{HasCalled, StaysFor, as_appended}
 use Rattle.xa_manager.specs.Crash.{LeavesAppend}
 use Rattle.xa_manager.specs.Parts.{with_log}
@@ -26,6 +27,7 @@ use Rattle.xa_manager.specs.Together.{Member, member_of, members_of}
 use Rattle.xa_manager.specs.Turns.{HasAppended, HasSettled, doubt_after}
 use Rattle.xa_manager.specs.View.{view_of}
 use Rattle.xa_manager.proofs.CarriedOut.{finishes, tables_by}
+use Rattle.xa_manager.proofs.Finishing.{with_rooms}
 use Rattle.xa_manager.proofs.GroupFacts.{prepares_distinct}
 use Rattle.xa_manager.proofs.GroupReplies.{replies_are}
 use Rattle.xa_manager.proofs.Taking.{stays_up, tables_up}
@@ -35,39 +37,34 @@ module _ {D : Type 0} (disks : Ghosts D) where
   distinct_prepares m f is = subst AreDistinct (sym is.prepares) (prepares_distinct f.calls.items f.together.members.items is.distinct)
 
   -- it pends on where the tables stand for what they stood for
-  pub still_pending : (m m' : Manager D) (f : PendingGroup) (log : LogView D) (s : State) → m'.up ≡ m.up → m'.log ≡ m.log → m'.doubt ≡ m.doubt → Stays (view m) (view m')
+  pub still_pending : (m m' : Manager D) (f : PendingGroup) (log : LogView D) (s : State) → m'.up ≡ m.up → m'.log ≡ m.log → m'.doubt ≡ m.doubt → Stays (view m) (view m') → rooms_of (view m').branches ≡ rooms_of (view m).branches
       → IsPendingFrom disks log m f s → IsPendingFrom disks log m' f s
-  still_pending m m' f log s up same doubt stays fl = record {
+  still_pending m m' f log s up same doubt stays rooms fl = record {
     stands = stays_up disks (with_log log m) (with_log log m') fl.up up refl doubt stays s fl.stands;
     up = up ∙ fl.up;
     written = subst (λ (l : LogView D). HasWritten disks (bodies_of f.together.bodies.items) f.written log l) (sym same) fl.written;
     at = fl.at;
     bodies = fl.bodies;
+    rooms = subst (AreRooms f.together.prepares.items) (sym rooms) fl.rooms;
   }
-
-  -- where there is no memory for the rooms
-  pub stays_without : (m m' : Manager D) (f : PendingGroup) → IsGroupOf m f → StaysIfDistinct m.tables f.together.prepares.items m'.tables → Stays (view m) (view m')
-  stays_without m m' f is stays s st = stays s (distinct_prepares m f is) st
 
   -- ---- it finishes
 
-  module _ (m mid mid' m' : Manager D) (f : PendingGroup) (a : Appending) (is : IsGroupOf m f) (up : mid.up ≡ m.up) (log_is : mid.log ≡ m.log)
-      (made : MakeRooms m.tables f.together.prepares.items mid.tables) (j : HasSettled disks f.written a mid mid') (log' : m'.log ≡ mid'.log) (up' : m'.up ≡ mid'.up) (doubt' : m'.doubt ≡ mid'.doubt)
+  module _ (m mid' m' : Manager D) (f : PendingGroup) (a : Appending) (is : IsGroupOf m f) (j : HasSettled disks f.written a m mid') (log' : m'.log ≡ mid'.log) (up' : m'.up ≡ mid'.up) (doubt' : m'.doubt ≡ mid'.doubt)
       (took : a ≢ Lost → TakeAnswers mid'.tables f.together.members.items a m'.tables) (gave : a ≡ Lost → GiveRoomsBack mid'.tables f.together.prepares.items m'.tables) where
     pub finished : (log : LogView D) (s : State) → IsPendingFrom disks log m f s → (c : Member) (cs : List Member) → pending_members f ≡ c ∷ cs → FinishesFrom disks log s c cs a m'
     finished log s fl c cs are =
-        let written : HasWritten disks (bodies_of f.together.bodies.items) f.written log mid.log = subst (λ (l : LogView D). HasWritten disks (bodies_of f.together.bodies.items) f.written log l) (sym log_is) fl.written in
-        let there : HasAppended disks (bodies_of f.together.bodies.items) a log mid'.log = j.appended log (bodies_of f.together.bodies.items) written in
+        let there : HasAppended disks (bodies_of f.together.bodies.items) a log mid'.log = j.appended log (bodies_of f.together.bodies.items) fl.written in
         let stood = tables_up disks (with_log log m) s fl.up fl.stands in
         let distinct = distinct_prepares m f is in
-        let rooms : StandsWithRooms f.together.prepares.items (view_of mid'.tables) s = subst (λ (k : Tables). StandsWithRooms f.together.prepares.items (view_of k) s) (sym j.tables) (made s distinct stood) in
+        let rooms : StandsWithRooms f.together.prepares.items (view_of mid'.tables) s = subst (λ (k : Tables). StandsWithRooms f.together.prepares.items (view_of k) s) (sym j.tables) (with_rooms f.together.prepares.items (view m) s fl.rooms stood) in
         finishes disks (with_log log m) m' f.calls.items f.together a s c cs are fl.stands fl.up
         (record {
           at = fl.at;
           appended = subst (λ (l : List (List ℕ)). HasAppended disks l a log m'.log) (sym fl.bodies) (rw log' there);
           tables = λ recoverable. tables_by disks mid'.tables m'.tables f.calls.items f.together s a fl.at distinct is.prepares took gave rooms recoverable;
         })
-        (up' ∙ j.up (up ∙ fl.up)) (doubt' ∙ j.doubt ∙ ap (λ (e : ℕ). doubt_after a e) written.ends.0)
+        (up' ∙ j.up fl.up) (doubt' ∙ j.doubt ∙ ap (λ (e : ℕ). doubt_after a e) fl.written.ends.0)
 
   -- the manager stays so afterwards
   pub finishes_still : (log : LogView D) (s : State) (c : Member) (cs : List Member) (a : Appending) (m' m'' : Manager D) → StaysFor disks m' m'' → m''.log ≡ m'.log

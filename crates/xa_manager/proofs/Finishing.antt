@@ -15,7 +15,7 @@ use Rattle.mv_rules.proofs.Remade.{low_rises}
 use Rattle.xa_xid.specs.Triple.{Triple, xid_eq}
 use Rattle.xa_branch.specs.declared.branches.Branches.{Branches}
 use Rattle.xa_branch.specs.Branches.{BranchesStandFor, lasting_known}
-use Rattle.xa_branch.specs.Room.{HaveRooms, kept_twice, lasting_with}
+use Rattle.xa_branch.specs.Room.{AreRooms, HaveRooms, rooms_of}
 use Rattle.xa_branch.specs.declared.lasting.Lasting.{Lasting}
 use Rattle.xa_branch.proofs.Elsewhere.{stands_elsewhere}
 use Rattle.xa_branch.proofs.Rooms.{no_rooms_left}
@@ -92,27 +92,8 @@ gone_records s xid t r r' sound here time st settles =
 pub moved_end : (m : Branches) (s : State) (end : ℕ) → BranchesStandFor m s → BranchesStandFor m (ending s end)
 moved_end m s end st = stands_elsewhere m s (ending s end) refl refl refl refl refl refl st
 
-lasting_moved : (xids : List Triple) (s : State) (end : ℕ) (q : Triple) → lasting_with xids s q ≡ lasting_with xids (ending s end) q
-lasting_moved [] s end q = refl
-lasting_moved (xid ∷ xids) s end q = ap (λ (o : Option Lasting). cond (xid_eq xid q) (lasting_known (prepared s xid) q) o) (lasting_moved xids s end q)
-
-twice_moved : (xids : List Triple) (s : State) (end : ℕ) → kept_twice xids s ≡ kept_twice xids (ending s end)
-twice_moved [] s end = refl
-twice_moved (xid ∷ xids) s end = ap (λ (n : ℕ). cond (is_at_work (known_of s.branches xid)) 1 0 + n) (twice_moved xids s end)
-
 pub moved_rooms : (xids : List Triple) (m : Branches) (s : State) (end : ℕ) → HaveRooms xids m s → HaveRooms xids m (ending s end)
-moved_rooms xids m s end st = record {
-  boot = st.boot;
-  given = st.given;
-  moment = st.moment;
-  working = st.working;
-  lasting = λ q. st.lasting q ∙ lasting_moved xids s end q;
-  times = st.times;
-  due = st.due;
-  known = st.known ∙ ap (λ (n : ℕ). known_in s + n) (twice_moved xids s end);
-  prepared = st.prepared;
-  completed = st.completed;
-}
+moved_rooms xids m s end st = record { stand = moved_end m s end st.stand; rooms = st.rooms }
 
 -- all rooms were taken, or given back
 pub without_rooms : (m : View) (s : State) → StandsWithRooms [] m s → StandsFor m s
@@ -122,6 +103,30 @@ without_rooms m s st = record {
   up = st.up;
   sessions = st.sessions;
   branches = no_rooms_left m.branches s st.branches;
+  records = st.records;
+  recoverable = st.recoverable;
+}
+
+-- tables stand for the same where branches have their rooms
+
+pub with_rooms : (xids : List Triple) (m : View) (s : State) → AreRooms xids (rooms_of m.branches) → StandsFor m s → StandsWithRooms xids m s
+with_rooms xids m s rooms st = record {
+  name = st.name;
+  log_bytes = st.log_bytes;
+  up = st.up;
+  sessions = st.sessions;
+  branches = record { stand = st.branches; rooms = rooms };
+  records = st.records;
+  recoverable = st.recoverable;
+}
+
+pub beside_rooms : (xids : List Triple) (m : View) (s : State) → StandsWithRooms xids m s → StandsFor m s
+beside_rooms xids m s st = record {
+  name = st.name;
+  log_bytes = st.log_bytes;
+  up = st.up;
+  sessions = st.sessions;
+  branches = st.branches.stand;
   records = st.records;
   recoverable = st.recoverable;
 }

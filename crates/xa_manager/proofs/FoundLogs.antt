@@ -1,9 +1,11 @@
 -- What the log of two files is, and what becomes of it.
 use Rattle.std.proofs.Common.{◌≡◌, ℕ, Bool, true, false, List, [], ◌∷◌, length, cond, refl, sym, ◌∙◌, ap, subst, arith}
+use Rattle.std.proofs.lemmas.Bool.{eq-eqb}
 use Rattle.xa_disk.specs.declared.disk.Disk.{Ghosts}
 use Rattle.xa_log.specs.Chain.{text, logged}
 use Rattle.xa_log.specs.Checkpoint.{IsOther}
-use Rattle.xa_log.specs.Stands.{Stands, EndsBehind, Moves}
+use Rattle.xa_log.specs.Pair.{generation, number_in}
+use Rattle.xa_log.specs.Stands.{Stands, EndsBehind, Moves, Renumbers}
 use Rattle.xa_log.specs.TwoFiles.{Pair, IsOpenPair, AppendsTo, Swaps, second_of}
 use Rattle.xa_log.specs.declared.appending.Appended.{Appended}
 use Rattle.xa_log.specs.declared.appending.Appended.TheVariants.{Kept}
@@ -57,6 +59,14 @@ first_ends o old new was bodies body kept none one moves ends =
       alive = now.2 ∙ ends.alive;
     }
 
+-- and its generation
+pub first_number : {D : Type 0} (o : Appended) (old new : LogView D) (was bodies : List (List ℕ)) (body : List ℕ) → o ≡ Kept → was ≡ [] → bodies ≡ body ∷ []
+    → Renumbers o body old new → EndsBehind was old → new.generation ≡ generation bodies
+first_number o old new was bodies body kept none one numbers ends =
+    let now : Renumbers Kept body old new = subst (λ (x : Appended). Renumbers x body old new) kept numbers in
+    let end : old.end ≡ 8 = ends.end ∙ ap (λ (b : List (List ℕ)). length (text old.format b)) none ∙ none_size old.format in
+    now ∙ ap (λ (first : Bool). cond first (number_in body) old.generation) (eq-eqb old.end 8 end) ∙ ap (λ (b : List (List ℕ)). generation b) (sym one)
+
 -- and of a checkpoint
 pub replaced_ends : {D : Type 0} (o : Appended) (old new : LogView D) (was bodies : List (List ℕ)) → o ≡ Kept → Swaps o bodies old new → EndsBehind was old → EndsBehind bodies new
 replaced_ends o old new was bodies kept swaps ends =
@@ -65,3 +75,7 @@ replaced_ends o old new was bodies kept swaps ends =
       end = now.3 ∙ ap (λ (f : Format). length (text f bodies)) (sym now.2);
       alive = now.5 ∙ ends.alive;
     }
+
+pub replaced_number : {D : Type 0} (o : Appended) (old new : LogView D) (bodies : List (List ℕ)) → o ≡ Kept → Swaps o bodies old new → new.generation ≡ generation bodies
+replaced_number o old new bodies kept swaps =
+    let now : Swaps Kept bodies old new = subst (λ (x : Appended). Swaps x bodies old new) kept swaps in now.6

@@ -20,7 +20,7 @@ number_opened : (boot : ℕ) → boot < 2 ^ 32 → number_in (spelled (logged.Op
 unfolding number_in
 number_opened boot h = from_be_bytes-to_be_bytes_4 boot h
 
-boot_of : (d : Durable) → fold [] ≡ Ok d → d.boot ≡ 0
+pub boot_of : (d : Durable) → fold [] ≡ Ok d → d.boot ≡ 0
 boot_of d e = let same : unread.durable ≡ d = cc e in ap (λ (x : Durable). x.boot) (sym same)
 
 pub newer : (rs : List Record) (d : Durable) → fold rs ≡ Ok d → d.boot < MOST_BOOTS → generation (map spelled rs) < generation (map spelled (snapshot d (d.boot + 1)))

@@ -40,7 +40,7 @@ use Rattle.xa_manager.specs.Stands.{TablesStandFor}
 use Rattle.xa_manager.specs.GroupAnswers.{group_after}
 use Rattle.xa_manager.specs.Turns.{HasAppended, up_after, doubt_after}
 use Rattle.xa_manager.proofs.CrashFiles.{append_files}
-use Rattle.xa_manager.proofs.Stepping.{alive_after, applied_bytes, applied_end, doubt_stands, end_after, format_after, kind_appended, log_after, recoverable_by, tables_at}
+use Rattle.xa_manager.proofs.Stepping.{alive_after, applied_bytes, applied_end, backed_after, doubt_stands, end_after, format_after, kind_appended, log_after, recoverable_by, tables_at}
 
 -- what each of its calls did
 
@@ -167,6 +167,9 @@ module _ {D : Type 0} (disks : Ghosts D) where
       let kept_ : a ≡ Kept → next ≡ applied_all rs s = λ q. ap (λ (b : Appending). group_after b s (p ∷ ps)) q in
       let refused_ : a ≡ Refused → next ≡ left_by_all (p ∷ ps) s = λ q. ap (λ (b : Appending). group_after b s (p ∷ ps)) q in
       let lost_ : a ≡ Lost → next ≡ record (down s) { open_records = rs } = λ q. ap (λ (b : Appending). group_after b s (p ∷ ps)) q in
+      let backed = λ (ls : List Record) (b : Backs ls s). backs_together ls s p ps h up may b in
+      let kept_backs = λ (q : a ≡ Kept) (ls : List Record) (b : Backs ls s). subst (Backs (ls ++ rs)) (sym (kept_ q)) (backed ls b).0 in
+      let left_backs = λ (q : a ≡ Refused) (ls : List Record) (b : Backs ls s). subst (Backs ls) (sym (refused_ q)) (backed ls b).1 in
       record {
         tables = subst (λ (b : Bool). TablesStandFor b (view m') next) (sym now_up) standing;
         roomy = sane.roomy;
@@ -178,10 +181,10 @@ module _ {D : Type 0} (disks : Ghosts D) where
         log_bytes = x.log_bytes ∙ st.log_bytes ∙ sym (bytes_together a s p ps h up may);
         doubt = rw doubt
             (doubt_stands disks s next rs a m.log.end (omega arith) others (st.end is_up) opens.0 opens.1 (λ q. ap (λ (u : State). u.open_records) (lost_ q)) (λ q. ap (λ (u : State). u.end) (lost_ q)));
+        backed = λ e. backed_after disks m.log m'.log s next rs a h (st.end is_up) x kept_backs left_backs (sym now_up ∙ e) (st.backed is_up);
         log = λ trusts.
-            let backed = λ (ls : List Record) (b : Backs ls s). backs_together ls s p ps h up may b in
             log_after disks m.log m'.log s next rs a none others (kinds_appended rs s walk.follow walk.group) x trusts.disk (λ q. ap (λ (u : State). u.open_records) (lost_ q))
-            (λ q ls b. subst (Backs (ls ++ rs)) (sym (kept_ q)) (backed ls b).0) (λ q ls b. subst (Backs ls) (sym (refused_ q)) (backed ls b).1)
+            kept_backs left_backs
             (λ q ls b. subst (Backs ls) (sym (lost_ q)) (backed ls b).2) (st.log trusts);
       }
 

@@ -3,7 +3,7 @@ use Rattle.std.proofs.Common.{◌≡◌, ◌⊎◌, ◌+◌, ◌<◌, ◌≤◌,
 use Rattle.std.specs.Prelude.{map}
 use Rattle.std.specs.List.{AllByRecursion, list_all}
 use Rattle.std.proofs.Math.Bool.{beq}
-use Rattle.std.proofs.lemmas.List.{append_assoc, append-nil, length-map, map-append}
+use Rattle.std.proofs.lemmas.List.{append_assoc, append-nil, length-append, length-map, map-append}
 use Rattle.xa_codes.specs.Flags.{has}
 use Rattle.xa_codes.specs.declared.flags.TheConstants.{TMONEPHASE}
 use Rattle.xa_disk.specs.declared.disk.Disk.{Ghosts}
@@ -29,14 +29,17 @@ use Rattle.xa_manager.specs.declared.together.Asked.{Asked}
 use Rattle.xa_manager.specs.declared.together.Joining.{Joining}
 use Rattle.xa_manager.specs.declared.tables.Tables.{Tables}
 use Rattle.xa_manager.specs.declared.together.Together.{Together}
-use Rattle.xa_manager.specs.Acts.{AreDistinct, StaysIfDistinct}
+use Rattle.xa_manager.specs.Acts.{AreDistinct, GiveRoomsBack, StaysIfDistinct}
 use Rattle.xa_manager.specs.Answered.{StaysFor}
 use Rattle.xa_manager.specs.Managed.{ManagerStandsFor}
+use Rattle.xa_manager.specs.Stands.{StandsFor, TablesStandFor}
+use Rattle.xa_manager.specs.View.{view_of}
 use Rattle.xa_manager.specs.Rows.{asked_row, more_of, record_of, takes_memory}
 use Rattle.xa_manager.specs.Together.{Member, part_of, parts_of, asked_at, member_of, members_of, is_prepare, prepares_of, PreparesFirst}
-use Rattle.xa_manager.specs.Together.{AppendsAlone, AppendAlone, IsGroup, asks_prepare, has_room_behind, HasJoined}
+use Rattle.xa_manager.specs.Together.{AppendsAlone, AppendAlone, AreReady, IsBounded, IsGroup, asks_prepare, has_room_behind, HasJoined}
+use Rattle.xa_log.specs.declared.left_out.TheConstants.{MOST_GROUP}
 use Rattle.xa_manager.proofs.GroupFacts.{prepares_distinct}
-use Rattle.xa_manager.proofs.Taking.{stays_up}
+use Rattle.xa_manager.proofs.Taking.{stays_up, tables_up}
 
 -- ---- lists, and one more behind them
 
@@ -179,6 +182,11 @@ found_room s bytes prepares len sum more w row found is sums mores room e =
     subst (λ (r : Row). has_room_behind s bytes prepares r len ≡ true) (sym is)
     (room_by s.log_bytes _ _ _ _ (length s.decided) (ap (λ (n : ℕ). s.end + (n + 36)) sums) (ap (λ (n : ℕ). prepared_count s + n) mores) (sym room ∙ e))
 
+-- it may have so many bytes with its others
+pub bounded_by : (js : List Joining) (bytes len sum most : ℕ) → sum ≤ most → sum ≡ bytes + len → (js ≡ []) ⊎ (most + 40 ≤ MOST_GROUP) → (js ≡ []) ⊎ (bytes + len + 40 ≤ MOST_GROUP)
+bounded_by js bytes len sum most few is (inl none) = inl none
+bounded_by js bytes len sum most few is (inr short) = inr (omega (arith, few, is, short))
+
 not_passed : (b : Bool) → not b ≡ true → b ≡ false
 not_passed true e = absurd (cc e)
 not_passed false e = refl
@@ -205,6 +213,12 @@ module _ {D : Type 0} (disks : Ghosts D) (m : Manager D) where
   alone_more [] (b ∷ bodies) c body h last = absurd h
   alone_more (q ∷ cs) [] c body h last = absurd h
 
+  alone_many : (cs : List Member) (bodies : List (List ℕ)) → AppendAlone disks m cs bodies → length cs ≡ length bodies
+  alone_many [] [] h = refl
+  alone_many (c ∷ cs) (b ∷ bodies) h = let rest = alone_many cs bodies h.1 in omega (arith, rest)
+  alone_many [] (b ∷ bodies) h = absurd h
+  alone_many (c ∷ cs) [] h = absurd h
+
   -- the records of a group have the bodies' bytes
   bytes_are : (s : State) → ManagerStandsFor disks m s → (cs : List Member) (bodies : List (List ℕ)) → AppendAlone disks m cs bodies → sizes (records_of (parts_of s cs)) ≡ group_bytes bodies
   bytes_are s st [] [] h = refl
@@ -216,6 +230,18 @@ module _ {D : Type 0} (disks : Ghosts D) (m : Manager D) where
       sum_same a b k n e h = omega (arith, e, h)
   bytes_are s st [] (b ∷ bodies) h = absurd h
   bytes_are s st (c ∷ cs) [] h = absurd h
+
+  -- it doesn't become too long
+  bounded_more : (js : List Joining) (cs : List Member) (bodies : List (List ℕ)) (body : List ℕ) (bytes : ℕ) (more : List (List ℕ)) → length cs ≡ length js → AppendAlone disks m cs bodies → bytes ≡ group_bytes bodies → more ≡ bodies ++ body ∷ []
+      → (js ≡ []) ⊎ (bytes + length body + 40 ≤ MOST_GROUP) → IsBounded more
+  bounded_more js cs bodies body bytes more many alone are is (inl none) =
+      let few : length js ≡ 0 = ap (λ (l : List Joining). length l) none in
+      let one = alone_many cs bodies alone in
+      let all = length-append bodies (body ∷ []) in
+      inl (subst (λ (l : List (List ℕ)). length l ≤ 1) (sym is) (omega (arith, few, many, one, all)))
+  bounded_more js cs bodies body bytes more many alone are is (inr short) =
+      let all = group_more bodies body in
+      inr (subst (λ (l : List (List ℕ)). group_bytes l + 4 ≤ MOST_GROUP) (sym is) (omega (arith, all, are, short)))
 
   -- a group that a call joined
   pub joined : (calls : List Asked) (at : ℕ) (call : Asked) (t t' : Together) → at < length calls → asked_at calls at ≡ call → HasJoined disks m at call t t'
@@ -247,6 +273,7 @@ module _ {D : Type 0} (disks : Ghosts D) (m : Manager D) where
             (counted s cs ∙ ap length (sym g.prepares)) (ap length (h.alone.appends s st).1.body_is) (h.may.room s st h.alone.up))));
         prepares = h.last.prepares ∙ ap (λ (l : List Triple). l ++ own_prepare c) g.prepares ∙ sym (prepares_more cs c) ∙ ap prepares_of (sym more);
         first = subst PreparesFirst (sym more) (first_more cs c g.first prepares);
+        bounded = bounded_more js cs bodies h.body t.bytes (bodies_of t'.bodies.items) (length-map js (member_of calls)) g.appends g.bytes h.last.bodies h.may.bounded;
         bytes = h.last.bytes ∙ ap (λ (n : ℕ). n + (36 + length h.body)) g.bytes ∙ sym (group_more bodies h.body) ∙ ap group_bytes (sym h.last.bodies);
       }
 
@@ -283,6 +310,7 @@ module _ {D : Type 0} (disks : Ghosts D) (m : Manager D) where
     prepares = rw members prepares;
     first = rw members tt;
     bytes = rw bodies bytes;
+    bounded = rw bodies (inl (omega arith));
   }
 
 -- ---- its memory
@@ -294,6 +322,27 @@ module _ {D : Type 0} (disks : Ghosts D) (m : Manager D) where
   alone_up (c ∷ cs) (b ∷ bodies) some h = h.0.up
   alone_up [] (b ∷ bodies) some h = absurd h
   alone_up (c ∷ cs) [] some h = absurd h
+
+  -- the rooms that it had are given back
+  pub rooms_back : (m1 : Manager D) (calls : List Asked) (t : Together) (tables : Tables) → 1 ≤ length t.bodies.items → IsGroup disks m calls t → AreReady disks m t m1 → StaysFor disks m m1 → GiveRoomsBack m1.tables t.prepares.items tables
+      → StaysFor disks m (record m1 { tables = tables })
+  rooms_back m1 calls t tables some g ready stays given s st =
+      let many : 1 ≤ length (bodies_of t.bodies.items) = subst (λ (n : ℕ). 1 ≤ n) (sym (length-map t.bodies.items _)) some in
+      let is_up : m.up ≡ true = alone_up (members_of calls t.members.items) (bodies_of t.bodies.items) many g.appends in
+      let distinct : AreDistinct t.prepares.items = subst AreDistinct (sym g.prepares) (prepares_distinct calls t.members.items g.distinct) in
+      let st1 = stays s st in
+      let stood : StandsFor (view_of tables) s = given s distinct (ready.tables s distinct (tables_up disks m s is_up st)) in
+      record {
+        tables = subst (λ (b : Bool). TablesStandFor b (view_of tables) s) (sym (ready.up ∙ is_up)) stood;
+        roomy = st1.roomy;
+        end = st1.end;
+        alive = st1.alive;
+        modern = st1.modern;
+        log_bytes = st1.log_bytes;
+        doubt = st1.doubt;
+        backed = st1.backed;
+        log = st1.log;
+      }
 
   -- tables that made rooms for a group's prepares, or gave them back
   pub group_stays : (calls : List Asked) (t : Together) (tables : Tables) → 1 ≤ length t.bodies.items → IsGroup disks m calls t → StaysIfDistinct m.tables t.prepares.items tables

@@ -18,7 +18,7 @@ use Rattle.xa_model.specs.Logging.{applied}
 use Rattle.xa_model.specs.Invariants.Backing.{Backs, settled, settled_first}
 use Rattle.xa_model.proofs.Booted.{settles_group}
 use Rattle.xa_model.specs.Invariants.Loggable.{is_boot, AreOneGroup}
-use Rattle.xa_manager.specs.LogStands.{Trusts, HasRecords, IsSettled, AreLostAs, LogStandsFor, snapshot_bodies}
+use Rattle.xa_manager.specs.LogStands.{Trusts, HasRecords, LogBacks, IsSettled, AreLostAs, LogStandsFor, snapshot_bodies}
 
 -- ---- the records that settle the fates
 
@@ -69,6 +69,16 @@ settles_part rs lost s found open_is others part =
       subst (λ (l : List Record). many ≤ length l) (sym open_is) (omega (arith, part.within, length-map lost spelled)),
       part.is ∙ (ap (λ (l : List (List ℕ)). map spelled rs ++ l) (take-map spelled many lost) ∙ (sym (map-append spelled rs (take many lost)) ∙ ap (λ (us : List Record). map spelled us) (sym settles))),
     )
+
+-- ---- whatever the files hold
+
+-- a log of the same generation
+pub still_backed : {D : Type 0} (log log' : LogView D) (s : State) → log'.generation ≡ log.generation → LogBacks log s → LogBacks log' s
+still_backed log log' s same b = record { records = b.records; backs = b.backs; number = same ∙ b.number }
+
+-- a state behind which the same records stand
+pub backed_alike : {D : Type 0} (log : LogView D) (s t : State) → ((rs : List Record) → Backs rs s → Backs rs t) → LogBacks log s → LogBacks log t
+backed_alike log s t backs b = record { records = b.records; backs = backs b.records b.backs; number = b.number }
 
 -- ---- under the premises on a type of disks
 

@@ -19,6 +19,7 @@ use Rattle.xa_branch.specs.Branches.{BranchesStandFor}
 use Rattle.mv_rules.specs.Records.{StandsFor as RecordsStandFor}
 use Rattle.mv_rules.specs.Ties.{history_of}
 use Rattle.xa_log.specs.Chain.{newest}
+use Rattle.xa_log.specs.Pair.{generation}
 use Rattle.xa_log.specs.Stands.{EndsBehind}
 use Rattle.xa_manager.specs.declared.manager.Manager.{Manager}
 use Rattle.xa_manager.specs.Managed.{view, ManagerStandsFor}
@@ -64,10 +65,10 @@ pub new_stands : {D : Type 0} (disks : Ghosts D) (m : Manager D) (d : Durable) (
     → ((s : State) → s.sessions ≡ [] → s.associations ≡ [] → SessionsStandFor (view m).sessions s)
     → ((s : State) → IsRestored d next s → s.moment ≡ 0 → BranchesStandFor (view m).branches s)
     → ((s : State) → IsRestored d next s → s.moment ≡ 0 → RecordsStandFor (history_of s) (view m).records)
-    → EndsBehind (map spelled (snapshot d next)) m.log → m.log.format ≡ newest → (disks.honest → HasBodies disks (map spelled (snapshot d next)) m.log)
+    → EndsBehind (map spelled (snapshot d next)) m.log → m.log.format ≡ newest → m.log.generation ≡ generation (map spelled (snapshot d next)) → (disks.honest → HasBodies disks (map spelled (snapshot d next)) m.log)
     → AllByRecursion IsRecord (snapshot d next) → IsDurable d → d.boot < next → has_boot_room log_bytes d next ≡ true
     → (s : State) → IsRestored d next s → s.name ≡ name → s.log_bytes ≡ log_bytes → s.sessions ≡ [] → s.moment ≡ 0 → ManagerStandsFor disks m s
-new_stands disks m d next name log_bytes up doubt named sized bytes sessions branches records ends modern has limits form less room s it name_is bytes_is none now = record {
+new_stands disks m d next name log_bytes up doubt named sized bytes sessions branches records ends modern number has limits form less room s it name_is bytes_is none now = record {
   tables = subst (λ (b : Bool). TablesStandFor b (view m) s) (sym up) (record {
     name = named ∙ sym name_is;
     log_bytes = sized ∙ sym bytes_is;
@@ -83,5 +84,6 @@ new_stands disks m d next name log_bytes up doubt named sized bytes sessions bra
   modern = λ is_up. modern;
   log_bytes = bytes ∙ sym bytes_is;
   doubt = rw doubt it.open_records;
+  backed = λ is_up. record { records = snapshot d next; backs = restored_backed d next s form less limits it; number = number };
   log = λ trusts. stands_whole disks m.log s (snapshot d next) (restored_backed d next s form less limits it) (has trusts.disk);
 }

@@ -13,7 +13,7 @@ use Rattle.xa_manager.specs.Managed.{view}
 use Rattle.xa_manager.specs.Answered.{StaysFor}
 use Rattle.xa_manager.specs.CrashLaws.{ReadStands}
 use Rattle.xa_manager.proofs.CrashFiles.{read_leaves}
-use Rattle.xa_manager.proofs.LogsBehind.{stands_kept}
+use Rattle.xa_manager.proofs.LogsBehind.{stands_kept, still_backed}
 
 pub tables_recoverable : (up : Bool) (m : View) (s : State) → TablesStandFor up m s → IsRecoverable s
 tables_recoverable true m s t = t.recoverable
@@ -35,5 +35,6 @@ planned_stays disks m log u k s stands = record {
   modern = λ up. u.format ∙ stands.modern up;
   log_bytes = u.log_bytes ∙ stands.log_bytes;
   doubt = stands.doubt;
+  backed = λ up. still_backed m.log log s u.number (stands.backed up);
   log = λ trusts. stands_kept disks m.log log s k.state (stands.log trusts);
 }

@@ -1,5 +1,5 @@
 -- A log whose buffer alone may have grown: what is said of it is said of the log that it was.
-use Rattle.std.proofs.Common.{◌≡◌, ◌≤◌, ◌+◌, ℕ, Bool, true, false, not, max, List, [], ◌∷◌, length, refl, ap, sym, ◌∙◌, subst, arith, inl, inr}
+use Rattle.std.proofs.Common.{◌≡◌, ◌≤◌, ◌+◌, ℕ, Bool, true, false, cond, nat_eq, not, max, List, [], ◌∷◌, length, refl, ap, sym, ◌∙◌, subst, arith, inl, inr}
 use Rattle.std.specs.Prelude.{fold}
 use Rattle.std.specs.List.{AllByRecursion}
 use Rattle.xa_disk.specs.Disk.{Same}
@@ -8,10 +8,10 @@ use Rattle.xa_disk.specs.declared.disk.Disk.{Ghosts}
 use Rattle.xa_log.specs.Buffer.{Holds, HoldsEach}
 use Rattle.xa_log.specs.Chain.{IsBody, logged, most_body, newest, text}
 use Rattle.xa_log.specs.Checkpoint.{IsOther}
-use Rattle.xa_log.specs.Group.{as_one}
+use Rattle.xa_log.specs.Group.{as_one, first_of_group}
 use Rattle.xa_log.specs.LogStates.{Whole}
-use Rattle.xa_log.specs.Pair.{beats, has_log}
-use Rattle.xa_log.specs.Stands.{EndsBehind, Moves}
+use Rattle.xa_log.specs.Pair.{beats, has_log, number_in}
+use Rattle.xa_log.specs.Stands.{EndsBehind, Moves, Renumbers}
 use Rattle.xa_log.specs.TwoFiles.{Pair, IsOpenPair, first_of, second_of}
 use Rattle.xa_log.specs.declared.appending.Appended.{Appended}
 use Rattle.xa_log.specs.declared.appending.Appended.TheVariants as appended
@@ -77,11 +77,18 @@ module _ {D : Type 0} (disks : Ghosts D) (old new : LogView D) (r : HasReserved 
   moves_same Lost n after m =
       (m.0 ∙ r.fields.end, m.1 ∙ r.fields.format, m.2 ∙ r.fields.digest, m.3, m.4 ∙ r.fields.known, m.5 ∙ r.fields.other_known)
 
+  numbers_same : (a : Appending) (body : List ℕ) (after : LogView D) → Renumbers (as_appended a) body new after → Renumbers (as_appended a) body old after
+  numbers_same Kept body after m =
+      m ∙ ap (λ (e : ℕ). cond (nat_eq e 8) (number_in body) new.generation) r.fields.end ∙ ap (λ (n : ℕ). cond (nat_eq old.end 8) (number_in body) n) r.fields.number
+  numbers_same Refused body after m = m ∙ r.fields.number
+  numbers_same Lost body after m = m ∙ r.fields.number
+
   pub appended_same : (group : List (List ℕ)) (a : Appending) (after : LogView D) → HasAppended disks group a new after → HasAppended disks group a old after
   appended_same group a after h = record {
     log_bytes = h.log_bytes ∙ r.fields.log_bytes;
     other = (h.other.0 ∙ r.files.1, h.other.1 ∙ r.fields.on_first);
     moves = moves_same a (as_one group) after h.moves;
+    numbers = numbers_same a (first_of_group group) after h.numbers;
     pair = λ honest bodies stood p kinds. h.pair honest bodies stood (pair_same bodies stood p) kinds;
     calls = rw (← r.fields.end, ← r.fields.log_bytes, ← r.fields.known, ← r.files.0) h.calls;
     leaves = λ honest bodies st. rw (← r.fields.log_bytes, ← r.fields.format, ← r.files.0) (h.leaves honest bodies (r.keeps.stands bodies st));

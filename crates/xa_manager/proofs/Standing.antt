@@ -8,6 +8,7 @@ use Rattle.xa_record.specs.declared.record.Record.TheVariants as logged
 use Rattle.xa_log.specs.Chain.{newest, text}
 use Rattle.xa_limits.specs.declared.TheConstants.{LENGTH_BYTES}
 use Rattle.xa_log.specs.LogView.{LogView}
+use Rattle.xa_log.specs.Pair.{generation}
 use Rattle.xa_log.specs.Checkpoint.{IsQuiet}
 use Rattle.xa_log.specs.TwoFiles.{Pair, MaySeal}
 use Rattle.xa_model.specs.State.{State, Up, Down, Ended}
@@ -41,7 +42,7 @@ use Rattle.xa_manager.specs.Stands.{StandsFor, StandsDown, TablesStandFor}
 use Rattle.xa_manager.specs.LogStands.{Trusts, HasRecords, LogStandsFor}
 use Rattle.xa_manager.specs.Managed.{view, Doubts, ManagerStandsFor}
 use Rattle.xa_manager.specs.Rereading.{IsFate, Found}
-use Rattle.xa_manager.proofs.LogsBehind.{stands_whole, stands_seal, stands_alike}
+use Rattle.xa_manager.proofs.LogsBehind.{stands_whole, stands_seal, stands_alike, still_backed}
 use Rattle.xa_manager.proofs.Survivors.{none_found}
 use Rattle.xa_manager.proofs.Fates.{fate_same, fate_settled, fate_recoverable, failed_recoverable, fate_room, down_backed, lost_room, begun_backed, begun_room}
 
@@ -65,9 +66,9 @@ is_up false k s h e = absurd (cc e)
 -- the log alone changed
 pub still_stands : {D : Type 0} (disks : Ghosts D) (m m' : Manager D) (s : State)
     → m'.tables ≡ m.tables → m'.up ≡ m.up → m'.doubt ≡ m.doubt → (m.up ≡ true → m'.log.end ≡ s.end) → (m.up ≡ true → m'.log.lost ≡ false)
-    → (m.up ≡ true → m'.log.format ≡ newest) → m'.log.log_bytes ≡ m.log.log_bytes
+    → (m.up ≡ true → m'.log.format ≡ newest) → (m.up ≡ true → m'.log.generation ≡ m.log.generation) → m'.log.log_bytes ≡ m.log.log_bytes
     → (Trusts disks → LogStandsFor disks m'.log s) → ManagerStandsFor disks m s → ManagerStandsFor disks m' s
-still_stands disks m m' s tables up doubt end alive modern bytes log st = record {
+still_stands disks m m' s tables up doubt end alive modern number bytes log st = record {
   tables = subst (λ (b : Bool). TablesStandFor b (view m') s) (sym up) (subst (λ (t : Tables). TablesStandFor m.up (view_of t) s) (sym tables) st.tables);
   roomy = st.roomy;
   end = λ is. end (sym up ∙ is);
@@ -75,6 +76,7 @@ still_stands disks m m' s tables up doubt end alive modern bytes log st = record
   modern = λ is. modern (sym up ∙ is);
   log_bytes = bytes ∙ st.log_bytes;
   doubt = subst (λ (d : Option Doubt). Doubts d s) (sym doubt) st.doubt;
+  backed = λ is. still_backed m.log m'.log s (number (sym up ∙ is)) (st.backed (sym up ∙ is));
   log = log;
 }
 
@@ -106,13 +108,15 @@ down_stands disks m m' s t b rs tables up doubt bytes st fate backs has =
       modern = λ is. absurd (cc (is, up));
       log_bytes = bytes ∙ (st.log_bytes ∙ sym (fate_same b s t fate).log_bytes);
       doubt = subst (λ (d : Option Doubt). Doubts d (down t)) (sym doubt) none;
+      backed = λ is. absurd (cc (is, up));
       log = λ trusts. stands_whole disks m'.log (down t) rs (down_backed rs t t.open_records backs) has;
     }
 
 -- a checkpoint was lost
 pub lost_stands : {D : Type 0} (disks : Ghosts D) (m m' : Manager D) (s t : State) (b : ℕ) (rs : List Record)
     → m'.tables ≡ m.tables → m'.up ≡ false → m'.doubt ≡ Some (Boot (t.logged_boot + 1)) → m'.log.log_bytes ≡ m.log.log_bytes → ManagerStandsFor disks m s → IsFate b s t → Backs rs t
-    → t.logged_boot < MOST_BOOTS → MaySeal disks (map spelled rs) (map spelled (snapshot (durable t) (t.logged_boot + 1))) m'.log
+    → t.logged_boot < MOST_BOOTS
+    → (Trusts disks → (ls : List Record) × Backs ls t × MaySeal disks (map spelled ls) (map spelled (snapshot (durable t) (t.logged_boot + 1))) m'.log)
     → ManagerStandsFor disks m' (record (down t) { open_records = logged.Opened (t.logged_boot + 1) ∷ [] })
 lost_stands disks m m' s t b rs tables up doubt bytes st fate backs less seal =
     let h = outside m.up (view m) s st.tables in
@@ -128,7 +132,10 @@ lost_stands disks m m' s t b rs tables up doubt bytes st fate backs less seal =
       modern = λ is. absurd (cc (is, up));
       log_bytes = bytes ∙ (st.log_bytes ∙ sym (fate_same b s t fate).log_bytes);
       doubt = subst (λ (d : Option Doubt). Doubts d after) (sym doubt) refl;
-      log = λ trusts. stands_seal disks m'.log after rs boot (down_backed rs t (logged.Opened boot ∷ []) backs) refl seal;
+      backed = λ is. absurd (cc (is, up));
+      log = λ trusts.
+          let it = seal trusts in
+          stands_seal disks m'.log after it.0 boot (down_backed it.0 t (logged.Opened boot ∷ []) it.1) refl it.2;
     }
 
 -- so a restart may begin from there
@@ -150,9 +157,10 @@ pub begun_stands : {D : Type 0} (disks : Ghosts D) (m m' : Manager D) (s t : Sta
     → ((x : State) → IsRestored (durable t) (t.logged_boot + 1) x → x.moment ≡ m.tables.branches.moment → BranchesStandFor m'.tables.branches x)
     → ((x : State) → IsRestored (durable t) (t.logged_boot + 1) x → x.moment ≡ m.tables.branches.moment → RecordsStandFor (history_of x) m'.tables.records)
     → m'.log.end ≡ 8 + sizes (snapshot (durable t) (t.logged_boot + 1)) → m'.log.lost ≡ false → m'.log.format ≡ newest
+    → m'.log.generation ≡ generation (map spelled (snapshot (durable t) (t.logged_boot + 1)))
     → HasRecords disks (snapshot (durable t) (t.logged_boot + 1)) m'.log
     → ManagerStandsFor disks m' (restarted t (t.logged_boot + 1))
-begun_stands disks m m' s t b rs name log_bytes up doubt bytes st fate backs less sessions branches records end alive modern has =
+begun_stands disks m m' s t b rs name log_bytes up doubt bytes st fate backs less sessions branches records end alive modern number has =
     let h = outside m.up (view m) s st.tables in
     let same = fate_same b s t fate in
     let none = fate_settled b s t fate in
@@ -177,6 +185,7 @@ begun_stands disks m m' s t b rs name log_bytes up doubt bytes st fate backs les
       modern = λ is. modern;
       log_bytes = bytes ∙ (st.log_bytes ∙ sym same.log_bytes);
       doubt = subst (λ (d : Option Doubt). Doubts d after) (sym doubt) none;
+      backed = λ is. record { records = snapshot (durable t) boot; backs = begun_backed rs t recoverable none backs less; number = number };
       log = λ trusts. stands_whole disks m'.log after (snapshot (durable t) boot) (begun_backed rs t recoverable none backs less) has;
     }
 
@@ -223,5 +232,6 @@ failed_stands {D} disks m m' s is st =
       modern = λ up. absurd (cc up);
       log_bytes = st.log_bytes;
       doubt = doubts_down m.doubt s st.doubt;
+      backed = λ up. absurd (cc up);
       log = λ trusts. stands_alike disks m.log s (down s) h.recoverable.group refl refl (λ rs backs. down_backed rs s s.open_records backs) (st.log trusts);
     })

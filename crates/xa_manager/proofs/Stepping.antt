@@ -1,5 +1,6 @@
 -- A turn that a manager took is a step, and the manager stands for the step's state.
-use Rattle.std.proofs.Common.{◌≡◌, inl, ◌+◌, ◌≤◌, arith, ℕ, Bool, true, false, List, [], ◌∷◌, ◌++◌, get_or, map, length, Option, Some, None, IsSomeAnd, refl, ap, sym, ◌∙◌, subst}
+use Rattle.std.proofs.Common.{◌≡◌, inl, ◌+◌, ◌<◌, ◌≤◌, arith, ℕ, Bool, true, false, cond, nat_eq, List, [], ◌∷◌, ◌++◌, get_or, map, length, Option, Some, None, IsSomeAnd, refl, ap, sym, ◌∙◌, subst}
+use Rattle.std.proofs.lemmas.Bool.Decides.{nat_tests}
 use Rattle.std.proofs.lemmas.List.{map-append}
 use Rattle.std.specs.List.{AllByRecursion}
 use Rattle.xa_disk.specs.declared.disk.Disk.{Ghosts}
@@ -8,7 +9,10 @@ use Rattle.xa_record.specs.Spelling.{spelled}
 use Rattle.xa_record.specs.declared.record.Record.{Record}
 use Rattle.xa_record.specs.declared.record.Record.TheVariants as logged
 use Rattle.xa_log.specs.Damage.{is_appended}
-use Rattle.xa_log.specs.Group.{as_one, IsPlain}
+use Rattle.xa_log.specs.Group.{as_one, first_of_group, IsPlain}
+use Rattle.xa_log.specs.Pair.{generation, number_in}
+use Rattle.xa_log.specs.Stands.{Renumbers}
+use Rattle.xa_log.specs.declared.appending.Appended.TheVariants as told
 use Rattle.xa_log.specs.TwoFiles.{Pair}
 use Rattle.xa_log.specs.LogView.{LogView}
 use Rattle.xa_model.specs.declared.event.Event.{Event}
@@ -16,6 +20,8 @@ use Rattle.xa_model.specs.declared.outcome.Outcome.{Outcome}
 use Rattle.xa_model.specs.declared.outcome.Outcome.TheVariants.{Quiet, Appended}
 use Rattle.xa_model.specs.declared.outcome.Appending.{Appending}
 use Rattle.xa_model.specs.declared.outcome.Appending.TheVariants.{Kept, Refused, Lost}
+use Rattle.xa_model.specs.Durable.{durable}
+use Rattle.xa_model.specs.Fold.{sizes}
 use Rattle.xa_model.specs.State.{State, Standing, Up}
 use Rattle.xa_model.specs.Answer.{Answer, ok}
 use Rattle.xa_model.specs.Turn.{Turn, Nobody, Now, Appends, Checkpoints, Rereads, Joins, Asked, taken}
@@ -44,12 +50,13 @@ use Rattle.xa_manager.specs.declared.manager.Manager.{Manager}
 use Rattle.xa_manager.specs.Answered.{HasCalled, HasCalledFor}
 use Rattle.xa_manager.specs.View.{View as Tables}
 use Rattle.xa_manager.specs.Crash.{LeavesBy, LeavesNow, LeavesWritten, checkpoints}
-use Rattle.xa_manager.specs.LogStands.{Trusts, HasRecords, LogStandsFor}
+use Rattle.xa_manager.specs.LogStands.{Trusts, HasRecords, LogBacks, LogStandsFor}
 use Rattle.xa_manager.specs.Managed.{view, Doubts, ManagerStandsFor}
 use Rattle.xa_manager.specs.Stands.{StandsFor, TablesStandFor}
 use Rattle.xa_manager.proofs.Appending.{alone}
 use Rattle.xa_manager.proofs.CrashFiles.{append_files, crash_leaves}
-use Rattle.xa_manager.proofs.LogsBehind.{only_records, stands_whole, stands_append, stands_alike}
+use Rattle.xa_manager.proofs.Generations.{boot_of}
+use Rattle.xa_manager.proofs.LogsBehind.{only_records, stands_whole, stands_append, stands_alike, still_backed, backed_alike}
 use Rattle.xa_manager.specs.Turns.{HasDone, HasAppended, TakesNow, TakesAppending, Takes, up_after, doubt_after}
 
 -- what the tables say of a state, up or down
@@ -185,6 +192,7 @@ module _ {D : Type 0} (disks : Ghosts D) where
       let recoverable = keeps_recoverable s (Asked e) outcome a event before steps in
       let k : KeepsLog s a.after = subst (LogsWhatLasts s) is (events_log_what_lasts s e before.sound other) in
       let bytes : a.after.log_bytes ≡ s.log_bytes = subst (AsksRoom s) is (events_ask_room s e other) in
+      let backs = λ (rs : List Record) (b : Backs rs s). now_backed rs s (further_record s e) a (subst (BacksTurn rs s) t (keeps_backed rs s (Asked e) event before b)) in
       record {
         answer = a;
         step_is = steps;
@@ -197,8 +205,9 @@ module _ {D : Type 0} (disks : Ghosts D) where
           modern = λ up. ap (λ (l : LogView D). l.format) x.log ∙ st.modern (sym x.up ∙ up);
           log_bytes = ap (λ (l : LogView D). l.log_bytes) x.log ∙ st.log_bytes ∙ sym bytes;
           doubt = rw x.doubt (doubts_same m.doubt s a.after k.open_records k.end st.doubt);
+          backed = λ up. rw x.log (backed_alike m.log s a.after backs (st.backed (sym x.up ∙ up)));
           log = λ trusts.
-              rw x.log (log_same m.log s a.after before.group k (λ rs b. now_backed rs s (further_record s e) a (subst (BacksTurn rs s) t (keeps_backed rs s (Asked e) event before b))) (st.log trusts));
+              rw x.log (log_same m.log s a.after before.group k backs (st.log trusts));
         };
       }
 
@@ -219,6 +228,31 @@ module _ {D : Type 0} (disks : Ghosts D) where
   format_after log log' group Kept h = h.moves.1
   format_after log log' group Refused h = h.moves.1
   format_after log log' group Lost h = h.moves.1
+
+  -- the records behind the state then, whatever the files hold
+
+  further : (end : ℕ) (r : Record) (rs : List Record) → end ≡ 8 + sizes (r ∷ rs) → nat_eq end 8 ≡ false
+  further end r rs e = let more : 8 < end = omega (arith, e) in grind (arith, nat_tests)
+
+  -- where some stood, the log has their generation still
+  backed_kept : (log log' : LogView D) (s t : State) (group rs : List Record) → IsRecoverable s → log.end ≡ s.end → Renumbers told.Kept (first_of_group (map spelled group)) log log'
+      → Backs rs s → Backs (rs ++ group) t → log.generation ≡ generation (map spelled rs) → LogBacks log' t
+  backed_kept log log' s t group [] h same numbers b after number =
+      absurd (omega (arith, boot_of (durable s) b.lasts, h.loggable.first, h.loggable.boots))
+  backed_kept log log' s t group (r ∷ rs) h same numbers b after number = record {
+    records = (r ∷ rs) ++ group;
+    backs = after;
+    number = numbers ∙ ap (λ (first : Bool). cond first (number_in (first_of_group (map spelled group))) log.generation) (further log.end r rs (same ∙ b.end)) ∙ number;
+  }
+
+  pub backed_after : (log log' : LogView D) (s t : State) (group : List Record) (a : Appending) → IsRecoverable s → log.end ≡ s.end → HasAppended disks (map spelled group) a log log'
+      → (a ≡ Kept → (rs : List Record) → Backs rs s → Backs (rs ++ group) t) → (a ≡ Refused → (rs : List Record) → Backs rs s → Backs rs t)
+      → up_after a ≡ true → LogBacks log s → LogBacks log' t
+  backed_after log log' s t group Kept h same x kept refused up b =
+      backed_kept log log' s t group b.records h same x.numbers b.backs (kept refl b.records b.backs) b.number
+  backed_after log log' s t group Refused h same x kept refused up b =
+      still_backed log log' t x.numbers (backed_alike log s t (refused refl) b)
+  backed_after log log' s t group Lost h same x kept refused up b = absurd (cc up)
 
   pub doubt_stands : (s t : State) (group : List Record) (a : Appending) (end : ℕ) → 1 ≤ length group → AllByRecursion (λ (q : Record). is_boot q ≡ false) group → end ≡ s.end
       → (a ≡ Kept → t.open_records ≡ []) → (a ≡ Refused → t.open_records ≡ []) → (a ≡ Lost → t.open_records ≡ group)
@@ -263,6 +297,9 @@ module _ {D : Type 0} (disks : Ghosts D) where
       let lost_ : a ≡ Lost → next ≡ (lost s r).after = λ q. ap (λ (b : Appending). (after b).after) q ∙ ap (λ (y : Answer). y.after) logs.3 in
       let kept_ : a ≡ Kept → next ≡ applied r s = λ q. ap (λ (b : Appending). (after b).after) q ∙ ap (λ (y : Answer). y.after) logs.1 in
       let none : s.open_records ≡ [] = before.settled last.2 in
+      let backed = λ (rs : List Record) (b : Backs rs s). subst (BacksTurn rs s) t (keeps_backed rs s (Asked e) event before b) in
+      let kept_backs = λ (q : a ≡ Kept) (rs : List Record) (b : Backs rs s). of_answer after (λ y. Backs (rs ++ r ∷ []) y.after) a Kept q (backed rs b).0 in
+      let left_backs = λ (q : a ≡ Refused) (rs : List Record) (b : Backs rs s). of_answer after (λ y. Backs rs y.after) a Refused q (backed rs b).1 in
       record {
         answer = after a;
         step_is = steps;
@@ -278,10 +315,10 @@ module _ {D : Type 0} (disks : Ghosts D) where
           log_bytes = x.log.log_bytes ∙ st.log_bytes ∙ sym (bytes_after s r after a logs.1 asks.1 logs.3);
           doubt = rw x.doubt
               (doubt_stands s next (r ∷ []) a m.log.end (omega arith) (last.1, tt) (st.end is_up) opens.0 opens.1 (λ q. ap (λ (u : State). u.open_records) (lost_ q)) (λ q. ap (λ (u : State). u.end) (lost_ q)));
+          backed = λ up. backed_after m.log m'.log s next (r ∷ []) a before (st.end is_up) x.log kept_backs left_backs (sym x.up ∙ up) (st.backed is_up);
           log = λ trusts.
-              let backed = λ (rs : List Record) (b : Backs rs s). subst (BacksTurn rs s) t (keeps_backed rs s (Asked e) event before b) in
               log_after m.log m'.log s next (r ∷ []) a none (last.1, tt) (kind_appended s r logs.0 last.1, tt) x.log trusts.disk (λ q. ap (λ (u : State). u.open_records) (lost_ q))
-              (λ q rs b. of_answer after (λ y. Backs (rs ++ r ∷ []) y.after) a Kept q (backed rs b).0) (λ q rs b. of_answer after (λ y. Backs rs y.after) a Refused q (backed rs b).1)
+              kept_backs left_backs
               (λ q rs b. of_answer after (λ y. Backs rs y.after) a Lost q (backed rs b).2) (st.log trusts);
         };
       }

@@ -101,6 +101,7 @@ module _ {D : Type 0} (disks : Ghosts D) where
     modern = λ e. ap (λ (l : LogView D). l.format) log ∙ st.modern is_up;
     log_bytes = ap (λ (l : LogView D). l.log_bytes) log ∙ st.log_bytes;
     doubt = rw doubt st.doubt;
+    backed = λ e. rw log (st.backed is_up);
     log = λ trusts. rw log (st.log trusts);
   }
 

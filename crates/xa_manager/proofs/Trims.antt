@@ -42,7 +42,7 @@ use Rattle.xa_manager.specs.declared.doubt.Doubt.TheVariants.{Boot}
 use Rattle.xa_manager.specs.declared.manager.Manager.{Manager}
 use Rattle.xa_manager.specs.Answered.{as_appended, HasCalledToTrim, NoneRises, OneRises}
 use Rattle.xa_manager.specs.Crash.{LeavesBy, LeavesCurrent, LeavesWritten, checkpoints}
-use Rattle.xa_manager.specs.LogStands.{HasRecords, Trusts, snapshot_bodies}
+use Rattle.xa_manager.specs.LogStands.{HasRecords, LogBacks, LogStandsFor, Trusts, snapshot_bodies}
 use Rattle.xa_manager.specs.Managed.{view, AnswersAs, ManagerStandsFor}
 use Rattle.xa_manager.specs.Reserving.{HasReserved}
 use Rattle.xa_manager.specs.Stands.{StandsFor, TablesStandFor}
@@ -52,7 +52,7 @@ use Rattle.xa_manager.specs.declared.tables.Tables.{Tables}
 use Rattle.xa_manager.specs.View.{view_of}
 use Rattle.xa_manager.proofs.CrashBoots.{Checkpointed, snapshot_leaves}
 use Rattle.xa_manager.proofs.Generations.{newer}
-use Rattle.xa_manager.proofs.LogsBehind.{stands_whole}
+use Rattle.xa_manager.proofs.LogsBehind.{only_records, stands_whole, still_backed}
 use Rattle.xa_manager.proofs.NextBoots.{are_bodies}
 use Rattle.xa_manager.proofs.Reserved.{first_same, second_same}
 use Rattle.xa_manager.proofs.Standing.{is_up, never_full, lost_stands, outside}
@@ -97,13 +97,16 @@ module _ {D : Type 0} (disks : Ghosts D) (m : Manager D) (s : State) (st : Manag
   less_of e = omega (arith, (may_trim s e).boots)
 
   -- its boot began
-  pub kept_stands : (m' : Manager D) (rs : List Record) (next : ℕ) → trim_refusal s ≡ None → next ≡ s.logged_boot + 1 → Backs rs s
+  pub kept_stands : (m' : Manager D) (next : ℕ) → trim_refusal s ≡ None → next ≡ s.logged_boot + 1
       → TablesBecome m.tables (λ t. t.logged_boot + 1 ≡ next) (λ t. trimmed t next) m'.tables → m'.up ≡ true → m'.doubt ≡ None
       → m'.log.log_bytes ≡ m.log.log_bytes → m'.log.end ≡ 8 + sizes (snapshot (durable s) (s.logged_boot + 1)) → m'.log.lost ≡ false → m'.log.format ≡ newest
-      → HasRecords disks (snapshot (durable s) (s.logged_boot + 1)) m'.log
+      → m'.log.generation ≡ generation (snapshot_bodies s (s.logged_boot + 1))
+      → (Trusts disks → HasRecords disks (snapshot (durable s) (s.logged_boot + 1)) m'.log)
       → ManagerStandsFor disks m' (trimmed s (s.logged_boot + 1))
-  kept_stands m' rs next e number backs becomes still doubt bytes end alive modern has =
+  kept_stands m' next e number becomes still doubt bytes end alive modern begins has =
       let recoverable = trimmed_recoverable s trim_recoverable trim_settled (less_of e) in
+      let b = st.backed up in
+      let backs = trimmed_backed b.records s b.backs (trim_recoverable.current trim_up) (less_of e) in
       let after = subst (λ (n : ℕ). IsRecoverable (trimmed s n) → StandsFor (view m') (trimmed s n)) number (becomes s trim_tables (sym number)) recoverable in
       record {
         tables = subst (λ (b : Bool). TablesStandFor b (view m') (trimmed s (s.logged_boot + 1))) (sym still) after;
@@ -116,15 +119,15 @@ module _ {D : Type 0} (disks : Ghosts D) (m : Manager D) (s : State) (st : Manag
         modern = λ is. modern;
         log_bytes = bytes ∙ st.log_bytes;
         doubt = rw doubt trim_settled;
-        log = λ trusts. stands_whole disks m'.log (trimmed s (s.logged_boot + 1)) (snapshot (durable s) (s.logged_boot + 1))
-            (trimmed_backed rs s backs (trim_recoverable.current trim_up) (less_of e)) has;
+        backed = λ is. record { records = snapshot (durable s) (s.logged_boot + 1); backs = backs; number = begins };
+        log = λ trusts. stands_whole disks m'.log (trimmed s (s.logged_boot + 1)) (snapshot (durable s) (s.logged_boot + 1)) backs (has trusts);
       }
 
   -- it was refused by the device
-  pub refused_stands : (m' : Manager D) (rs : List Record) → Backs rs s → m'.tables ≡ m.tables → m'.up ≡ true → m'.doubt ≡ None
+  pub refused_stands : (m' : Manager D) → m'.tables ≡ m.tables → m'.up ≡ true → m'.doubt ≡ None
       → m'.log.log_bytes ≡ m.log.log_bytes → m'.log.end ≡ m.log.end → m'.log.lost ≡ m.log.lost → m'.log.format ≡ m.log.format
-      → (Trusts disks → HasRecords disks rs m'.log) → ManagerStandsFor disks m' s
-  refused_stands m' rs backs tables still doubt bytes end alive modern has = record {
+      → m'.log.generation ≡ m.log.generation → (Trusts disks → (rs : List Record) × Backs rs s × HasRecords disks rs m'.log) → ManagerStandsFor disks m' s
+  refused_stands m' tables still doubt bytes end alive modern number has = record {
     tables = subst (λ (b : Bool). TablesStandFor b (view m') s) (sym still) (subst (λ (t : Tables). StandsFor (view_of t) s) (sym tables) trim_tables);
     roomy = st.roomy;
     end = λ is. end ∙ st.end up;
@@ -132,26 +135,33 @@ module _ {D : Type 0} (disks : Ghosts D) (m : Manager D) (s : State) (st : Manag
     modern = λ is. modern ∙ st.modern up;
     log_bytes = bytes ∙ st.log_bytes;
     doubt = rw doubt trim_settled;
-    log = λ trusts. stands_whole disks m'.log s rs backs (has trusts);
+    backed = λ is. still_backed m.log m'.log s number (st.backed up);
+    log = λ trusts. let it = has trusts in stands_whole disks m'.log s it.0 it.1 it.2;
   }
 
   backs_settled : (rs : List Record) → Backs rs s → Backs rs (record s { open_records = [] })
   backs_settled rs k = record { records = k.records; lasts = k.lasts; end = k.end; new = λ same. record { given = (k.new same).given; unused = (k.new same).unused } }
 
   -- it was lost
-  pub sealed_stands : (m' : Manager D) (rs : List Record) (next : ℕ) → trim_refusal s ≡ None → next ≡ s.logged_boot + 1 → Backs rs s
+  pub sealed_stands : (m' : Manager D) (next : ℕ) → trim_refusal s ≡ None → next ≡ s.logged_boot + 1
       → m'.tables ≡ m.tables → m'.up ≡ false → m'.doubt ≡ Some (Boot next) → m'.log.log_bytes ≡ m.log.log_bytes
-      → MaySeal disks (map spelled rs) (snapshot_bodies s (s.logged_boot + 1)) m'.log
+      → (Trusts disks → (rs : List Record) × Backs rs s × MaySeal disks (map spelled rs) (snapshot_bodies s (s.logged_boot + 1)) m'.log)
       → ManagerStandsFor disks m' (lost s (logged.Opened (s.logged_boot + 1))).after
-  sealed_stands m' rs next e number backs tables stopped doubt bytes seal =
-      lost_stands disks m m' s (record s { open_records = [] }) 0 rs tables stopped (doubt ∙ ap (λ (n : ℕ). Some (Boot n)) number) bytes st refl
-      (backs_settled rs backs) (less_of e) seal
+  sealed_stands m' next e number tables stopped doubt bytes seal =
+      let b = st.backed up in
+      lost_stands disks m m' s (record s { open_records = [] }) 0 b.records tables stopped (doubt ∙ ap (λ (n : ℕ). Some (Boot n)) number) bytes st refl
+      (backs_settled b.records b.backs) (less_of e) (λ trusts. let it = seal trusts in (it.0, backs_settled it.0 it.1, it.2))
 
-  -- where a log that has the records has room for the snapshot, as it always has, it was refused by a failure
-  pub is_refused : (rs : List Record) (fresh : List (List ℕ)) (r : Told) → Backs rs s → fresh ≡ snapshot_bodies s (s.logged_boot + 1) → (r ≡ told.Full → m.log.log_bytes < length (text newest fresh) + LENGTH_BYTES)
+  -- under the premises the log has some records
+  pub records_here : Trusts disks → (l : LogStandsFor disks m.log s) × HasRecords disks l.records m.log
+  records_here trusts = let l = st.log trusts in (l, only_records disks m.log s trim_settled l)
+
+  -- the log has room for the snapshot, as it always has: where it was refused, that was by a failure
+  pub is_refused : (fresh : List (List ℕ)) (r : Told) → fresh ≡ snapshot_bodies s (s.logged_boot + 1) → (r ≡ told.Full → m.log.log_bytes < length (text newest fresh) + LENGTH_BYTES)
       → (r ≡ told.Refused) ⊎ (r ≡ told.Full) → r ≡ told.Refused
-  is_refused rs fresh r backs same full (inl is) = is
-  is_refused rs fresh r backs same full (inr is) = absurd (never_full disks m s (record s { open_records = [] }) 0 rs st refl (backs_settled rs backs) fresh same (full is))
+  is_refused fresh r same full (inl is) = is
+  is_refused fresh r same full (inr is) =
+      let b = st.backed up in absurd (never_full disks m s (record s { open_records = [] }) 0 b.records st refl (backs_settled b.records b.backs) fresh same (full is))
 
 -- ---- what a crash leaves
 
@@ -178,11 +188,11 @@ trim_leaves disks m log new s rs a o st up r e backs has told left =
 -- ---- a refusal before the device was called
 
 pub refused_trim : {D : Type 0} (disks : Ghosts D) (m : Manager D) (reply : Reply) → m.up ≡ true → is_memory reply.detail ≡ false
-    → ((s : State) → ManagerStandsFor disks m s → Trusts disks → trim_refusal s ≡ Some reply) → HasTrimmed disks m reply Quiet m
+    → ((s : State) → ManagerStandsFor disks m s → trim_refusal s ≡ Some reply) → HasTrimmed disks m reply Quiet m
 refused_trim disks m reply up served refuses = record {
-  turn = λ s st trusts. refused_answer disks m s st up reply (refuses s st trusts);
+  turn = λ s st. refused_answer disks m s st up reply (refuses s st);
   leaves = λ s st trusts. (refl, now_leaves disks m s st);
-  called = λ s st trusts. refl;
+  called = λ s st. refl;
   served = served;
 }
 
@@ -243,12 +253,12 @@ pub record IsTaken {D : Type 0} (log : LogView D) (fresh : List (List ℕ)) : Ty
   pub sizes : AllByRecursion (IsBody newest) fresh
   pub above : log.generation < generation fresh
 
-pub snapshot_taken : {D : Type 0} (disks : Ghosts D) (log : LogView D) (s : State) (rs : List Record) → Backs rs s → HasRecords disks rs log → s.logged_boot < 4294967295
+pub snapshot_taken : {D : Type 0} (log : LogView D) (s : State) → LogBacks log s → s.logged_boot < 4294967295
     → IsTaken log (snapshot_bodies s (s.logged_boot + 1))
-snapshot_taken disks log s rs backs has less = record {
+snapshot_taken log s b less = record {
   some = omega arith;
-  sizes = are_bodies (snapshot (durable s) (s.logged_boot + 1)) (snapshot_is_written rs (durable s) (s.logged_boot + 1) backs.records backs.lasts (omega arith) (omega (arith, less)));
-  above = omega (arith, newer rs (durable s) backs.lasts less, has.1.current.number);
+  sizes = are_bodies (snapshot (durable s) (s.logged_boot + 1)) (snapshot_is_written b.records (durable s) (s.logged_boot + 1) b.backs.records b.backs.lasts (omega arith) (omega (arith, less)));
+  above = omega (arith, newer b.records (durable s) b.backs.lasts less, b.number);
 }
 
 -- ---- what is refused

@@ -27,7 +27,7 @@ use Rattle.xa_model.specs.Answer.{detailed, carrying}
 use Rattle.xa_model.specs.Turn.{Asked}
 use Rattle.xa_model.specs.Step.{step}
 use Rattle.xa_model.specs.History.{Entry, Leads}
-use Rattle.xa_model.specs.Events.{is_restart, begins_boot, is_trim}
+use Rattle.xa_model.specs.Events.{is_restart, is_trim}
 use Rattle.xa_assoc.specs.Refusals.{is_memory}
 use Rattle.xa_assoc.specs.declared.fault.ConnectFault.{ConnectFault}
 use Rattle.xa_assoc.specs.declared.fault.ConnectFault.TheVariants.{Memory, Full}
@@ -42,10 +42,10 @@ abbrev pub StaysFor : {D : Type 0} → Ghosts D → Manager D → Manager D → 
 StaysFor disks m m' = (s : State) → ManagerStandsFor disks m s → ManagerStandsFor disks m' s
 
 -- The answer is the step's, with the outcome that the manager tells, and it stands for the step's new state. What a
--- restart finds in its files, and what a trim leaves in them, is said under the premises on the type of disks.
+-- restart finds in its files is said under the premises on the type of disks.
 abbrev pub StepsAs : {D : Type 0} → Ghosts D → Manager D → Event → Reply → Manager D → Type 0
 StepsAs disks m event reply m' =
-    (s : State) → ManagerStandsFor disks m s → Trusts disks ⊎ (begins_boot event ≡ false)
+    (s : State) → ManagerStandsFor disks m s → Trusts disks ⊎ (is_restart event ≡ false)
     → AnswersAs disks (step s (Asked event) (outcome_of m')) reply m'
 
 -- where memory was wanted, it stands for whichever state it stood for, and tells the outcome of the event before
@@ -107,7 +107,7 @@ HasCalledFor disks false outcome old new = HasCalled disks outcome old new
 -- the premises that is the device's doing.
 abbrev pub CallsAs : {D : Type 0} → Ghosts D → Manager D → Event → Outcome → Manager D → Type 0
 CallsAs disks m event outcome m' =
-    (s : State) → ManagerStandsFor disks m s → Trusts disks ⊎ (begins_boot event ≡ false)
+    (s : State) → ManagerStandsFor disks m s → Trusts disks ⊎ (is_restart event ≡ false)
     → HasCalledFor disks (is_trim event) outcome (log_of m) (log_of m')
 
 -- Which events may want memory: a request to end what stands never does, but that a commit in one phase has to write
@@ -181,15 +181,15 @@ recorded (event ∷ events) (o ∷ outcomes) (reply ∷ replies) =
     if is_memory reply.detail then recorded events outcomes replies
     else record { happening = Asked event; outcome = o; reply = reply } ∷ recorded events outcomes replies
 
-abbrev pub no_boot : List Event → Bool
-no_boot [] = true
-no_boot (event ∷ events) = if begins_boot event then false else no_boot events
+abbrev pub no_restart : List Event → Bool
+no_restart [] = true
+no_restart (event ∷ events) = if is_restart event then false else no_restart events
 
--- With some outcomes, one for each event, the events and their replies are a legal history. Without a restart or a trim
--- among them nothing is asked of the type of disks.
+-- With some outcomes, one for each event, the events and their replies are a legal history. Without a restart among them
+-- nothing is asked of the type of disks.
 abbrev pub AnswersAll : {D : Type 0} → Ghosts D → Manager D → List Event → List Reply → Manager D → Type 0
 AnswersAll disks m events replies m' =
-    (s : State) → ManagerStandsFor disks m s → Trusts disks ⊎ (no_boot events ≡ true)
+    (s : State) → ManagerStandsFor disks m s → Trusts disks ⊎ (no_restart events ≡ true)
     → (outcomes : List Outcome) × (s' : State) × (length outcomes ≡ length events)
     × Leads s (recorded events outcomes replies) s' × ManagerStandsFor disks m' s'
 

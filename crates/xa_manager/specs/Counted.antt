@@ -12,7 +12,7 @@ use Rattle.xa_model.specs.declared.outcome.Appending.TheVariants.{Kept, Refused,
 use Rattle.xa_model.specs.State.{State}
 use Rattle.xa_model.specs.History.{Entry, Leads, HasGroups}
 use Rattle.xa_manager.specs.declared.manager.Manager.{Manager}
-use Rattle.xa_manager.specs.Answered.{recorded, no_boot}
+use Rattle.xa_manager.specs.Answered.{recorded, no_restart}
 use Rattle.xa_manager.specs.LogStands.{Trusts}
 use Rattle.xa_manager.specs.Managed.{ManagerStandsFor}
 use Rattle.xa_manager.specs.Parts.{log_of}
@@ -53,7 +53,7 @@ counted_by failures log = (failures (first_of log), failures (second_of log))
 -- tell of no more failures than were counted.
 abbrev pub CountsAll : {D : Type 0} → Ghosts D → Manager D → List Event → List Reply → Manager D → Type 0
 CountsAll disks m events replies m' =
-    (s : State) → ManagerStandsFor disks m s → Trusts disks ⊎ (no_boot events ≡ true)
+    (s : State) → ManagerStandsFor disks m s → Trusts disks ⊎ (no_restart events ≡ true)
     → (outcomes : List Outcome) × (s' : State) × (length outcomes ≡ length events)
     × Leads s (recorded events outcomes replies) s' × ManagerStandsFor disks m' s'
     × HasGroups (recorded events outcomes replies)

@@ -5,7 +5,7 @@ use Rattle.xa_disk.specs.declared.disk.Disk.{Ghosts}
 use Rattle.xa_record.specs.Spelling.{spelled}
 use Rattle.xa_record.specs.declared.record.Record.{Record}
 use Rattle.xa_log.specs.Group.{NoChance}
-use Rattle.xa_log.specs.Pair.{CalmTears}
+use Rattle.xa_log.specs.Pair.{CalmTears, generation}
 use Rattle.xa_log.specs.Checkpoint.{SealTears}
 use Rattle.xa_log.specs.LogStates.{LogState, Whole, LostAppend, LostCheckpoint, IsIn, MayFind}
 use Rattle.xa_log.specs.TwoFiles.{Pair}
@@ -31,6 +31,12 @@ HasRecords disks rs log = (stood : List (List ℕ)) × Pair disks (map spelled r
 -- the bodies of a snapshot of what lasts of the state, that begins the boot of this number
 abbrev pub snapshot_bodies : State → ℕ → List (List ℕ)
 snapshot_bodies s boot = map spelled (snapshot (durable s) boot)
+
+-- Whatever its files hold: these records stand behind the state, and the log's generation is theirs.
+pub record LogBacks {D : Type 0} (log : LogView D) (s : State) : Type 0 where
+  pub records : List Record
+  pub backs : Backs records s
+  pub number : log.generation ≡ generation (map spelled records)
 
 -- these are the bodies of the records after which the first so many of those stand that were lost: none of them, or
 -- some, or all

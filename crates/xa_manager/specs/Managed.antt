@@ -15,7 +15,7 @@ use Rattle.xa_manager.specs.declared.manager.Manager.{Manager}
 use Rattle.xa_manager.specs.Parts.{doubt_of, is_up, log_of, tables_of}
 use Rattle.xa_manager.specs.View.{View, view_of}
 use Rattle.xa_manager.specs.Stands.{TablesStandFor}
-use Rattle.xa_manager.specs.LogStands.{Trusts, LogStandsFor}
+use Rattle.xa_manager.specs.LogStands.{Trusts, LogBacks, LogStandsFor}
 
 abbrev pub view : {D : Type 0} → Manager D → View
 view m = view_of (tables_of m)
@@ -27,7 +27,7 @@ Doubts (Some (Boot boot)) s = s.open_records ≡ logged.Opened boot ∷ []
 Doubts (Some (LastRecord end)) s =
     (1 ≤ length s.open_records) × AllByRecursion (λ r. is_boot r ≡ false) s.open_records × (end ≡ s.end)
 
--- The log is said to stand behind the state under the premises on the type of disks; all else is without them.
+-- What the log's files hold is said under the premises on the type of disks; all else is without them.
 pub record ManagerStandsFor {D : Type 0} (disks : Ghosts D) (m : Manager D) (s : State) : Type 0 where
   pub tables : TablesStandFor (is_up m) (view m) s
   pub roomy : IsRoomy s
@@ -37,6 +37,7 @@ pub record ManagerStandsFor {D : Type 0} (disks : Ghosts D) (m : Manager D) (s :
   pub modern : is_up m ≡ true → (log_of m).format ≡ newest
   pub log_bytes : (log_of m).log_bytes ≡ s.log_bytes
   pub doubt : Doubts (doubt_of m) s
+  pub backed : is_up m ≡ true → LogBacks (log_of m) s
   pub log : Trusts disks → LogStandsFor disks (log_of m) s
 
 -- The answer of a turn is this reply, and the manager stands for the state that it leaves.

@@ -1,9 +1,10 @@
 -- A group that is pending: its records are written, their sync is to follow, and sessions work on other branches
 -- meanwhile.
-use Rattle.std.specs.Prelude.{ℕ, ◌≡◌, ◌<◌, ◌≤◌, true, false, Some, None, List, [], ◌∷◌, length, map, MatchBool, IsSomeAnd, Result, Vec}
+use Rattle.std.specs.Prelude.{ℕ, ◌≡◌, ◌<◌, ◌≤◌, true, false, Some, None, List, [], ◌∷◌, length, map, MatchBool, IsSomeAnd, Result, Vec, vec_capacity}
 use Rattle.std.specs.declared.alloc.Global.{Global}
 use Rattle.std.specs.List.{AllByRecursion}
 use Rattle.xa_assoc.specs.Refusals.{is_memory}
+use Rattle.xa_branch.specs.Room.{AreRooms, rooms_of}
 use Rattle.xa_disk.specs.declared.disk.Disk.{Ghosts}
 use Rattle.xa_disk.specs.declared.disk.DiskFault.{DiskFault}
 use Rattle.xa_frame.specs.declared.reply.Reply.{Reply}
@@ -37,7 +38,7 @@ use Rattle.xa_manager.specs.Crash.{LeavesAppend}
 use Rattle.xa_manager.specs.GroupAnswers.{AreReplies, AreTogether}
 use Rattle.xa_manager.specs.LogStands.{Trusts}
 use Rattle.xa_manager.specs.Managed.{ManagerStandsFor}
-use Rattle.xa_manager.specs.Parts.{is_up, log_of, with_log}
+use Rattle.xa_manager.specs.Parts.{branches_of, is_up, log_of, with_log}
 use Rattle.xa_manager.specs.Reserving.{HasReserved}
 use Rattle.xa_manager.specs.Rows.{asked_row}
 use Rattle.xa_manager.specs.Together.{Member, members_of, part_of, parts_of, prepares_of}
@@ -59,7 +60,8 @@ calls_of f = f.calls
 abbrev pub write_of : PendingGroup → Result (Unit {0}) DiskFault
 write_of f = answered_as f.written
 
--- The group has some calls, each with its row, of distinct XIDs, and its records stand where the manager's log ends.
+-- The group has some calls, each with its row, of distinct XIDs, and its records stand where the manager's log ends. There
+-- is room for its replies.
 pub record IsGroupOf {D : Type 0} (m : Manager D) (f : PendingGroup) : Type 0 where
   pub range : IsRange f.written (log_of m)
   pub some : 1 ≤ length f.together.members.items
@@ -68,6 +70,9 @@ pub record IsGroupOf {D : Type 0} (m : Manager D) (f : PendingGroup) : Type 0 wh
       (members_of (calls_of f).items f.together.members.items)
   pub distinct : AreDistinct (map (λ j. j.xid) f.together.members.items)
   pub prepares : f.together.prepares.items ≡ prepares_of (members_of (calls_of f).items f.together.members.items)
+  -- room for its replies, of which there is none yet
+  pub unanswered : f.replies.items ≡ []
+  pub replies : length f.together.members.items ≤ vec_capacity f.replies
 
 -- its calls
 abbrev pub pending_members : PendingGroup → List Member
@@ -80,7 +85,8 @@ WorksApartFrom (request.End flags xid) f = AllByRecursion (λ j. xid_eq j.xid xi
 WorksApartFrom _ f = Unit {0}
 
 -- A manager stands for a state with a pending group, whose records were written after those of this log: it stands for it
--- with that log, and there the calls might be asked together, and append these records.
+-- with that log, and there the calls might be asked together, and append these records. What will be kept of its branches
+-- that are prepared has its room.
 pub record IsPendingFrom {D : Type 0} (disks : Ghosts D) (log : LogView D) (m : Manager D) (f : PendingGroup) (s : State)
     : Type 0 where
   pub stands : ManagerStandsFor disks (with_log log m) s
@@ -88,6 +94,7 @@ pub record IsPendingFrom {D : Type 0} (disks : Ghosts D) (log : LogView D) (m : 
   pub written : HasWritten disks (bodies_of f.together.bodies.items) f.written log (log_of m)
   pub at : AreTogether s (pending_members f)
   pub bodies : map spelled (records_of (parts_of s (pending_members f))) ≡ bodies_of f.together.bodies.items
+  pub rooms : AreRooms f.together.prepares.items (rooms_of (branches_of m))
 
 abbrev pub IsPending : {D : Type 0} → Ghosts D → Manager D → PendingGroup → State → Type 0
 IsPending {D} disks m f s = (log : LogView D) × IsPendingFrom disks log m f s

@@ -23,7 +23,7 @@ use Rattle.xa_model.specs.ListedLaw.{HasPrepared, HasCompleted, AsksCompletion, 
 use Rattle.xa_manager.specs.declared.manager.Manager.{Manager}
 use Rattle.xa_manager.specs.LogStands.{Trusts}
 use Rattle.xa_manager.specs.Managed.{ManagerStandsFor}
-use Rattle.xa_manager.specs.Answered.{FullyAnswered, recorded, no_boot}
+use Rattle.xa_manager.specs.Answered.{FullyAnswered, recorded, no_restart}
 use Rattle.xa_manager.specs.Opening.{HasBegun}
 use Rattle.xa_manager.specs.Parts.{outcome_of}
 
@@ -73,7 +73,7 @@ pub record KeepsPromises {D : Type 0} (disks : Ghosts D) (before : List Entry) (
 abbrev pub PromisesAll : {D : Type 0} → Ghosts D → Manager D → List Event → List Reply → Manager D → Type 0
 PromisesAll disks m events replies m' =
     (first s : State) (before : List Entry) → IsReached first before s → ManagerStandsFor disks m s
-    → Trusts disks ⊎ (no_boot events ≡ true) → KeepsPromises disks before s events replies m'
+    → Trusts disks ⊎ (no_restart events ≡ true) → KeepsPromises disks before s events replies m'
 
 -- A restart that no session asked for: the history goes on with it (`restart_entries`), and the manager stands for the
 -- state that it then leads to, of which the same is true.

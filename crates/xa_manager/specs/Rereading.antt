@@ -53,9 +53,10 @@ IsCounted None counted many = Unit {0}
 IsCounted (Some (Boot boot)) counted many = Unit {0}
 IsCounted (Some (LastRecord end)) counted many = counted ≡ many
 
--- The log that was read again goes on where it ended before, in a file of the newest format.
+-- The log that was read again goes on where it ended before, with its generation, in a file of the newest format.
 pub record GoesOn {D : Type 0} (old new : LogView D) : Type 0 where
   pub end : new.end ≡ old.end
+  pub number : new.generation ≡ old.generation
   pub modern : new.format ≡ newest
 
 -- the boot of this number, for what lasted, at this moment

@@ -1,11 +1,11 @@
 -- Calls that are asked together, and share one append.
-use Rattle.std.specs.Prelude.{ℕ, ◌≡◌, ◌+◌, ◌<◌, ◌≤◌, Bool, true, false, Some, List, [], ◌∷◌, ◌++◌, length, map}
+use Rattle.std.specs.Prelude.{ℕ, ◌≡◌, ◌⊎◌, ◌+◌, ◌<◌, ◌≤◌, Bool, true, false, Some, List, [], ◌∷◌, ◌++◌, length, map}
 use Rattle.std.specs.Prelude.{get_or, if◌then◌else◌}
 use Rattle.std.specs.List.{AllByRecursion}
 use Rattle.xa_disk.specs.declared.disk.Disk.{Ghosts}
 use Rattle.xa_frame.specs.declared.request.Request.{Request}
 use Rattle.xa_frame.specs.declared.request.Request.TheVariants as request
-use Rattle.xa_limits.specs.declared.TheConstants.{AROUND_BODY, MOST_BODY}
+use Rattle.xa_limits.specs.declared.TheConstants.{AROUND_BODY, AROUND_CLOSED, LENGTH_BYTES, MOST_BODY}
 use Rattle.xa_log.specs.Buffer.{Holds}
 use Rattle.xa_log.specs.Chain.{IsBody}
 use Rattle.xa_log.specs.Group.{as_one, group_bytes}
@@ -23,6 +23,7 @@ use Rattle.xa_manager.specs.declared.row.Row.{Row}
 use Rattle.xa_manager.specs.declared.row.Row.TheVariants.{Writes}
 use Rattle.xa_manager.specs.declared.row.Writing.TheVariants.{Prepare}
 use Rattle.xa_manager.specs.declared.together.Asked.{Asked}
+use Rattle.xa_log.specs.declared.left_out.TheConstants.{MOST_GROUP}
 use Rattle.xa_manager.specs.declared.together.Joining.{Joining}
 use Rattle.xa_manager.specs.declared.together.Together.{Together}
 use Rattle.xa_manager.specs.Acts.{AreDistinct, MakeRooms}
@@ -91,8 +92,12 @@ AppendAlone disks m [] [] = Unit {0}
 AppendAlone disks m (c ∷ cs) (body ∷ bodies) = AppendsAlone disks m c body × AppendAlone disks m cs bodies
 AppendAlone disks m _ _ = ⊥
 
+-- Records of these bodies are one, or with their closing length they have at most so many bytes.
+abbrev pub IsBounded : List (List ℕ) → Type 0
+IsBounded bodies = (length bodies ≤ 1) ⊎ (group_bytes bodies + LENGTH_BYTES ≤ MOST_GROUP)
+
 -- Calls that were asked form a group: each appends its record by itself, they are of distinct XIDs, there is room for
--- each after those before it, and the prepares stand first.
+-- each after those before it, the prepares stand first, and it is not too long.
 pub record IsGroup {D : Type 0} (disks : Ghosts D) (m : Manager D) (calls : List Asked) (t : Together) : Type 0 where
   pub places : AllByRecursion (λ j. j.at < length calls) t.members.items
   pub appends : AppendAlone disks m (members_of calls t.members.items) (bodies_of t.bodies.items)
@@ -101,6 +106,7 @@ pub record IsGroup {D : Type 0} (disks : Ghosts D) (m : Manager D) (calls : List
   pub prepares : t.prepares.items ≡ prepares_of (members_of calls t.members.items)
   pub first : PreparesFirst (members_of calls t.members.items)
   pub bytes : t.bytes ≡ group_bytes (bodies_of t.bodies.items)
+  pub bounded : IsBounded (bodies_of t.bodies.items)
 
 -- How a group grows
 
@@ -122,6 +128,7 @@ pub record MayJoin {D : Type 0} (disks : Ghosts D) (m : Manager D) (t : Together
     (len : ℕ) : Type 0 where
   pub apart : AllByRecursion (λ j. xid_eq j.xid xid ≡ false) t.members.items
   pub short : t.bytes + len ≤ MOST_BODY
+  pub bounded : (t.members.items ≡ []) ⊎ (t.bytes + len + AROUND_CLOSED ≤ MOST_GROUP)
   pub room : (s : State) → ManagerStandsFor disks m s → is_up m ≡ true
       → has_room_behind s t.bytes (length t.prepares.items) row len ≡ true
 

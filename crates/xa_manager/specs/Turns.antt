@@ -11,8 +11,8 @@ use Rattle.xa_record.specs.declared.record.Record.{Record}
 use Rattle.xa_log.specs.Calls.{SettlesBy}
 use Rattle.xa_log.specs.Ahead.{AppendsBy}
 use Rattle.xa_log.specs.Damage.{AreAppended}
-use Rattle.xa_log.specs.Group.{as_one}
-use Rattle.xa_log.specs.Stands.{Stands, Leaves, Moves}
+use Rattle.xa_log.specs.Group.{as_one, first_of_group}
+use Rattle.xa_log.specs.Stands.{Stands, Leaves, Moves, Renumbers}
 use Rattle.xa_log.specs.TwoFiles.{Pair, AppendsTo}
 use Rattle.xa_log.specs.Written.{HasWritten, write_of}
 use Rattle.xa_log.specs.LogView.{LogView}
@@ -28,7 +28,7 @@ use Rattle.xa_model.specs.Restarting.{restart_turn}
 use Rattle.xa_model.specs.Turn.{Turn, Asked, Nobody, Now, Appends, Checkpoints, Rereads, Joins, taken}
 use Rattle.xa_model.specs.declared.event.Event.{Event}
 use Rattle.xa_model.specs.Step.{step}
-use Rattle.xa_model.specs.Events.{asks_restart, begins_boot}
+use Rattle.xa_model.specs.Events.{asks_restart, is_restart}
 use Rattle.xa_model.specs.Trimming.{trim_turn}
 use Rattle.xa_model.specs.Invariants.Loggable.{IsRecoverable}
 use Rattle.xa_assoc.specs.Refusals.{is_memory}
@@ -47,6 +47,7 @@ pub record HasAppended {D : Type 0} (disks : Ghosts D) (group : List (List ℕ))
   pub log_bytes : log'.log_bytes ≡ log.log_bytes
   pub other : (log'.other ≡ log.other) × (log'.on_first ≡ log.on_first)
   pub moves : Moves (as_appended a) (as_one group) log log'
+  pub numbers : Renumbers (as_appended a) (first_of_group group) log log'
   pub pair : disks.honest → (bodies stood : List (List ℕ)) → Pair disks bodies stood log → AreAppended bodies group
       → AppendsTo disks (as_appended a) bodies group stood log'
   pub calls : AppendsBy disks (as_one group) (as_appended a) log log'
@@ -132,7 +133,7 @@ pub record TakesTurn {D : Type 0} (disks : Ghosts D) (m : Manager D) (act : Stat
 -- disks.
 pub record HasDone {D : Type 0} (disks : Ghosts D) (m : Manager D) (event : Event) (reply : Reply)
     (outcome : Outcome) (m' : Manager D) : Type 0 where
-  pub steps : (s : State) → ManagerStandsFor disks m s → Trusts disks ⊎ (begins_boot event ≡ false)
+  pub steps : (s : State) → ManagerStandsFor disks m s → Trusts disks ⊎ (is_restart event ≡ false)
       → AnswersAs disks (step s (Asked event) outcome) reply m'
   pub called : CallsAs disks m event outcome m'
   pub crash : CrashesAs disks m event outcome m'
@@ -152,12 +153,11 @@ pub record HasRestarted {D : Type 0} (disks : Ghosts D) (m : Manager D) (reply :
 -- What a trim has done, of whichever state the manager stood for, which was up: as HasDone of its turn.
 pub record HasTrimmed {D : Type 0} (disks : Ghosts D) (m : Manager D) (reply : Reply) (outcome : Outcome)
     (m' : Manager D) : Type 0 where
-  pub turn : (s : State) → ManagerStandsFor disks m s → Trusts disks
-      → AnswersAs disks (taken (trim_turn s) outcome) reply m'
+  pub turn : (s : State) → ManagerStandsFor disks m s → AnswersAs disks (taken (trim_turn s) outcome) reply m'
   -- what a crash at any moment of it leaves
   pub leaves : (s : State) → ManagerStandsFor disks m s → Trusts disks
       → LeavesBy disks m.log (trim_turn s) outcome m'.log s
-  pub called : (s : State) → ManagerStandsFor disks m s → Trusts disks → HasCalledToTrim disks outcome m.log m'.log
+  pub called : (s : State) → ManagerStandsFor disks m s → HasCalledToTrim disks outcome m.log m'.log
   pub served : is_memory reply.detail ≡ false
 
 -- What a request leaves that wanted memory, as it may.

@@ -4,7 +4,7 @@ ghost use Rattle.xa_model.specs.Associations.{begun, joined, resumed, not_resume
 ghost use Rattle.xa_model.specs.{Phases.rolled_back, Phases.committed, Trimming.trimmed};
 ghost use Rattle.xa_manager.specs.{Drained.GivesBack, Changes.fate_of};
 ghost use Rattle.xa_assoc.specs.{Seats.opened_at, Sessions.begin_refusal_of, Company.company_of};
-ghost use Rattle.xa_branch.specs.Calls.{marked_with};
+ghost use Rattle.xa_branch.specs.{Calls.marked_with, Room.rooms_of};
 ghost use Rattle.xa_manager.specs.Tables.{TablesBecome, TablesMove, TablesSay, TablesStay, TablesStayDown};
 ghost use Rattle.xa_manager.specs.Acts.{BranchBecomes, Decides, Ends, Forgets, Resumes, Settles, Suspends, SuspendsAs};
 
@@ -25,6 +25,7 @@ impl Tables {
         ensures ok { OnOk result (TablesMove self.old (λ s. (begun s session xid.now).after) self.new) }
         ensures err { OnErr result (TablesStay self.old self.new) }
         ensures company { company_of self.new.sessions ≡ company_of self.old.sessions }
+        ensures rooms { rooms_of self.new.branches ≡ rooms_of self.old.branches }
     {
         self.sessions.begin(session, xid.copied())?;
         let limit = self.sessions.timeout(session);
@@ -42,6 +43,7 @@ impl Tables {
         ensures ok { OnOk result (TablesMove self.old (λ s. (joined s session xid.now).after) self.new) }
         ensures err { OnErr result (TablesStay self.old self.new) }
         ensures company { company_of self.new.sessions ≡ company_of self.old.sessions }
+        ensures rooms { rooms_of self.new.branches ≡ rooms_of self.old.branches }
     {
         self.sessions.join(session, xid.copied())?;
         self.branches.join(xid);
@@ -55,6 +57,7 @@ impl Tables {
             (λ s. (resumed s session xid.now).after) self.new) }
         ensures err { OnErr result (TablesStay self.old self.new) }
         ensures company { company_of self.new.sessions ≡ company_of self.old.sessions }
+        ensures rooms { rooms_of self.new.branches ≡ rooms_of self.old.branches }
     {
         self.sessions.resume(session, xid.copied())?;
         self.branches.resume(xid, from);
@@ -69,6 +72,7 @@ impl Tables {
         ensures becomes { TablesBecome self.old (Suspends session xid.now)
             (λ s. suspended s session migrates xid.now) self.new }
         ensures company { company_of self.new.sessions ≡ company_of self.old.sessions }
+        ensures rooms { rooms_of self.new.branches ≡ rooms_of self.old.branches }
     {
         self.sessions.suspend(session, xid, migrates);
         self.branches.suspend(xid, migrates);
@@ -83,6 +87,7 @@ impl Tables {
         ensures not_suspended { TablesBecome self.old (SuspendsAs session xid.now kind)
             (λ s. not_suspended s session xid.now) self.new }
         ensures company { company_of self.new.sessions ≡ company_of self.old.sessions }
+        ensures rooms { rooms_of self.new.branches ≡ rooms_of self.old.branches }
     {
         self.sessions.leave(session, xid);
         self.branches.leave(xid, kind);
@@ -94,6 +99,7 @@ impl Tables {
         ensures becomes { TablesBecome self.old (Ends session xid.now kind)
             (λ s. (failed s session xid.now).after) self.new }
         ensures company { company_of self.new.sessions ≡ company_of self.old.sessions }
+        ensures rooms { rooms_of self.new.branches ≡ rooms_of self.old.branches }
     {
         self.sessions.leave(session, xid);
         self.branches.leave(xid, kind);
@@ -107,6 +113,7 @@ impl Tables {
     pub fn mark_branch(&mut self, xid: &Xid, code: Code)
         ensures marks { TablesMove self.old (λ s. marked_with code s xid.now) self.new }
         ensures company { company_of self.new.sessions ≡ company_of self.old.sessions }
+        ensures rooms { rooms_of self.new.branches ≡ rooms_of self.old.branches }
     {
         self.branches.mark(xid, code);
     }
@@ -176,6 +183,7 @@ impl Tables {
         ensures down { TablesStayDown self.old self.new }
         ensures drained { GivesBack self.new.branches self.new.records }
         ensures company { company_of self.new.sessions ≡ company_of self.old.sessions }
+        ensures rooms { rooms_of self.new.branches ≡ rooms_of self.old.branches }
     {
         let low = self.branches.low_water();
         self.records.low_water(low);

@@ -5,6 +5,7 @@ ghost use Rattle.xa_manager.specs.{Changes.items_of, Replies.IsFresh, Tables.Tab
 ghost use Rattle.xa_assoc.specs.{Company.company_of, Refusals.IsBare};
 ghost use Rattle.mv_chain.specs.Within.{IsShort};
 ghost use Rattle.mv_rules.specs.Within.{IsKey};
+ghost use Rattle.xa_branch.specs.Room.{rooms_of};
 
 use crate::tables::Tables;
 use mv_rules::{Got, Put};
@@ -21,6 +22,7 @@ impl Tables {
             (λ r. TablesFollow self.old (λ s. get_by s key.now (own_branch s session)) r self.new) }
         ensures err { OnErr result (TablesStay self.old self.new) }
         ensures company { company_of self.new.sessions ≡ company_of self.old.sessions }
+        ensures rooms { rooms_of self.new.branches ≡ rooms_of self.old.branches }
         ensures fresh { IfOk result IsFresh }
     {
         let Some((_, working)) = self.own_branch(session) else {
@@ -50,6 +52,7 @@ impl Tables {
             (λ r. TablesFollow self.old (λ s. put_by s key.now (items_of value) (own_branch s session)) r self.new) }
         ensures err { OnErr result (TablesStay self.old self.new) }
         ensures company { company_of self.new.sessions ≡ company_of self.old.sessions }
+        ensures rooms { rooms_of self.new.branches ≡ rooms_of self.old.branches }
         ensures bare { IfOk result IsBare }
     {
         let Some((xid, working)) = self.own_branch(session) else {

@@ -43,6 +43,8 @@ pub(crate) fn log_first<D: Disk>(log: &mut Log<D>, is_new: bool, bodies: &[Share
         → IsFound D.Disk is_new old log.old → HasBodies D.Disk bodies.now log.new }
     ensures ends { result ≡ Appended.Kept → (old : List (List ℕ)) → (is_new ≡ true → old ≡ [])
         → EndsBehind old log.old → EndsBehind bodies.now log.new }
+    ensures number { result ≡ Appended.Kept → (old : List (List ℕ)) → (is_new ≡ true → old ≡ [])
+        → EndsBehind old log.old → log.new.generation ≡ generation bodies.now }
     ensures full { result ≡ Appended.Full → (old : List (List ℕ)) → (is_new ≡ true → old ≡ [])
         → EndsBehind old log.old
         → log.old.log_bytes < length (text newest bodies.now) + LENGTH_BYTES }

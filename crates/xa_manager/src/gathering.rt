@@ -1,7 +1,8 @@
 //! How calls that are asked together become a group: what each appends, which may stand together, and their memory.
 ghost use Rattle.std.specs.Prelude.{◌≡◌, ◌⊎◌, ◌+◌, ◌≤◌, List, length, not, true, [], IfOk, IfSome, OnErr, OnOk};
 ghost use Rattle.std.specs.List.{AllByRecursion, list_all};
-ghost use Rattle.xa_limits.specs.declared.TheConstants.{MOST_BODY};
+ghost use Rattle.xa_limits.specs.declared.TheConstants.{AROUND_CLOSED, MOST_BODY};
+ghost use Rattle.xa_log.specs.declared.left_out.TheConstants.{MOST_GROUP};
 ghost use Rattle.xa_xid.specs.Triple.{xid_eq};
 ghost use Rattle.xa_model.specs.Events.{IsAsked};
 ghost use Rattle.xa_manager.specs.{Answered.StaysFor, Connected.connected_to, Plans.bytes_of, Reserving.HasReserved};
@@ -16,8 +17,8 @@ use crate::together::{Asked, Joining, Together};
 use std::alloc::{AllocError, Global};
 use xa_disk::Disk;
 use xa_frame::Request;
-use xa_limits::{AROUND_BODY, MOST_BODY};
-use xa_log::Group;
+use xa_limits::{AROUND_BODY, AROUND_CLOSED, MOST_BODY};
+use xa_log::{Group, MOST_GROUP};
 use xa_xid::Xid;
 
 impl Asked {
@@ -35,6 +36,18 @@ impl Together {
         ensures { result ≡ list_all (λ j. not (xid_eq j.xid xid.now)) self.now.members.items }
     {
         self.members.iter().all(|member| member.xid != *xid)
+    }
+
+    /// How many bytes its records may have, with the body of one more.
+    fn most(&self) -> usize
+        ensures short { result ≤ MOST_BODY }
+        ensures bounded { (self.now.members.items ≡ []) ⊎ (result + AROUND_CLOSED ≤ MOST_GROUP) }
+    {
+        if self.members.is_empty() {
+            MOST_BODY
+        } else {
+            MOST_GROUP - AROUND_CLOSED
+        }
     }
 
     /// Adds a call, behind the others.
@@ -77,14 +90,14 @@ impl<D: Disk> Manager<D> {
         }
     }
 
-    /// Whether a call may stand after those of a group: its XID is none of theirs, and there is room for its record
-    /// after theirs, whatever becomes of them.
+    /// Whether a call may stand after those of a group: its XID is none of theirs, there is room for its record after
+    /// theirs, whatever becomes of them, and the group doesn't become too long (`MOST_GROUP`).
     fn may_join(&self, together: &Together, logging: &Logging) -> bool
         ensures { result ≡ true → MayJoin D.Disk self.now together.now logging.now.row logging.now.xid
             (length (bytes_of logging.now.body)) }
     {
         let len = together.bytes.saturating_add(logging.body.len());
-        if len > MOST_BODY || !together.is_apart(&logging.xid) {
+        if len > together.most() || !together.is_apart(&logging.xid) {
             return false;
         }
         let Row::Writes(writing) = logging.row else {
@@ -141,23 +154,21 @@ impl<D: Disk> Manager<D> {
     }
 
     /// Takes all memory that the group still wants: for what is kept of the branches that are prepared, and room for
-    /// its records in the log's buffer. Where there is none, the manager stands for what it stood for.
+    /// its records in the log's buffer. The manager stands for what it stood for.
     pub(crate) fn take_memory_together(&mut self, together: &Together) -> Result<(), AllocError>
         requires some { 1 ≤ length together.now.bodies.items }
         ensures ok { OnOk result (AreReady D.Disk self.old together.now self.new) }
-        ensures err { (calls : List Asked) → IsGroup D.Disk self.old calls together.now
-            → OnErr result (StaysFor D.Disk self.old self.new) }
+        ensures stays { (calls : List Asked) → IsGroup D.Disk self.old calls together.now → StaysFor D.Disk self.old self.new }
+        ensures same { self.new ≡ record self.old { tables = self.new.tables; log = self.new.log } }
         ensures log { HasReserved D.Disk self.old.log self.new.log }
         ensures outcome { self.new.outcome ≡ self.old.outcome }
         ensures company { connected_to self.new ≡ connected_to self.old }
     {
         self.tables.make_rooms(&together.prepares)?;
-        match self.log.reserve_group(Group::Many(&together.bodies)) {
-            Ok(true) => Ok(()),
-            Ok(false) | Err(_) => {
-                self.tables.give_rooms_back(&together.prepares);
-                Err(AllocError)
-            }
+        if self.has_reserved(together) {
+            return Ok(());
         }
+        self.tables.give_rooms_back(&together.prepares);
+        Err(AllocError)
     }
 }

@@ -1,7 +1,7 @@
 ghost use Rattle.std.specs.Prelude.{ℕ, ◌≡◌, ◌≤◌, ◌<◌, ◌⊎◌, ◌↔◌, Bool, true, [], IfOk, IfErr, OnOk, IsErrOf, IsErrAnd, IsSomeAnd, Some, None, length};
 ghost use Rattle.xa_limits.specs.declared.TheConstants.{MOST_LOG};
 ghost use Rattle.xa_log.specs.{Chain.newest, LogView.LogView};
-ghost use Rattle.xa_log.specs.Opened.{IsOpened, found_in, found_in_first, limit_of};
+ghost use Rattle.xa_log.specs.Opened.{IsOpened, found_in, found_in_first, passed_in, passed_of, limit_of};
 ghost use Rattle.xa_log.specs.Pair.{generation, pair_fault, logged_pair};
 ghost use Rattle.xa_log.specs.{Reading.Ends, Reading.bodies_of, Stands.EndsBehind, TwoFiles.first_of, TwoFiles.second_of};
 ghost use Rattle.xa_model.specs.{declared.outcome.Outcome.TheVariants.Reread, declared.outcome.Appending.TheVariants.Kept, State.State};
@@ -24,7 +24,7 @@ use xa_assoc::Sessions;
 use xa_codes::Bytes;
 use xa_disk::Disk;
 use xa_limits::{LEAST_LOG, MOST_INFO, MOST_LOG};
-use xa_log::{Appended, Log, OpenFault, Opened, create_on, open_on};
+use xa_log::{Appended, Log, OpenFault, Opened, PassedOver, create_on, open_on};
 use xa_model::Outcome;
 
 impl<D: Disk + Drop> Manager<D> {
@@ -49,21 +49,22 @@ impl<D: Disk + Drop> Manager<D> {
         ensures refused { D.honest
             → IfErr result (λ e. OpenRefused e settings.name settings.log_bytes (D.seen first) (D.seen second)) }
     {
-        match Manager::open_returning(alloc, first, second, settings) {
+        match Manager::open_returning(alloc, first, second, settings, &mut None) {
             Ok(manager) => Ok(manager),
             Err(refused) => Err(refused.fault),
         }
     }
 
     /// Opens a manager on two disks: where both are empty it makes a log, and else it reads the log that they have. A
-    /// new boot begins with what lasts of it. A fault gives the disks back. Faults are looked for in this order:
-    /// `Setting`, the log's own, `Memory`, `Malformed`, `Order`, `Boots`, `LogFull`, `Device`. Where there is a log,
-    /// none of them but the last has written anything.
+    /// new boot begins with what lasts of it; `passed_over` tells which records the log leaves out, if any. A fault gives the
+    /// disks back. Faults are looked for in this order: `Setting`, the log's own, `Memory`, `Malformed`, `Order`, `Boots`,
+    /// `LogFull`, `Device`. Where there is a log, none of them but the last has written anything.
     pub fn open_returning(
         alloc: Global,
         mut first: D,
         mut second: D,
         settings: Settings,
+        passed_over: &mut Option<PassedOver>,
     ) -> Result<Manager<D>, RefusedOpening<D>>
         ensures setting { IsErrAnd result (λ r. r.fault ≡ ManagerFault.Setting)
             ↔ IsBadSetting settings.name settings.log_bytes }
@@ -79,6 +80,7 @@ impl<D: Disk + Drop> Manager<D> {
         ensures refused { D.honest
             → IfErr result
             (λ r. OpenRefused r.fault settings.name settings.log_bytes (D.seen first) (D.seen second)) }
+        ensures left { D.honest → OnOk result (passed_over.new ≡ passed_of (D.seen first) (D.seen second)) }
         // What it did to the disks: to those that it gives back, and to those of a manager's log.
         ensures logs { IfOk result
             (λ m. LeavesLogging D.Disk settings.log_bytes first second Appended.Kept (log_of m)) }
@@ -97,6 +99,7 @@ impl<D: Disk + Drop> Manager<D> {
         }
         match find_log(alloc, &mut first, &mut second, log_bytes) {
             Ok((opened, is_new)) => {
+                *passed_over = opened.passed_over();
                 let (log, bodies) = Log::on(first, second, opened);
                 begin(alloc, log, bodies, is_new, name, log_bytes)
             }
@@ -220,6 +223,7 @@ fn find_log<D: Disk>(
     ensures stands { D.honest → IfOk result (λ r. IsOpened D.Disk first.new second.new r.0) }
     ensures made { IfOk result (λ r. r.1 ≡ true → ((found_in r.0).bodies.items ≡ []) × (found_in_first r.0 ≡ true)) }
     ensures modern { IfOk result (λ r. r.1 ≡ true → (found_in r.0).format ≡ newest) }
+    ensures left { D.honest → IfOk result (λ r. passed_in r.0 ≡ passed_of (D.seen first.old) (D.seen second.old)) }
     ensures made_beside { D.honest → IfOk result (λ r. r.1 ≡ true → D.seen second.new ≡ []) }
     ensures made_of { D.honest
         → IfOk result (λ r. r.1 ≡ true → (D.seen first.old ≡ []) × (D.seen second.old ≡ [])) }

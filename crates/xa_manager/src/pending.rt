@@ -2,12 +2,15 @@ ghost use Rattle.std.specs.Prelude.{◌≡◌, IfErr, IfOk, OnErr, true};
 ghost use Rattle.std.specs.List.{AllByRecursion};
 ghost use Rattle.xa_model.specs.{Events.IsAsked, State.State};
 ghost use Rattle.xa_manager.specs.{Answered.StaysFor, Connected.connected_to, Parts.log_of, Parts.outcome_of};
+ghost use Rattle.xa_log.specs.Reading.{bodies_of};
 ghost use Rattle.xa_manager.specs.Pending.{IsPending, IsGroupOf, WritesGroup, calls_of};
+ghost use Rattle.xa_manager.specs.Together.{IsBounded};
 ghost use Rattle.xa_manager.specs.{Managed.ManagerStandsFor, Reserving.HasReserved};
 
 use crate::manager::Manager;
 use crate::together::{Asked, Together};
 use xa_disk::{Disk, Syncer};
+use xa_frame::Reply;
 use xa_log::{Group, Written};
 
 /// Calls that are asked together, as a group that is pending: their records are written, and the sync is to follow.
@@ -15,6 +18,8 @@ use xa_log::{Group, Written};
 pub struct PendingGroup {
     pub(crate) calls: Vec<Asked>,
     pub(crate) together: Together,
+    /// None yet, with room for each.
+    pub(crate) replies: Vec<(usize, Reply)>,
     pub(crate) written: Written,
 }
 
@@ -30,6 +35,7 @@ impl PendingGroup {
 impl<D: Disk> Manager<D> {
     /// Writes the records of a group of calls, as `call_together`, and leaves the sync to whoever has the `syncer`. Until the
     /// group is finished (`finish_group`), the manager answers sessions' work on other branches (`work`), and nothing else.
+    /// All memory that finishing it wants is taken before the write.
     ///
     /// # Errors
     /// Gives the calls back where none of them logs, or out of memory: then nothing changed.
@@ -38,6 +44,7 @@ impl<D: Disk> Manager<D> {
         ensures ok { IfOk result
             (λ f. (s : State) → ManagerStandsFor D.Disk self.old s → IsPending D.Disk self.new f s) }
         ensures group { IfOk result (λ f. IsGroupOf self.new f × (calls_of f ≡ calls)) }
+        ensures bounded { IfOk result (λ f. IsBounded (bodies_of f.together.bodies.items)) }
         ensures wrote { IfOk result (λ f. WritesGroup D.Disk self.old f self.new) }
         ensures err { OnErr result (StaysFor D.Disk self.old self.new) }
         ensures back { IfErr result (λ given. given ≡ calls) }
@@ -48,16 +55,26 @@ impl<D: Disk> Manager<D> {
         let Ok(together) = self.group_of(&calls) else {
             return Err(calls);
         };
-        if together.members.is_empty() || !self.has_reserved(&together) {
+        if together.members.is_empty() {
             return Err(calls);
         }
+        let Ok(replies) = Vec::with_capacity(self.tables.alloc, together.members.len()) else {
+            return Err(calls);
+        };
+        let Ok(()) = self.take_memory_together(&together) else {
+            return Err(calls);
+        };
         match self.log.write_group(Group::Many(&together.bodies)) {
             Some(written) => Ok(PendingGroup {
                 calls,
                 together,
+                replies,
                 written,
             }),
-            None => Err(calls),
+            None => {
+                self.tables.give_rooms_back(&together.prepares);
+                Err(calls)
+            }
         }
     }
 

@@ -65,13 +65,18 @@ impl<D: Disk> Manager<D> {
         self.log.rescan()
     }
 
-    /// Whether the log that was read again goes on behind this offset, in a file of the newest format.
-    fn goes_on(&self, end: u64) -> bool
+    /// Whether the log that was read again goes on behind this offset, with this generation, in a file of the newest
+    /// format.
+    fn goes_on(&self, end: u64, number: usize) -> bool
         ensures end { result ≡ true → self.now.log.end ≡ end }
+        ensures number { result ≡ true → self.now.log.generation ≡ number }
         ensures modern { result ≡ true → self.now.log.format ≡ newest }
-        ensures other { self.now.log.end ≡ end → self.now.log.format ≡ newest → result ≡ true }
+        ensures other { self.now.log.end ≡ end → self.now.log.generation ≡ number → self.now.log.format ≡ newest
+            → result ≡ true }
     {
-        self.log.end() == end && self.log.format() == Format::newest().number()
+        self.log.end() == end
+            && self.log.generation() == number
+            && self.log.format() == Format::newest().number()
     }
 
     /// Makes ready what the next boot begins with, of the bodies of the log that was read again. All memory of a restart
@@ -255,13 +260,14 @@ impl<D: Disk> Manager<D> {
         ensures bare { IfOk result (λ d. IsBare d.reply) }
     {
         let end = self.log.end();
+        let number = self.log.generation();
         match self.look() {
             Ok(bodies) => {
                 let after_end = self.count_after(&bodies);
                 match self.make_ready(bodies) {
                     Ok(planned) => Ok(self.begin(planned, after_end)),
                     Err(LogFault::Memory) => {
-                        if self.up && !self.goes_on(end) {
+                        if self.up && !self.goes_on(end, number) {
                             return Ok(self.unread());
                         }
                         Err(AllocError)

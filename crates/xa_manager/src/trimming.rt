@@ -84,18 +84,16 @@ impl<D: Disk> Manager<D> {
         requires holds { HoldsEach self.old.log bodies.now }
         requires above { self.old.log.generation < generation bodies.now }
         requires up { self.old.up ≡ true }
-        ensures turn { (s : State) (rs : List Record) → ManagerStandsFor D.Disk self.old s → Trusts D.Disk
-            → Backs rs s → HasRecords D.Disk rs self.old.log → trim_refusal s ≡ None → next ≡ s.logged_boot + 1
-            → bodies.now ≡ snapshot_bodies s (s.logged_boot + 1)
+        ensures turn { (s : State) → ManagerStandsFor D.Disk self.old s → trim_refusal s ≡ None
+            → next ≡ s.logged_boot + 1 → bodies.now ≡ snapshot_bodies s (s.logged_boot + 1)
             → AnswersAs D.Disk (taken (trim_turn s) result.outcome) result.reply self.new }
         // Both of a log whose buffer alone was another.
         ensures leaves { (log : LogView D) (s : State) (rs : List Record) → HasReserved D.Disk log self.old.log
             → ManagerStandsFor D.Disk self.old s → Trusts D.Disk → Backs rs s → HasRecords D.Disk rs log
             → trim_refusal s ≡ None → bodies.now ≡ snapshot_bodies s (s.logged_boot + 1)
             → LeavesBy D.Disk log (trim_turn s) result.outcome self.new.log s }
-        ensures called { (log : LogView D) (s : State) (rs : List Record) → HasReserved D.Disk log self.old.log
-            → ManagerStandsFor D.Disk self.old s → Trusts D.Disk → Backs rs s
-            → bodies.now ≡ snapshot_bodies s (s.logged_boot + 1)
+        ensures called { (log : LogView D) (s : State) → HasReserved D.Disk log self.old.log
+            → ManagerStandsFor D.Disk self.old s → bodies.now ≡ snapshot_bodies s (s.logged_boot + 1)
             → HasCalledToTrim D.Disk result.outcome log self.new.log }
         ensures outcome { self.new.outcome ≡ self.old.outcome }
         ensures served { is_memory result.reply.detail ≡ false }

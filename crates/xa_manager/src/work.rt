@@ -2,6 +2,7 @@ ghost use Rattle.std.specs.Prelude.{◌≡◌, IfOk, OnErr, IsSome};
 ghost use Rattle.xa_model.specs.Associations.{begin_by, join_by, resume_by, start_by, suspend_by, leave_by, end_by};
 ghost use Rattle.xa_assoc.specs.{Seats.opened_at, Refusals.IsBare, Company.company_of};
 ghost use Rattle.xa_manager.specs.{Replies.IsFresh, Tables.TablesFollow, Tables.TablesStay};
+ghost use Rattle.xa_branch.specs.Room.{rooms_of};
 
 use crate::tables::Tables;
 use std::alloc::AllocError;
@@ -17,6 +18,7 @@ impl Tables {
         ensures ok { IfOk result (λ r. TablesFollow self.old (λ s. start_by s session flags xid.now) r self.new) }
         ensures err { OnErr result (TablesStay self.old self.new) }
         ensures company { company_of self.new.sessions ≡ company_of self.old.sessions }
+        ensures rooms { rooms_of self.new.branches ≡ rooms_of self.old.branches }
         ensures fresh { IfOk result IsFresh }
     {
         if flags & TMJOIN == TMJOIN {
@@ -34,6 +36,7 @@ impl Tables {
         ensures ok { IfOk result (λ r. TablesFollow self.old (λ s. begin_by s session xid.now) r self.new) }
         ensures err { OnErr result (TablesStay self.old self.new) }
         ensures company { company_of self.new.sessions ≡ company_of self.old.sessions }
+        ensures rooms { rooms_of self.new.branches ≡ rooms_of self.old.branches }
         ensures fresh { IfOk result IsFresh }
     {
         if let Some(reply) = self.begin_refusal(session, xid) {
@@ -49,6 +52,7 @@ impl Tables {
         ensures ok { IfOk result (λ r. TablesFollow self.old (λ s. join_by s session xid.now) r self.new) }
         ensures err { OnErr result (TablesStay self.old self.new) }
         ensures company { company_of self.new.sessions ≡ company_of self.old.sessions }
+        ensures rooms { rooms_of self.new.branches ≡ rooms_of self.old.branches }
         ensures fresh { IfOk result IsFresh }
     {
         if let Some(reply) = self.join_refusal(session, xid) {
@@ -69,6 +73,7 @@ impl Tables {
         ensures ok { IfOk result (λ r. TablesFollow self.old (λ s. resume_by s session xid.now) r self.new) }
         ensures err { OnErr result (TablesStay self.old self.new) }
         ensures company { company_of self.new.sessions ≡ company_of self.old.sessions }
+        ensures rooms { rooms_of self.new.branches ≡ rooms_of self.old.branches }
         ensures fresh { IfOk result IsFresh }
     {
         if let Some(reply) = self.resume_refusal(session, xid) {
@@ -91,6 +96,7 @@ impl Tables {
         requires connected { IsSome (opened_at self.old.sessions session) }
         ensures follows { TablesFollow self.old (λ s. end_by s session flags xid.now) result self.new }
         ensures company { company_of self.new.sessions ≡ company_of self.old.sessions }
+        ensures rooms { rooms_of self.new.branches ≡ rooms_of self.old.branches }
         ensures bare { IsBare result }
     {
         if flags & TMSUSPEND == TMSUSPEND {
@@ -105,6 +111,7 @@ impl Tables {
         requires connected { IsSome (opened_at self.old.sessions session) }
         ensures follows { TablesFollow self.old (λ s. suspend_by s session migrates xid.now) result self.new }
         ensures company { company_of self.new.sessions ≡ company_of self.old.sessions }
+        ensures rooms { rooms_of self.new.branches ≡ rooms_of self.old.branches }
         ensures bare { IsBare result }
     {
         if let Some(reply) = self.suspend_refusal(session, xid) {
@@ -125,6 +132,7 @@ impl Tables {
         requires connected { IsSome (opened_at self.old.sessions session) }
         ensures follows { TablesFollow self.old (λ s. leave_by s session fails xid.now) result self.new }
         ensures company { company_of self.new.sessions ≡ company_of self.old.sessions }
+        ensures rooms { rooms_of self.new.branches ≡ rooms_of self.old.branches }
         ensures bare { IsBare result }
     {
         if let Some(reply) = self.leave_refusal(session, xid) {

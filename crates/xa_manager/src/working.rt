@@ -3,6 +3,7 @@ ghost use Rattle.std.specs.Prelude.{◌≡◌, IfOk, IsOk, IsSome, OnErr, true, 
 ghost use Rattle.xa_model.specs.{Events.IsAsked, Laws.Together.is_work};
 ghost use Rattle.xa_assoc.specs.{Company.company_of, Seats.opened_at};
 ghost use Rattle.xa_manager.specs.{Answered.may_want, Pending.work_by, Replies.IsFresh, Tables.TablesFollow, Tables.TablesStay};
+ghost use Rattle.xa_branch.specs.Room.{rooms_of};
 
 use crate::tables::Tables;
 use std::alloc::AllocError;
@@ -33,6 +34,7 @@ impl Tables {
         ensures err { OnErr result (TablesStay self.old self.new) }
         ensures memory { may_want request ≡ false → IsOk result }
         ensures company { company_of self.new.sessions ≡ company_of self.old.sessions }
+        ensures rooms { rooms_of self.new.branches ≡ rooms_of self.old.branches }
         ensures fresh { IfOk result IsFresh }
     {
         match request {

@@ -16,7 +16,7 @@ use Rattle.xa_model.specs.declared.event.Event.{Event}
 use Rattle.xa_model.specs.declared.outcome.Appending.{Appending}
 use Rattle.xa_model.specs.declared.outcome.Outcome.{Outcome}
 use Rattle.xa_model.specs.declared.outcome.Outcome.TheVariants.{Appended, Joined}
-use Rattle.xa_history.specs.Book.{AreNumbered, HasNoBoot, placed, plain_entries}
+use Rattle.xa_history.specs.Book.{AreNumbered, HasNoRestart, placed, plain_entries}
 use Rattle.xa_history.specs.Together as manager
 use Rattle.xa_history.specs.Together.{ActsTogether, AreUnplaced, IsToldOf, event_at, events_of, told_entries, told_entry}
 use Rattle.xa_history.specs.Upholds.{Upholds}
@@ -55,13 +55,13 @@ after_append : (before : Option Appending) (es more : List Entry) → JoinAfter 
 after_append before [] more first rest = rest before
 after_append before (e ∷ es) more first rest = (first.0, after_append (append_in e.outcome) es more first.1 rest)
 
-no_boot_before : (es more : List Entry) → HasNoBoot (es ++ more) → HasNoBoot es
-no_boot_before [] more h = tt
-no_boot_before (e ∷ es) more h = (h.0, no_boot_before es more h.1)
+no_restart_before : (es more : List Entry) → HasNoRestart (es ++ more) → HasNoRestart es
+no_restart_before [] more h = tt
+no_restart_before (e ∷ es) more h = (h.0, no_restart_before es more h.1)
 
-premise_before : (trusts : Type 0) (es more : List Entry) → trusts ⊎ HasNoBoot (es ++ more) → trusts ⊎ HasNoBoot es
+premise_before : (trusts : Type 0) (es more : List Entry) → trusts ⊎ HasNoRestart (es ++ more) → trusts ⊎ HasNoRestart es
 premise_before trusts es more (inl t) = inl t
-premise_before trusts es more (inr h) = inr (no_boot_before es more h)
+premise_before trusts es more (inr h) = inr (no_restart_before es more h)
 
 -- ---- replies with their places
 

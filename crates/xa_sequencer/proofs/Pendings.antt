@@ -22,7 +22,7 @@ use Rattle.xa_manager.specs.declared.together.Asked.{Asked}
 use Rattle.xa_manager.proofs.Counting.{none_by, rise_both}
 use Rattle.xa_manager.proofs.Reserved.{none_rises}
 use Rattle.xa_model.specs.Answer.{Answer}
-use Rattle.xa_model.specs.Events.{begins_boot}
+use Rattle.xa_model.specs.Events.{is_restart}
 use Rattle.xa_model.specs.History.{Entry, Leads, joins}
 use Rattle.xa_model.specs.State.{State}
 use Rattle.xa_model.specs.Step.{step}
@@ -155,13 +155,13 @@ module _ {D : Type 0} (disks : disk.Ghosts D) where
         → ((log : LogView D) (s : State) → IsPendingFrom disks log m f s → MatchBool b (IsPendingFrom disks log m' f s)
         (IsSomeAnd (step s (turn.Asked event) Quiet) (λ a. (a.reply ≡ reply) × IsPendingFrom disks log m' f a.after)))
         → MatchBool b ((s : State) → IsPending disks m f s → IsPending disks m' f s)
-        ((s : State) → IsPending disks m f s → Trusts disks ⊎ (begins_boot event ≡ false)
+        ((s : State) → IsPending disks m f s → Trusts disks ⊎ (is_restart event ≡ false)
         → IsSomeAnd (step s (turn.Asked event) Quiet) (λ a. (a.reply ≡ reply) × IsPending disks m' f a.after))
     stays_by true h = λ s st. (st.0, h st.0 s st.1)
     stays_by false h = λ s st premise. map_some (step s (turn.Asked event) Quiet) _ _ (λ a x. (x.0, (st.0, x.1))) (h st.0 s st.1)
 
     counts_by : (b : Bool) → MatchBool b ((s : State) → IsPending disks m f s → RiseBy 0 (counted_before F f (log_of m)) (counted_before F f (log_of m')))
-        ((s : State) → IsPending disks m f s → Trusts disks ⊎ (begins_boot event ≡ false) → (joins Quiet ≡ false) × RiseBy (failures_in Quiet) (counted_before F f (log_of m)) (counted_before F f (log_of m')))
+        ((s : State) → IsPending disks m f s → Trusts disks ⊎ (is_restart event ≡ false) → (joins Quiet ≡ false) × RiseBy (failures_in Quiet) (counted_before F f (log_of m)) (counted_before F f (log_of m')))
     counts_by true = λ s st. same_counts
     counts_by false = λ s st premise. (refl, same_counts)
 
@@ -200,13 +200,6 @@ module _ {D : Type 0} (disks : disk.Ghosts D) where
         },
       )
 
-  pub not_finished : (m m' : Manager D) (f : PendingGroup) → ((log : LogView D) (s : State) → IsPendingFrom disks log m f s → IsPendingFrom disks log m' f s) → log_of m' ≡ log_of m
-      → RestsAs (manages_of disks) (gr m (Some f)) (gr m' (Some f))
-  not_finished m m' f stays same = record {
-    stays = λ s st. (st.0, stays st.0 s st.1);
-    counted = subst (λ (l : LogView D). RiseBy 0 (counted_before F f (log_of m)) (counted_before F f l)) (sym same) (rise_none (counted_before F f (log_of m)));
-  }
-
   -- ---- the same, of a manager that has it pending
 
   pub worked : (g : GroupManager D) (m' : Manager D) (f : PendingGroup) (event : Event) (reply : Reply) → g.pending ≡ Some f → WorksBeside disks g.manager f event reply m'
@@ -219,8 +212,3 @@ module _ {D : Type 0} (disks : disk.Ghosts D) where
   finished g m' p' f calls replies is none same h =
       at g.pending (Some f) p' None (λ x y. AnswersAs (manages_of disks) (gr g.manager x) calls replies (gr m' y)) is none
       (subst (λ (l : List Asked). AnswersAs (manages_of disks) (gr g.manager (Some f)) l replies (gr m' None)) (sym same) (answered_group g.manager m' f replies h))
-
-  pub unfinished : (g : GroupManager D) (m' : Manager D) (f f' : PendingGroup) → g.pending ≡ Some f → f' ≡ f → ((log : LogView D) (s : State) → IsPendingFrom disks log g.manager f s → IsPendingFrom disks log m' f s) → log_of m' ≡ log_of g.manager
-      → RestsAs (manages_of disks) g (gr m' (Some f'))
-  unfinished g m' f f' is same stays log =
-      at g.pending (Some f) (Some f') (Some f) (λ x y. RestsAs (manages_of disks) (gr g.manager x) (gr m' y)) is (ap Some same) (not_finished g.manager m' f stays log)

@@ -60,7 +60,7 @@ pub trait GroupCommits {
         ensures pending { pending self.new ≡ None };
 
     /// Writes the records of those calls that may share an append, and leaves the sync to whoever has the `syncer`: then
-    /// the group is pending.
+    /// the group is pending. All memory that finishing it wants is taken before the write.
     ///
     /// # Errors
     /// Gives the calls back where none of them logs, or out of memory.
@@ -82,21 +82,13 @@ pub trait GroupCommits {
 
     /// Answers the pending group's calls, by the answer of its sync: gives the replies in the order in which they were
     /// answered, each with the place of its call among those that were asked, and the calls back. Of a call that has no
-    /// reply nothing has been done.
-    ///
-    /// # Errors
-    /// Out of memory: gives the answer back, and the group is still pending.
-    fn finish_group(
-        &mut self,
-        answer: SyncAnswer,
-    ) -> Result<(Vec<(usize, Reply)>, Vec<Asked>), SyncAnswer>
+    /// reply nothing has been done. Takes no memory.
+    fn finish_group(&mut self, answer: SyncAnswer) -> (Vec<(usize, Reply)>, Vec<Asked>)
         requires some { pending self.old ≢ None }
         requires group { has_its_group self.old }
-        ensures ok { IfOk result (λ r. AnswersAs manages self.old r.1.items r.0.items self.new) }
-        ensures calls { IfOk result (λ r. (pending self.old ≡ Some r.1.items) × (pending self.new ≡ None)) }
-        ensures once { IfOk result (λ r. AreOnce r.0.items) }
-        ensures err { OnErr result (RestsAs manages self.old self.new) }
-        ensures still { OnErr result ((pending self.new ≡ pending self.old) × has_its_group self.new) }
+        ensures acts { AnswersAs manages self.old result.1.items result.0.items self.new }
+        ensures calls { (pending self.old ≡ Some result.1.items) × (pending self.new ≡ None) }
+        ensures once { AreOnce result.0.items }
         ensures sessions { manages.sessions self.new ≡ manages.sessions self.old };
 
     /// Whether no group is pending.

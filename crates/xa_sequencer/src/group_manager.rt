@@ -66,20 +66,11 @@ impl<D: Disk> GroupCommits for GroupManager<D> {
         self.manager.syncer()
     }
 
-    fn finish_group(
-        &mut self,
-        answer: SyncAnswer,
-    ) -> Result<(Vec<(usize, Reply)>, Vec<Asked>), SyncAnswer> {
+    fn finish_group(&mut self, answer: SyncAnswer) -> (Vec<(usize, Reply)>, Vec<Asked>) {
         let Some(group) = self.pending.take() else {
             unreachable!()
         };
-        match self.manager.finish_group(group, answer) {
-            Ok(finished) => Ok(finished),
-            Err((group, answer)) => {
-                self.pending = Some(group);
-                Err(answer)
-            }
-        }
+        self.manager.finish_group(group, answer)
     }
 
     fn is_settled(&self) -> bool {

@@ -138,29 +138,20 @@ impl<M: GroupCommits, S: Start> Sequencer<M, S> {
 
     /// Answers the calls of the pending group, by the answer of its sync. Gives their replies, with their numbers, in the
     /// order in which they were answered, each with the place of its call among those that were asked, and the calls back.
-    /// Of a call that has no reply nothing has been done: it is to be called by itself afterwards.
-    ///
-    /// # Errors
-    /// Out of memory: gives the answer back, and the group is still pending.
-    pub fn finish_group(
-        &mut self,
-        answer: SyncAnswer,
-    ) -> Result<(Vec<(usize, Reply)>, Vec<Asked>), SyncAnswer>
+    /// Of a call that has no reply nothing has been done: it is to be called by itself afterwards. Takes no memory.
+    pub fn finish_group(&mut self, answer: SyncAnswer) -> (Vec<(usize, Reply)>, Vec<Asked>)
         requires { M.pending self.old.now ≢ None }
-        ensures ok { IfOk result (λ r.
-            CalledTogether M.manages S.start S.base self.old r.1.items r.0.items self.new) }
-        ensures calls { IfOk result (λ r. M.pending self.old.now ≡ Some r.1.items) }
-        ensures told { IfOk result (λ r. AllByRecursion (IsToldOf r.1.items) r.0.items) }
-        ensures once { IfOk result (λ r. AreOnce r.0.items) }
-        ensures limits { IfOk result (λ r. AllByRecursion (λ c. IsRequest c.request) r.1.items) }
-        ensures settled { OnOk result (M.pending self.new.now ≡ None) }
-        ensures err { OnErr result (Rests M.manages S.start S.base self.old self.new) }
-        ensures still { OnErr result (M.pending self.new.now ≡ M.pending self.old.now) }
+        ensures called { CalledTogether M.manages S.start S.base self.old result.1.items result.0.items self.new }
+        ensures calls { M.pending self.old.now ≡ Some result.1.items }
+        ensures told { AllByRecursion (IsToldOf result.1.items) result.0.items }
+        ensures once { AreOnce result.0.items }
+        ensures limits { AllByRecursion (λ c. IsRequest c.request) result.1.items }
+        ensures settled { M.pending self.new.now ≡ None }
     {
-        let (mut replies, calls) = self.manager.finish_group(answer)?;
+        let (mut replies, calls) = self.manager.finish_group(answer);
         number_all(&mut replies, self.count);
         self.count += replies.len() as u64;
-        Ok((replies, calls))
+        (replies, calls)
     }
 
     /// Whether no group is pending.

@@ -24,6 +24,7 @@ failed_on_files disks opened refused net log_bytes place late first second fault
 failed_on_files disks opened refused net log_bytes place late first second fault.Start files h = absurd h
 failed_on_files disks opened refused net log_bytes place late first second fault.Wait files h = absurd h
 failed_on_files disks opened refused net log_bytes place late first second fault.InUse files h = absurd h
+failed_on_files disks opened refused net log_bytes place late first second (fault.Absent log_file) files h = absurd h
 failed_on_files disks opened refused net log_bytes place late first second (fault.File log_file cause) files h = absurd h
 failed_on_files disks opened refused net log_bytes place late first second (fault.Missing log_file) files h =
     (first, second, files, h)
@@ -45,6 +46,7 @@ failed_early disks opened refused net log_bytes place late fault.Listen h = h
 failed_early disks opened refused net log_bytes place late fault.Start h = absurd h.1
 failed_early disks opened refused net log_bytes place late fault.Wait h = absurd h.1
 failed_early disks opened refused net log_bytes place late fault.InUse h = h
+failed_early disks opened refused net log_bytes place late (fault.Absent log_file) h = h
 failed_early disks opened refused net log_bytes place late (fault.File log_file cause) h = h
 failed_early disks opened refused net log_bytes place late (fault.Missing log_file) h = h
 failed_early disks opened refused net log_bytes place late (fault.Stray log_file) h = h

@@ -9,12 +9,13 @@ use Rattle.xa_server.specs.declared.fault.ServerFault.{ServerFault}
 use Rattle.xa_server.specs.declared.fault.ServerFault.TheVariants as serving
 use Rattle.xa_server.specs.declared.log_file.LogFile.{LogFile}
 use Rattle.xa_server.specs.declared.serve_fault.ServeFault.{ServeFault}
-use Rattle.xa_server.specs.declared.serve_fault.ServeFault.TheVariants.{Memory, Start, Wait, InUse, File, Manager}
+use Rattle.xa_server.specs.declared.serve_fault.ServeFault.TheVariants.{Memory, Start, Wait, InUse, Absent, File, Manager}
 
 -- why a file of the log wasn't opened
 abbrev pub file_fault : LogFile → FileFault → ServeFault
 file_fault log_file file.Memory = Memory
 file_fault log_file file.InUse = InUse
+file_fault log_file file.Absent = Absent log_file
 file_fault log_file fault = File log_file fault
 
 -- why a manager couldn't be opened

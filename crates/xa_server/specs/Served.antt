@@ -170,6 +170,8 @@ abbrev pub IsFileFault : {D : Type 0} → (D → List ℕ → Type 0) → (List 
     → Type 0
 IsFileFault opened refused path fault.Memory = Unit {0}
 IsFileFault opened refused path fault.InUse = (is_second : Bool) × IsRefused opened refused path is_second file.InUse
+IsFileFault opened refused path (fault.Absent log_file) =
+    (log_file.path.now ≡ path) × IsRefused opened refused path log_file.is_second file.Absent
 IsFileFault opened refused path (fault.File log_file why) =
     (log_file.path.now ≡ path) × IsRefused opened refused path log_file.is_second why
 IsFileFault opened refused path _ = ⊥
@@ -220,6 +222,8 @@ abbrev pub HasFailedBy : {D R : Type 0} → disk.Ghosts D → (D → List ℕ �
 HasFailedBy disks opened refused net log_bytes place late fault.Memory = Unit {0}
 HasFailedBy disks opened refused net log_bytes place late fault.InUse =
     IsFileFault opened refused place.path fault.InUse
+HasFailedBy disks opened refused net log_bytes place late (fault.Absent log_file) =
+    IsFileFault opened refused place.path (fault.Absent log_file)
 HasFailedBy disks opened refused net log_bytes place late (fault.File log_file why) =
     IsFileFault opened refused place.path (fault.File log_file why)
 HasFailedBy disks opened refused net log_bytes place late (fault.Manager e) =

@@ -10,7 +10,7 @@ use Rattle.xa_room.specs.declared.auditing.AuditFault.{AuditFault}
 use Rattle.xa_history.specs.declared.entry.Entry.{Entry}
 use Rattle.xa_history.specs.declared.manages.Manages.{Ghosts}
 use Rattle.xa_room.specs.Audit.{Audits}
-use Rattle.xa_history.specs.Book.{HasNoBoot, plain_entries}
+use Rattle.xa_history.specs.Book.{HasNoRestart, plain_entries}
 use Rattle.xa_room.specs.Gone.{WasGone}
 use Rattle.xa_history.specs.Upholds.{IsLegal, IsCounted}
 use Rattle.xa_history.specs.Promises.{Promises}
@@ -52,7 +52,7 @@ pub record KeepsServed {M : Type 0} (m : Ghosts M) (manager : M) (calls : ℕ) :
   pub stood : m.stands manager first
   pub entries : List Entry
   pub calls_are : calls ≡ length entries
-  pub promised : m.trusts ⊎ HasNoBoot entries
+  pub promised : m.trusts ⊎ HasNoRestart entries
       → (t : State) × IsReached first (plain_entries entries) t × HasOneCopy t
       × ListsPrepared (plain_entries entries) t × ListsNoCompleted (plain_entries entries) t
 

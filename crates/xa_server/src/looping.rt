@@ -6,7 +6,7 @@ use crate::engine::loop_manager;
 use crate::listening::Listening;
 use crate::listens::Listens;
 use crate::serve_fault::ServeFault;
-use crate::service::make_ready;
+use crate::service::{make_ready, tell_passed_over};
 use std::io;
 use std::io::Print;
 use std::net::{IpAddr, Net};
@@ -33,13 +33,16 @@ pub fn serve_loops<
         service.now) }
 {
     warn(rt, service.at);
+    let mut left = None;
     let (listening, manager) = make_ready(
         rt,
         service.path,
         service.name,
         service.at,
         service.log_bytes,
+        &mut left,
     )?;
+    tell_passed_over(rt, service.path, left);
     let Ok(listener) = unblocked(listening) else {
         return Err(ServeFault::Wait);
     };

@@ -31,6 +31,9 @@ pub enum ServeFault<'a> {
         file: LogFile<'a>,
         fault: FileFault,
     },
+    /// It isn't there, beside the other one's log. None was made in its place.
+    #[error("log file missing or empty: {0}")]
+    Absent(LogFile<'a>),
     /// It was there once, as the other one's log shows.
     #[error("log file missing or empty: {0}")]
     Missing(LogFile<'a>),

@@ -13,13 +13,13 @@ use crate::log_file::LogFile;
 use crate::serve_fault::ServeFault;
 use crate::serving::serve_manager;
 use std::alloc::{AllocError, Global};
-use std::io::Print;
+use std::io::{Eprint, Print};
 use std::rt::Clock;
 use std::sync::Wait;
 use std::thread::Threads;
 use xa_disk::{Disk, FileFault, Opens};
 use xa_history::Manages;
-use xa_log::{OpenFault, Unfit, find_damage, unfit_file};
+use xa_log::{OpenFault, PassedOver, Unfit, find_damage, unfit_file};
 use xa_manager::{Manager, ManagerFault, RefusedOpening, Settings};
 use xa_service::{At, Service};
 
@@ -28,7 +28,7 @@ use xa_service::{At, Service};
 ///
 /// Nobody is answered before the manager is open. Where the port can't be had, or a file of the log is missing or is none,
 /// the manager isn't opened, so that nothing is written to either file.
-pub fn serve<'a, R: AllocGlobal + Print + Opens + Listens + Clock + Threads + Wait + Sync>(
+pub fn serve<'a, R: AllocGlobal + Print + Eprint + Opens + Listens + Clock + Threads + Wait + Sync>(
     rt: &R,
     service: &Service<'a>,
 ) -> Result<bool, ServeFault<'a>>
@@ -40,7 +40,16 @@ pub fn serve<'a, R: AllocGlobal + Print + Opens + Listens + Clock + Threads + Wa
         address: "127.0.0.1",
         port: service.port,
     };
-    let (listening, manager) = make_ready(rt, service.path, service.name, at, service.log_bytes)?;
+    let mut left = None;
+    let (listening, manager) = make_ready(
+        rt,
+        service.path,
+        service.name,
+        at,
+        service.log_bytes,
+        &mut left,
+    )?;
+    tell_passed_over(rt, service.path, left);
     let Listening::Tcp(listener) = listening else {
         unreachable!()
     };
@@ -62,6 +71,7 @@ pub(crate) fn make_ready<'a, R: AllocGlobal + Opens + Listens>(
     name: &str,
     at: At<'_>,
     log_bytes: u64,
+    passed_over: &mut Option<PassedOver>,
 ) -> Result<(Listening, Manager<R::Disk>), ServeFault<'a>>
     ensures ready { IfOk result (λ made. IsReady ⟦<R::Disk as Disk>⟧ R.opened R.Listens log_bytes
         (record { path = path.now; name = name.now; at = where_of at.entry }) made.0 made.1) }
@@ -74,8 +84,36 @@ pub(crate) fn make_ready<'a, R: AllocGlobal + Opens + Listens>(
     let Ok(listening) = listen(rt, at) else {
         return Err(ServeFault::Listen);
     };
-    let manager = open_manager(rt.alloc(), first, second, settings, path)?;
+    let manager = open_manager(rt.alloc(), first, second, settings, path, passed_over)?;
     Ok((listening, manager))
+}
+
+/// Tells which records of the log at this path an opening left out, if any.
+pub(crate) fn tell_passed_over<R: Eprint>(rt: &R, path: &str, passed_over: Option<PassedOver>) {
+    let Some(
+        PassedOver {
+            on_first,
+            at,
+            records,
+        },
+    ) = passed_over
+    else {
+        return;
+    };
+    let file = LogFile {
+        path,
+        is_second: !on_first,
+    };
+    let many = if records == 1 {
+        "record that chains"
+    } else {
+        "records that chain"
+    };
+    let are = if records == 1 { "is" } else { "are" };
+    // Where it can't be told, the log is served all the same.
+    let _ = eprintln!(rt;
+        "xarm: {file}: {records} {many} behind byte {at} {are} left out: a torn write, or damage"
+    );
 }
 
 /// The manager that two files open to.
@@ -85,12 +123,13 @@ fn open_manager<'a, D: Disk + Drop>(
     second: D,
     settings: Settings,
     path: &'a str,
+    passed_over: &mut Option<PassedOver>,
 ) -> Result<Manager<D>, ServeFault<'a>>
     ensures opened { IfOk result (HasOpened D.Disk first second settings.name settings.log_bytes) }
     ensures failed { IfErr result (Refuses D.Disk path.now settings.name settings.log_bytes first second) }
 {
     let log_bytes = settings.log_bytes;
-    match Manager::open_returning(alloc, first, second, settings) {
+    match Manager::open_returning(alloc, first, second, settings, passed_over) {
         Ok(manager) => Ok(manager),
         Err(
             RefusedOpening {
@@ -167,14 +206,14 @@ fn open_files<'a, R: AllocGlobal + Opens>(
     ensures failed { IfErr result (IsFileFault R.opened R.refused path.now) }
 {
     let second_path = second_path(rt.alloc(), path)?;
-    let first = match rt.open_disk(path) {
+    let first = match rt.open_disk(path, second_path.as_str()) {
         Ok(disk) => disk,
         Err(fault) => {
             let is_second = false;
             return Err(refused(LogFile { path, is_second }, fault));
         }
     };
-    match rt.open_disk(second_path.as_str()) {
+    match rt.open_disk(second_path.as_str(), path) {
         Ok(second) => Ok((first, second)),
         Err(fault) => {
             let is_second = true;
@@ -190,6 +229,7 @@ fn refused(file: LogFile<'_>, fault: FileFault) -> ServeFault<'_>
     match fault {
         FileFault::Memory => ServeFault::Memory,
         FileFault::InUse => ServeFault::InUse,
+        FileFault::Absent => ServeFault::Absent(file),
         fault => ServeFault::File { file, fault },
     }
 }

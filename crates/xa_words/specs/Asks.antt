@@ -13,7 +13,7 @@ use Rattle.xa_service.specs.declared.at.At.{At}
 use Rattle.xa_service.specs.declared.at.At.TheVariants as at
 use Rattle.xa_service.specs.declared.service.TheConstants.{MOST_SERVED}
 use Rattle.xa_words.specs.declared.asked.Asked.{Asked}
-use Rattle.xa_words.specs.declared.asked.Asked.TheVariants.{Play, Scan, Serve, Loop, Talk, Tick, Nowhere}
+use Rattle.xa_words.specs.declared.asked.Asked.TheVariants.{Play, Scan, Check, Serve, Loop, Talk, Tick, Nowhere}
 
 -- the text of an argument, or the one that stands for none
 abbrev pub text_in : List Row → Text → Text → Text
@@ -46,12 +46,13 @@ pub record IsSet (text : Option Text) (flag : Bool) : Type 0 where
   pub set : text ≡ Some (codes "true") → flag ≡ true
   pub unset : text ≡ Some (codes "false") → flag ≡ false
 
--- the command is one of the five
+-- the command is one of the six
 abbrev pub IsCommand : Text → Type 0
 IsCommand command =
-    (command ≡ codes "play")
+    (command ≡ codes "check")
+    ⊎ ((command ≡ codes "play")
     ⊎ ((command ≡ codes "scan")
-    ⊎ ((command ≡ codes "serve") ⊎ ((command ≡ codes "talk") ⊎ (command ≡ codes "tick"))))
+    ⊎ ((command ≡ codes "serve") ⊎ ((command ≡ codes "talk") ⊎ (command ≡ codes "tick")))))
 
 -- no path is given, and this port is, which is 0 where none is
 abbrev pub IsPort : List Row → ℕ → Type 0
@@ -85,6 +86,9 @@ AsksBy command rows (Play name log_bytes) =
     (command ≡ codes "play") × (name.now ≡ text_in rows (codes "name") (codes "xarm"))
     × (log_bytes ≡ number_in rows (codes "log-bytes") most_64 MOST_LOG)
 AsksBy command rows (Scan path) = (command ≡ codes "scan") × (path.now ≡ text_in rows (codes "path") [])
+AsksBy command rows (Check path log_bytes) =
+    (command ≡ codes "check") × (path.now ≡ text_in rows (codes "path") [])
+    × (log_bytes ≡ number_in rows (codes "log-bytes") most_64 MOST_LOG)
 AsksBy command rows (Talk reach style) =
     (command ≡ codes "talk") × IsReachIn rows (Some reach)
     × IsFlag (one_of (codes "names") rows) style
@@ -92,7 +96,7 @@ AsksBy command rows (Tick reach every) =
     (command ≡ codes "tick") × IsReachIn rows (Some reach)
     × (every ≡ number_in rows (codes "every") most_64 1)
 -- by workers, where their number is given
-AsksBy command rows (Serve service) =
+AsksBy command rows (Serve service accepts) =
     (command ≡ codes "serve")
     × (number_in rows (codes "workers") most_64 0 ≢ 0)
     × (service.path.now ≡ text_in rows (codes "log") [])
@@ -102,8 +106,9 @@ AsksBy command rows (Serve service) =
     × (service.log_bytes ≡ number_in rows (codes "log-bytes") most_64 MOST_LOG)
     × (service.workers ≡ number_in rows (codes "workers") most_64 0)
     × (service.connections ≡ number_in rows (codes "connections") most_64 MOST_SERVED)
+    × IsSet (one_of (codes "accept-damage") rows) accepts
 -- else by loops
-AsksBy command rows (Loop service) =
+AsksBy command rows (Loop service accepts) =
     (command ≡ codes "serve")
     × (number_in rows (codes "workers") most_64 0 ≡ 0)
     × (service.path.now ≡ text_in rows (codes "log") [])
@@ -116,6 +121,7 @@ AsksBy command rows (Loop service) =
     × (service.idle_seconds ≡ number_in rows (codes "idle-seconds") most_64 0)
     × (service.trim_bytes ≡ number_in rows (codes "trim") most_64 67108864)
     × IsSet (one_of (codes "exit-when-down") rows) service.ends_when_down
+    × IsSet (one_of (codes "accept-damage") rows) accepts
 AsksBy command rows Nowhere = IsNowhere command rows
 
 -- the same of the command that the words name, and its matches

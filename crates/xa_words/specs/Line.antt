@@ -46,6 +46,10 @@ log_bytes_rule = defaulting (codes "1073741824") (number 0 9223372036854775807 (
 abbrev pub path_rule : Rule
 path_rule = required (positional (codes "path"))
 
+-- the same of a log's first file
+abbrev pub first_path_rule : Rule
+first_path_rule = required (positional (codes "path"))
+
 abbrev pub log_rule : Rule
 log_rule = required (option (codes "log"))
 
@@ -85,6 +89,9 @@ trim_rule = defaulting (codes "67108864") (number 0 MOST_LOG (option (codes "tri
 abbrev pub exit_when_down_rule : Rule
 exit_when_down_rule = flag (codes "exit-when-down")
 
+abbrev pub accept_damage_rule : Rule
+accept_damage_rule = flag (codes "accept-damage")
+
 abbrev pub every_rule : Rule
 every_rule = defaulting (codes "1") (number 1 MOST_EVERY (option (codes "every")))
 
@@ -96,6 +103,9 @@ names_rule = flag (codes "names")
 abbrev pub command_of : Text → List Rule → Shape
 command_of name rules = record (new_app name).top { rules = rules }
 
+abbrev pub check_shape : Shape
+check_shape = command_of (codes "check") (first_path_rule ∷ serve_log_bytes_rule ∷ [])
+
 abbrev pub play_shape : Shape
 play_shape = command_of (codes "play") (play_name_rule ∷ log_bytes_rule ∷ [])
 
@@ -106,7 +116,8 @@ abbrev pub serve_shape : Shape
 serve_shape =
     command_of (codes "serve")
     (log_rule ∷ name_rule ∷ port_rule ∷ serve_log_bytes_rule ∷ workers_rule ∷ connections_rule ∷ loops_rule ∷ listen_rule
-    ∷ socket_rule ∷ frame_seconds_rule ∷ idle_seconds_rule ∷ trim_rule ∷ exit_when_down_rule ∷ [])
+    ∷ socket_rule ∷ frame_seconds_rule ∷ idle_seconds_rule ∷ trim_rule ∷ exit_when_down_rule ∷ accept_damage_rule
+    ∷ [])
 
 abbrev pub talk_shape : Shape
 talk_shape = command_of (codes "talk") (port_rule ∷ socket_rule ∷ names_rule ∷ [])
@@ -114,11 +125,15 @@ talk_shape = command_of (codes "talk") (port_rule ∷ socket_rule ∷ names_rule
 abbrev pub tick_shape : Shape
 tick_shape = command_of (codes "tick") (port_rule ∷ socket_rule ∷ every_rule ∷ [])
 
--- the whole command line: one of the five, and its version
+-- the command line without its commands: its version
+abbrev pub bare : App
+bare = record { top = record (new_app (codes "xarm")).top { has_version = true; subcommand_required = true }; subs = [] }
+
+-- the whole command line: one of the six, and its version
 abbrev pub xarm : App
 xarm = record {
   top = record (new_app (codes "xarm")).top { has_version = true; subcommand_required = true; is_leaf = false };
-  subs = play_shape ∷ scan_shape ∷ serve_shape ∷ talk_shape ∷ tick_shape ∷ [];
+  subs = check_shape ∷ play_shape ∷ scan_shape ∷ serve_shape ∷ talk_shape ∷ tick_shape ∷ [];
 }
 
 -- ---- what is built

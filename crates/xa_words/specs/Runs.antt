@@ -1,5 +1,5 @@
 -- What is done of a command line.
-use Rattle.std.specs.Prelude.{◌≡◌, ◌≢◌, ◌⊎◌, ℕ, List, [], Option, Result, Ok, Err, IsErrOf}
+use Rattle.std.specs.Prelude.{◌≡◌, ◌≢◌, ◌⊎◌, ℕ, Bool, true, List, [], Option, Result, Ok, Err, IsErrOf}
 use Rattle.std.specs.declared.io.ErrorKind.{ErrorKind as IoKind}
 use Rattle.std.specs.declared.io.ErrorKind.TheVariants as io
 use Rattle.std.specs.Process.{exit_status}
@@ -9,7 +9,8 @@ use Rattle.clap.specs.Simple.{subcommand_of}
 use Rattle.clap.specs.Walk.{Text}
 use Rattle.clap.specs.declared.error.kind.ErrorKind.{ErrorKind}
 use Rattle.clap.specs.declared.error.kind.ErrorKind.TheVariants.{OutOfMemory, DisplayHelp, DisplayVersion}
-use Rattle.xa_commands.specs.Done.{HasPlayed, HasTalked, HasTicked, Scanned}
+use Rattle.xa_commands.specs.Done.{Checked, HasPlayed, HasTalked, HasTicked, Scanned, checked_status}
+use Rattle.xa_commands.specs.declared.checking_fault.CheckingFault.{CheckingFault}
 use Rattle.xa_commands.specs.declared.scanning_fault.ScanningFault.{ScanningFault}
 use Rattle.xa_disk.specs.declared.file_fault.FileFault.{FileFault}
 use Rattle.xa_manager.specs.Opening.{IsBadSetting}
@@ -20,7 +21,7 @@ use Rattle.xa_talk.specs.declared.tick_fault.TickFault.{TickFault}
 use Rattle.xa_words.specs.Asks.{AsksOf}
 use Rattle.xa_words.specs.Line.{xarm}
 use Rattle.xa_words.specs.declared.asked.Asked.{Asked}
-use Rattle.xa_words.specs.declared.asked.Asked.TheVariants.{Play, Scan, Serve, Loop, Talk, Tick, Nowhere}
+use Rattle.xa_words.specs.declared.asked.Asked.TheVariants.{Play, Scan, Check, Serve, Loop, Talk, Tick, Nowhere}
 use Rattle.xa_words.specs.declared.ran.Ran.{Ran}
 use Rattle.xa_words.specs.declared.ran.Ran.TheVariants.{Ended, Serves, Loops}
 
@@ -47,20 +48,26 @@ pub record IsPlayed {I X : Type 0} (remaining : I → Option Text) (name : Text)
 -- by what the runtime's readers, disks, connections and clocks are
 module _ {I D C : Type 0} (T : Type 0) (remaining : I → Option Text) (honest : Type 0) (seen : D → Text)
     (opened : D → Text → Type 0) (refused : Text → FileFault → Type 0) (sent left : C → Option Text) where
-  -- The command that was asked for was done, and that end's status is told; a server is handed on.
+  -- The command that was asked for was done, and that end's status is told; a server is handed on, unless it was to open
+  -- what stands of a damaged log, and that failed.
   abbrev pub HasDone : Asked → Ran → Type 0
   HasDone (Play name log_bytes) (Ended code) =
       (end : Result (Unit {0}) PlayFault) × IsPlayed remaining name.now log_bytes end × (exit_status code ≡ status_of end)
   HasDone (Scan path) (Ended code) =
       (end : Result (Unit {0}) ScanningFault) × Scanned honest seen opened refused path.now end
       × (exit_status code ≡ status_of end)
+  HasDone (Check path log_bytes) (Ended code) =
+      (end : Result Bool CheckingFault) × Checked honest seen opened refused path.now log_bytes end
+      × (exit_status code ≡ checked_status end)
   HasDone (Talk reach style) (Ended code) =
       (end : Result (Unit {0}) TalkFault) × HasTalked style remaining sent left end × (exit_status code ≡ status_of end)
   HasDone (Tick reach every) (Ended code) =
       (end : Result (Unit {0}) TickFault) × HasTicked T sent left end × (exit_status code ≡ status_of end)
   HasDone Nowhere (Ended code) = exit_status code ≡ 2
-  HasDone (Serve service) (Serves served) = served ≡ service
-  HasDone (Loop service) (Loops served) = served ≡ service
+  HasDone (Serve service accepts) (Serves served) = served ≡ service
+  HasDone (Serve service accepts) (Ended code) = (accepts ≡ true) × (exit_status code ≡ 1)
+  HasDone (Loop service accepts) (Loops served) = served ≡ service
+  HasDone (Loop service accepts) (Ended code) = (accepts ≡ true) × (exit_status code ≡ 1)
   HasDone _ _ = ⊥
 
   -- The words were refused for one of these reasons, or for want of memory.

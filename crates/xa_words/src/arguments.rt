@@ -1,8 +1,8 @@
 //! The arguments of the commands. The help names limits in texts of its own, and `.ci/commands` compares these with
 //! the constants: a text that is made of a number would have to live as long as the words, since `clap` lends both alike.
-ghost use Rattle.xa_words.specs.Line.{HasRule, connections_rule, every_rule, exit_when_down_rule};
+ghost use Rattle.xa_words.specs.Line.{HasRule, accept_damage_rule, connections_rule, every_rule, exit_when_down_rule};
 ghost use Rattle.xa_words.specs.Line.{frame_seconds_rule, idle_seconds_rule, listen_rule, log_bytes_rule};
-ghost use Rattle.xa_words.specs.Line.{log_rule, loops_rule, name_rule, names_rule, path_rule, play_name_rule};
+ghost use Rattle.xa_words.specs.Line.{first_path_rule, log_rule, loops_rule, name_rule, names_rule, path_rule, play_name_rule};
 ghost use Rattle.xa_words.specs.Line.{port_rule, serve_log_bytes_rule, socket_rule, trim_rule, workers_rule};
 
 use clap::builder::ValueParser;
@@ -51,6 +51,18 @@ pub fn path<'a>(alloc: Global) -> Arg<'a>
         .value_name("PATH")
         .help(
             "One of the log's two files, of at most 1073741824 bytes. It is opened read-only, and refused while a server has it open",
+        )
+        .required(true)
+        .action(ArgAction::Set)
+}
+
+pub fn first_path<'a>(alloc: Global) -> Arg<'a>
+    ensures { HasRule first_path_rule result }
+{
+    Arg::new(alloc, "path")
+        .value_name("PATH")
+        .help(
+            "The log's first file; the second one is PATH.2. Both are opened read-only, and refused while a server has them open",
         )
         .required(true)
         .action(ArgAction::Set)
@@ -197,6 +209,17 @@ pub fn exit_when_down<'a>(alloc: Global) -> Arg<'a>
     Arg::new(alloc, "exit-when-down")
         .long("exit-when-down")
         .help("Exits with status 1 when the resource manager goes down")
+        .action(ArgAction::SetTrue)
+}
+
+pub fn accept_damage<'a>(alloc: Global) -> Arg<'a>
+    ensures { HasRule accept_damage_rule result }
+{
+    Arg::new(alloc, "accept-damage")
+        .long("accept-damage")
+        .help(
+            "Opens what stands of a damaged log, and leaves out the rest. First both files are copied: to PATH.damaged-1 and PATH.2.damaged-1, or the next free number",
+        )
         .action(ArgAction::SetTrue)
 }
 

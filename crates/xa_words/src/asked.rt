@@ -13,6 +13,12 @@ pub enum Asked<'a> {
     Scan {
         path: &'a str,
     },
+    Check {
+        /// Of the log's first file.
+        path: &'a str,
+        /// How many bytes each of the log's two files may have.
+        log_bytes: u64,
+    },
     Talk {
         reach: Reach<'a>,
         style: Style,
@@ -23,8 +29,15 @@ pub enum Asked<'a> {
         every: u64,
     },
     /// By workers, with an audit.
-    Serve(Service<'a>),
-    Loop(LoopService<'a>),
+    Serve {
+        service: Service<'a>,
+        /// Whether what stands of a damaged log is to be opened.
+        accepts_damage: bool,
+    },
+    Loop {
+        service: LoopService<'a>,
+        accepts_damage: bool,
+    },
     /// Neither a port nor a path was given, for a command that needs one.
     Nowhere,
 }

@@ -1,6 +1,6 @@
 //! What is done of a command line.
 ghost use Rattle.std.specs.IoError.{error_kind};
-ghost use Rattle.std.specs.Prelude.{◌≡◌, IfErr, IfOk, map, string_bytes};
+ghost use Rattle.std.specs.Prelude.{◌≡◌, IfErr, IfOk, IfSome, map, string_bytes, true};
 ghost use Rattle.std.specs.Process.{exit_status};
 ghost use Rattle.clap.specs.Values.{kind_of};
 ghost use Rattle.xa_words.specs.Runs.{HasDone, HasRun, IsRefusal, IsUnread};
@@ -12,21 +12,24 @@ use crate::ran::Ran;
 use crate::words::read_words;
 use clap::Error;
 use clap::error::ErrorKind;
+use std::fs::Files;
 use std::io::{Read, Write};
 use std::net::{Net, TcpStream};
 use std::process::ExitCode;
 use std::rt::{Clock, Env};
 use std::{env, io};
-use xa_commands::{Stream, ended, play, scan, talk, tick, words_fault};
+use xa_commands::{
+    Stream, accept_damage, check, checked, ended, play, scan, talk, tick, words_fault,
+};
 use xa_disk::Opens;
 use xa_play::PlayFault;
 
 /// Does what the command line says, but that it serves. Status 0: done. 1: a fault, its line on standard error. 2: the
-/// command line was refused.
-pub fn run<'a, R: AllocGlobal + Input + Print + Eprint + Opens + Clock + Net<Stream = TcpStream>>(
-    rt: &R,
-    words: &'a io::Result<Vec<String>>,
-) -> Ran<'a>
+/// command line was refused. Of a check 1: a server doesn't open the files; 2: a fault, too.
+pub fn run<
+    'a,
+    R: AllocGlobal + Input + Print + Eprint + Opens + Files + Clock + Net<Stream = TcpStream>,
+>(rt: &R, words: &'a io::Result<Vec<String>>) -> Ran<'a>
     ensures run { IfOk words.now (λ words. HasRun {C = Connection Stream Stream} (Watch R) R.Reader.remaining
         R.Disk.honest R.Disk.seen R.opened R.refused (λ c. ⟦<Stream as Write>⟧.contents c.writer)
         (λ c. ⟦<Stream as Read>⟧.remaining c.reader) (map string_bytes words.items) result) }
@@ -43,10 +46,10 @@ pub fn run<'a, R: AllocGlobal + Input + Print + Eprint + Opens + Clock + Net<Str
 }
 
 // Does what is asked for, but that it serves.
-fn done<'a, R: AllocGlobal + Input + Print + Eprint + Opens + Clock + Net<Stream = TcpStream>>(
-    rt: &R,
-    asked: Asked<'a>,
-) -> Ran<'a>
+fn done<
+    'a,
+    R: AllocGlobal + Input + Print + Eprint + Opens + Files + Clock + Net<Stream = TcpStream>,
+>(rt: &R, asked: Asked<'a>) -> Ran<'a>
     ensures { HasDone {C = Connection Stream Stream} (Watch R) R.Reader.remaining R.Disk.honest R.Disk.seen
         R.opened R.refused (λ c. ⟦<Stream as Write>⟧.contents c.writer)
         (λ c. ⟦<Stream as Read>⟧.remaining c.reader) asked.entry result }
@@ -54,12 +57,44 @@ fn done<'a, R: AllocGlobal + Input + Print + Eprint + Opens + Clock + Net<Stream
     Ran::Ended(match asked {
         Asked::Play { name, log_bytes } => ended(rt, &play(rt, name, log_bytes)),
         Asked::Scan { path } => ended(rt, &scan(rt, path)),
-        Asked::Serve(service) => return Ran::Serves(service),
-        Asked::Loop(service) => return Ran::Loops(service),
+        Asked::Check { path, log_bytes } => checked(rt, &check(rt, path, log_bytes)),
+        Asked::Serve {
+            service,
+            accepts_damage,
+        } => match accepted(rt, accepts_damage, service.path, service.log_bytes) {
+            Some(status) => status,
+            None => return Ran::Serves(service),
+        },
+        Asked::Loop {
+            service,
+            accepts_damage,
+        } => match accepted(rt, accepts_damage, service.path, service.log_bytes) {
+            Some(status) => status,
+            None => return Ran::Loops(service),
+        },
         Asked::Talk { reach, style } => ended(rt, &talk(rt, reach, style)),
         Asked::Tick { reach, every } => ended(rt, &tick(rt, reach, every)),
         Asked::Nowhere => nowhere(rt),
     })
+}
+
+// The status of a server whose log is to be opened though it is damaged, and wasn't. None where it is to serve.
+fn accepted<R: AllocGlobal + Eprint + Opens + Files>(
+    rt: &R,
+    accepts_damage: bool,
+    path: &str,
+    log_bytes: u64,
+) -> Option<ExitCode>
+    ensures { IfSome result (λ code. (accepts_damage ≡ true) × (exit_status code ≡ 1)) }
+{
+    if !accepts_damage {
+        return None;
+    }
+    let end = accept_damage(rt, path, log_bytes);
+    if end.is_ok() {
+        return None;
+    }
+    Some(ended(rt, &end))
 }
 
 // Neither a port nor a path was given.

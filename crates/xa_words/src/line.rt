@@ -1,18 +1,32 @@
 //! The command line, as `clap` reads it.
 ghost use Rattle.std.specs.Prelude.{IfOk};
-ghost use Rattle.xa_words.specs.Line.{HasShape, IsApp, play_shape, scan_shape, serve_shape};
+ghost use Rattle.xa_words.specs.Line.{HasShape, IsApp, bare, check_shape, play_shape, scan_shape, serve_shape};
 ghost use Rattle.xa_words.specs.Line.{talk_shape, tick_shape, xarm};
 
 use crate::arguments::{
-    connections, every, exit_when_down, frame_seconds, idle_seconds, listen, log, log_bytes, loops,
-    name, names, path, play_name, port, serve_log_bytes, socket, trim, workers,
+    accept_damage, connections, every, exit_when_down, first_path, frame_seconds, idle_seconds,
+    listen, log, log_bytes, loops, name, names, path, play_name, port, serve_log_bytes, socket,
+    trim, workers,
 };
 use clap::Command;
 use std::alloc::{AllocError, Global};
 
-/// The command line with its five commands.
+/// The command line with its six commands.
 pub fn command_line<'a>(alloc: Global) -> Result<Command<'a>, AllocError>
     ensures { IfOk result (IsApp xarm) }
+{
+    bare_line(alloc)
+        .subcommand(check_command(alloc)?)?
+        .subcommand(play_command(alloc)?)?
+        .subcommand(scan_command(alloc)?)?
+        .subcommand(serve_command(alloc)?)?
+        .subcommand(talk_command(alloc)?)?
+        .subcommand(tick_command(alloc)?)
+}
+
+// The command line without its commands.
+fn bare_line<'a>(alloc: Global) -> Command<'a>
+    ensures { IsApp bare result }
 {
     Command::new(alloc, "xarm")
         .version(
@@ -20,11 +34,19 @@ pub fn command_line<'a>(alloc: Global) -> Result<Command<'a>, AllocError>
         )
         .about("A transactional key-value store: an XA resource manager")
         .subcommand_required(true)
-        .subcommand(play_command(alloc)?)?
-        .subcommand(scan_command(alloc)?)?
-        .subcommand(serve_command(alloc)?)?
-        .subcommand(talk_command(alloc)?)?
-        .subcommand(tick_command(alloc)?)
+}
+
+fn check_command<'a>(alloc: Global) -> Result<Command<'a>, AllocError>
+    ensures { IfOk result (HasShape check_shape) }
+{
+    Command::new(alloc, "check")
+        .about("Tells what a log's two files are, and whether they are damaged")
+        .after_help(
+            "Example: xarm check bank.log\nStatus 0: a server opens what they have. 1: one is damaged, or they don't fit. 2: \
+             they can't be read.",
+        )
+        .arg(first_path(alloc))?
+        .arg(serve_log_bytes(alloc))
 }
 
 fn play_command<'a>(alloc: Global) -> Result<Command<'a>, AllocError>
@@ -96,5 +118,6 @@ fn serve_command<'a>(alloc: Global) -> Result<Command<'a>, AllocError>
         .arg(frame_seconds(alloc))?
         .arg(idle_seconds(alloc))?
         .arg(trim(alloc))?
-        .arg(exit_when_down(alloc))
+        .arg(exit_when_down(alloc))?
+        .arg(accept_damage(alloc))
 }

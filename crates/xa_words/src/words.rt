@@ -1,5 +1,5 @@
 //! What the words of a command line ask for.
-ghost use Rattle.std.specs.Prelude.{◌≡◌, IfOk, IsSomeAnd, Some, codes, if◌then◌else◌, map, option_map, string_bytes};
+ghost use Rattle.std.specs.Prelude.{◌≡◌, Bool, IfOk, IsSomeAnd, Some, codes, if◌then◌else◌, map, option_map, string_bytes};
 ghost use Rattle.clap.specs.{Faults.fault_of, Kinds.FailsBy, Matches.found_of, Simple.subcommand_of, Simple.subcommand_rows_of};
 ghost use Rattle.clap.specs.Walk.{first_of, one_of, rows_of};
 ghost use Rattle.xa_words.specs.Asks.{AsksBy, AsksOf, IsAtIn, IsCommand, IsReachIn, IsSet, most_16, most_64, number_in, text_in};
@@ -45,6 +45,10 @@ fn read_command<'a>(command: &str, matches: &ArgMatches<'a>) -> Asked<'a>
     ensures { AsksBy command.now (rows_of (found_of matches.now)) result }
 {
     match command {
+        "check" => Asked::Check {
+            path: text_of(matches, "path", ""),
+            log_bytes: number_of(matches, "log-bytes", MOST_LOG),
+        },
         "scan" => Asked::Scan {
             path: text_of(matches, "path", ""),
         },
@@ -70,7 +74,10 @@ fn serve_of<'a>(matches: &ArgMatches<'a>) -> Asked<'a>
     let workers = number_of(matches, "workers", 0);
     if workers == 0 {
         return match at_of(matches) {
-            Some(at) => Asked::Loop(loops_of(matches, at)),
+            Some(at) => Asked::Loop {
+                service: loops_of(matches, at),
+                accepts_damage: flag_of(matches, "accept-damage"),
+            },
             None => Asked::Nowhere,
         };
     }
@@ -78,20 +85,24 @@ fn serve_of<'a>(matches: &ArgMatches<'a>) -> Asked<'a>
     if port == 0 {
         return Asked::Nowhere;
     }
-    Asked::Serve(Service {
-        path: text_of(matches, "log", ""),
-        name: text_of(matches, "name", ""),
-        port,
-        log_bytes: number_of(matches, "log-bytes", MOST_LOG),
-        workers,
-        connections: number_of(matches, "connections", MOST_SERVED),
-    })
+    Asked::Serve {
+        service: Service {
+            path: text_of(matches, "log", ""),
+            name: text_of(matches, "name", ""),
+            port,
+            log_bytes: number_of(matches, "log-bytes", MOST_LOG),
+            workers,
+            connections: number_of(matches, "connections", MOST_SERVED),
+        },
+        accepts_damage: flag_of(matches, "accept-damage"),
+    }
 }
 
 fn loops_of<'a>(matches: &ArgMatches<'a>, at: At<'a>) -> LoopService<'a>
-    ensures { IsAtIn (rows_of (found_of matches.now)) (Some at.entry)
+    ensures { (accepts : Bool) → IsSet (one_of (codes "accept-damage") (rows_of (found_of matches.now))) accepts
+        → IsAtIn (rows_of (found_of matches.now)) (Some at.entry)
         → number_in (rows_of (found_of matches.now)) (codes "workers") most_64 0 ≡ 0
-        → AsksBy (codes "serve") (rows_of (found_of matches.now)) (Loop result) }
+        → AsksBy (codes "serve") (rows_of (found_of matches.now)) (Loop result accepts) }
 {
     LoopService {
         path: text_of(matches, "log", ""),

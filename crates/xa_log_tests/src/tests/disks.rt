@@ -73,6 +73,23 @@ fn a_file_in_a_folder(rt: HostRuntime) {
     assert!(rt; is_a_disk(&mut disk) && is_removed(&rt, path.as_str()));
 }
 
+// It is cut where it is longer.
+fn is_cut(disk: &mut FileDisk) -> bool {
+    !disk.shorten(5)
+        && has_five(disk)
+        && disk.shorten(4)
+        && disk.length() == Ok(4)
+        && four_bytes(disk, 0) == Ok([0, 0, b'a', b'b'])
+        && error_kind(disk).is_none()
+}
+
+#[test]
+fn a_file_is_cut(rt: HostRuntime) {
+    let path = path_of(&rt, "xa_disk-cut").expect(&rt, "a path");
+    let mut disk = file_at(&rt, path.as_str()).expect(&rt, "a disk");
+    assert!(rt; is_cut(&mut disk) && is_removed(&rt, path.as_str()));
+}
+
 // A sync that was made apart is taken, and so is one that was made before the last write, one of another file, or none at
 // all: the disk then makes its own. One may also be left.
 fn takes_syncs(disk: &mut FileDisk, other: &mut FileDisk) -> Result<(), DiskFault> {

@@ -18,7 +18,13 @@ fn settings(alloc: Global) -> Option<Settings> {
 // Whether an opening of these bytes and an empty file is refused as too new, and gives both back as they were.
 fn gives_back(alloc: Global, bytes: &[u8]) -> Option<bool> {
     let first = disk_of(alloc, bytes)?;
-    match Manager::open_returning(alloc, first, MemDisk::new(alloc), settings(alloc)?) {
+    match Manager::open_returning(
+        alloc,
+        first,
+        MemDisk::new(alloc),
+        settings(alloc)?,
+        &mut None,
+    ) {
         Ok(_manager) => Some(false),
         Err(refused) => {
             let (mut first, mut second) = (refused.first, refused.second);

@@ -7,7 +7,7 @@ ghost use Rattle.xa_model.specs.Events.{IsAsked};
 
 use std::alloc::Global;
 use xa_codes::{Bytes, XA_OK};
-use xa_disk::{Disk, Effect, MemDisk};
+use xa_disk::{Effect, MemDisk};
 use xa_frame::{Reply, Request};
 use xa_manager::{Asked, Manager, PendingGroup, Settings, connect_reply};
 use xa_rows::Play;
@@ -151,19 +151,8 @@ fn finished(
         && works(alloc, manager, &group, third.0, Some(third.1))
         && works(alloc, manager, &group, commit, None);
     let answer = manager.syncer().sync();
-    let finished = match manager.finish_group(group, answer) {
-        Ok(finished) => Ok(finished),
-        Err((group, answer)) => manager.finish_group(group, answer),
-    };
-    match finished {
-        Ok((replies, _calls)) if is_right => Some(replies),
-        Ok(_) => None,
-        Err((_group, answer)) => {
-            // the manager isn't used any more, so any disk may have it
-            MemDisk::new(alloc).leave_sync(answer);
-            None
-        }
-    }
+    let (replies, _calls) = manager.finish_group(group, answer);
+    if is_right { Some(replies) } else { None }
 }
 
 fn fail(

@@ -6,7 +6,7 @@ use crate::tests::posted::call_of;
 use std::alloc::Global;
 use std::marker::Brand;
 use xa_codes::XA_OK;
-use xa_disk::{Disk, MemDisk};
+use xa_disk::MemDisk;
 use xa_history::Start;
 use xa_manager::Asked;
 use xa_sequencer::{GroupCommits, GroupManager, Sequencer};
@@ -80,21 +80,13 @@ fn begins<M: GroupCommits, S: Start>(
 
 // Whether the group's call is answered by 0, with this number.
 fn finishes<M: GroupCommits, S: Start>(
-    alloc: Global,
     sequencer: &mut Sequencer<M, S>,
     number: u64,
 ) -> Option<bool> {
     if sequencer.is_settled() {
         return None;
     }
-    let (replies, calls) = match sequencer.finish_group(sequencer.syncer().sync()) {
-        Ok(finished) => finished,
-        Err(answer) => {
-            // the sequencer isn't used any more, so any disk may have it
-            MemDisk::new(alloc).leave_sync(answer);
-            return None;
-        }
-    };
+    let (replies, calls) = sequencer.finish_group(sequencer.syncer().sync());
     let is_right = replies.iter().all(|told| told.0 == 0
         && told.1.code == XA_OK
         && told.1.place == number);
@@ -119,7 +111,7 @@ fn works_meanwhile<M: GroupCommits + Drop, S: Start>(alloc: Global, manager: M) 
     let begins = begins(alloc, &mut sequencer)?;
     let works = are_told(alloc, &mut sequencer, &WORK, false)?;
     let wait = are_told(alloc, &mut sequencer, &WAITS, true)?;
-    let finishes = finishes(alloc, &mut sequencer, 11)?;
+    let finishes = finishes(&mut sequencer, 11)?;
     let goes_on = is_told(alloc, &mut sequencer, "2 prepare TMNOFLAGS 1:bb:", false)?;
     Some(are_connected && is_ready && begins && works && wait && finishes && goes_on)
 }

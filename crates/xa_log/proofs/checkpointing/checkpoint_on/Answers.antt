@@ -1,42 +1,73 @@
-use Rattle.std.proofs.Common.{◌≡◌, inl, inr, ⊎_elim, ◌+◌, ◌≤◌, ℕ, List, length, sym, ◌∙◌, subst, arith}
+use Rattle.std.proofs.Common.{◌≡◌, inl, inr, ⊎_elim, ◌+◌, ◌≤◌, ◌<◌, ◌%◌, ℕ, List, take, length, ap, mod-lt, sym, ◌∙◌, subst, arith}
+use Rattle.std.proofs.lemmas.List.{length-take}
 use Rattle.std.specs.Int.{w32, to_be_bytes}
 use Rattle.xa_disk.specs.Time.{LeavesOnly}
-use Rattle.xa_log.specs.Chain.{start, records}
+use Rattle.xa_log.specs.Chain.{start, preamble, records}
 use Rattle.xa_log.specs.Answers.{PutBecame}
+use Rattle.xa_log.specs.Ahead.{cut_behind}
 use Rattle.xa_log.specs.Checkpoint.{IsComplete, IsOther, IsTailed, LeavesAny, LeavesNone, first_length}
 use Rattle.xa_log.proofs.Steps.{first_len}
 use Rattle.xa_log.proofs.Cleared.{sealed_cleared}
-use Rattle.xa_log.proofs.Known.{seal_grows, records_reach, header_long}
+use Rattle.xa_log.proofs.Cuts.{cut_header, none_cut, none_left, none_meanwhile}
+use Rattle.xa_log.proofs.Header.{header_split, length-preamble}
+use Rattle.xa_log.proofs.Known.{seal_grows, seal_within, records_reach}
 use Rattle.xa_log.proofs.Counted.{refused_front, refused_records, sealed_calls}
-use Rattle.xa_log.proofs.Parts.{first_part, second_part, third_part, none_torn, none_long, others_none, opened_none, records_complete, sealed, at_err}
+use Rattle.xa_log.proofs.Parts.{leaves_then, first_part, second_part, third_part, none_torn, none_long, others_none, opened_none, records_complete, sealed, at_err}
 use Rattle.xa_log.proofs.checkpointing.checkpoint_on.Goals as goal
-use Rattle.xa_log.proofs.checkpointing.checkpoint_on.Goals.{After-put_records, After-put_seal-outcome}
+use Rattle.xa_log.proofs.checkpointing.checkpoint_on.Goals.{After-shorten, After-put_records, After-put_seal-outcome}
 
--- after the first part, and after the second one
+-- the cut is behind the preamble
+beyond : (end n : ℕ) → end ≡ 12 + n → 12 ≤ cut_behind end
+beyond end n is = omega (arith, is)
+
+-- after the first part, after the cut, and after the second part
+module _ (g : _) (c : goal.After-shorten g) (h : g.D.Disk.honest) where
+  header : take 12 (g.D.Disk.seen c.shorten.new.disk) ≡ preamble c.args.format
+  header = cut_header c.args.format (cut_behind c.args.end) (g.D.Disk.seen c.args.disk.now) (g.D.Disk.seen c.put_front.new.disk) (g.D.Disk.seen c.shorten.new.disk)
+      (beyond c.args.end _ c.requires.end) (c.in-Ok.ensures.made h) (c.shorten.ensures.front h)
+
+  long : 12 ≤ length (g.D.Disk.seen c.shorten.new.disk)
+  long = omega (arith, ap (λ (l : List ℕ). length l) header, length-take 12 (g.D.Disk.seen c.shorten.new.disk), length-preamble c.args.format)
+
 module _ (g : _) (c : goal.After-put_records g) (h : g.D.Disk.honest) (most : ℕ) (stood : List (List ℕ))
     (room : 12 + (length (records (start c.args.format) c.args.bodies.now) + c.args.more) ≤ most) (other : IsOther g.D.Disk most stood c.args.disk.now) where
   first : LeavesNone most c.args.format (g.D.Disk.seen c.put_front.new.disk)
   first = opened_none c.args.format most (g.D.Disk.seen c.args.disk.now) (g.D.Disk.seen c.put_front.new.disk) (omega arith) other.fits (c.in-Ok.ensures.made h)
 
+  cut : LeavesNone most c.args.format (g.D.Disk.seen c.shorten.new.disk)
+  cut = none_cut c.args.format most (cut_behind c.args.end) (g.D.Disk.seen c.put_front.new.disk) (g.D.Disk.seen c.shorten.new.disk) (beyond c.args.end _ c.requires.end) first (c.shorten.ensures.front h)
+
+  each : (x : List ℕ) → g.D.Disk.may_leave c.shorten.new.disk x → LeavesNone most c.args.format x
+  each =
+      none_left g.D.Disk c.args.format most (cut_behind c.args.end) c.put_front.new.disk c.shorten.new.disk (beyond c.args.end _ c.requires.end) first
+      (c.in-Ok.ensures.durable h) (c.shorten.ensures.time h)
+
   second : LeavesNone most c.args.format (g.D.Disk.seen c.put_records.new.disk)
   second =
       none_torn c.args.format most (length (records (start c.args.format) c.args.bodies.now) + c.args.more)
-      (g.D.Disk.seen c.put_front.new.disk) (g.D.Disk.seen c.put_records.new.disk) room first (c.put_records.ensures.torn h)
+      (g.D.Disk.seen c.shorten.new.disk) (g.D.Disk.seen c.put_records.new.disk) room cut (c.put_records.ensures.torn h)
+
+  meanwhile : LeavesOnly g.D.Disk c.put_front.new.disk c.put_records.new.disk (LeavesNone most c.args.format)
+  meanwhile =
+      leaves_then g.D.Disk c.put_front.new.disk c.shorten.new.disk c.put_records.new.disk _ _ _ (λ x none. none) (λ x none. none)
+      (none_meanwhile g.D.Disk c.args.format most (cut_behind c.args.end) c.put_front.new.disk c.shorten.new.disk (g.met.D.Disk.only_now c.put_front.new.disk)
+      (beyond c.args.end _ c.requires.end) first (c.in-Ok.ensures.durable h) (c.shorten.ensures.time h))
+      (c.put_records.ensures.any_moment h most room each)
 
   moments : LeavesOnly g.D.Disk c.args.disk.now c.put_records.new.disk (LeavesAny most c.args.format stood c.args.bodies.now)
   moments =
       second_part g.D.Disk most c.args.format stood c.args.bodies.now c.args.disk.now c.put_front.new.disk c.put_records.new.disk
-      (c.put_front.ensures.any_moment h most stood (omega arith) other) (c.put_records.ensures.any_moment h most room first (c.in-Ok.ensures.durable h))
+      (c.put_front.ensures.any_moment h most stood (omega arith) other) meanwhile
 
 -- at the seal, and after it
 size : (g : _) (c : goal.After-put_seal-outcome g) → c.len.result ≡ first_length c.args.bodies.now
 size g c = c.len.ensures ∙ sym (first_len c.args.bodies.now c.index-bodies-0.result c.requires.some c.index-bodies-0.is)
 
 module _ (g : _) (c : goal.After-put_seal-outcome g) (h : g.D.Disk.honest) where
-  ready : (most : ℕ) → LeavesNone most c.args.format (g.D.Disk.seen c.put_front.new.disk) → IsTailed c.args.more most c.args.format c.args.bodies.now
+  ready : (most : ℕ) → LeavesNone most c.args.format (g.D.Disk.seen c.shorten.new.disk) → IsTailed c.args.more most c.args.format c.args.bodies.now
       → IsComplete c.args.format c.args.bodies.now (g.D.Disk.seen c.put_records.new.disk)
   ready most first tailed =
-      let mid : List ℕ = g.D.Disk.seen c.put_front.new.disk in
+      let mid : List ℕ = g.D.Disk.seen c.shorten.new.disk in
       let long : 12 ≤ length mid = none_long c.args.format most mid first in
       records_complete c.args.more c.args.format c.args.bodies.now mid (g.D.Disk.seen c.put_records.new.disk) first.front long
       c.requires.sizes c.requires.some (c.in-Ok-put_records.ensures.written h long) (⊎_elim (λ some. inl some) (λ short. inr (omega (arith, short, first.fits))) tailed)
@@ -75,12 +106,11 @@ returns-in-Err-put_records-clause-answer g c h most stood room tailed other =
     inr (others_none c.args.format g.D.Disk most c.put_records.new.disk
     (second g at h most stood room other)
     (λ x left. let y = (c.put_records.ensures.time h).follows x left in
-    none_torn c.args.format most n y.0 x room
-    (subst (λ f. LeavesNone most c.args.format f) (sym (c.in-Ok.ensures.durable h y.0 y.1)) (first g at h most stood room other)) y.2))
+    none_torn c.args.format most n y.0 x room (each g at h most stood room other y.0 y.1) y.2))
 
 pub returns-in-Err-put_records-clause-calls : goal.returns-in-Err-put_records-clause-calls
 returns-in-Err-put_records-clause-calls g c =
-    refused_records c.put_records.result _ c.in-Err-put_records.is (length c.args.bodies.now) _ _ _ c.in-Ok.ensures.calls c.put_records.ensures.calls
+    refused_records c.put_records.result _ c.in-Err-put_records.is (length c.args.bodies.now) _ _ _ (c.shorten.ensures.calls ∙ c.in-Ok.ensures.calls) c.put_records.ensures.calls
 
 pub returns-in-Ok-put_records-clause-any_moment : goal.returns-in-Ok-put_records-clause-any_moment
 returns-in-Ok-put_records-clause-any_moment g c h most stood room tailed other =
@@ -88,7 +118,7 @@ returns-in-Ok-put_records-clause-any_moment g c h most stood room tailed other =
     let seal = at.After-put_seal-outcome in
     third_part g.D.Disk most c.args.format stood c.args.bodies.now c.args.disk.now c.put_records.new.disk c.put_seal-outcome.new.disk
     (moments g at.After-put_records h most stood room other)
-    (c.put_seal-outcome.ensures.any_moment h most c.args.format c.args.bodies.now (ready g seal h most (first g at.After-put_records h most stood room other) tailed)
+    (c.put_seal-outcome.ensures.any_moment h most c.args.format c.args.bodies.now (ready g seal h most (cut g at.After-put_records h most stood room other) tailed)
     (size g seal) (second g at.After-put_records h most stood room other).fits (c.in-Ok-put_records.ensures.durable h))
 
 pub returns-in-Ok-put_records-clause-answer : goal.returns-in-Ok-put_records-clause-answer
@@ -96,36 +126,54 @@ returns-in-Ok-put_records-clause-answer g c h most stood room tailed other =
     let at = goal.at.returns-in-Ok-put_records-clause-answer g c in
     let seal = at.After-put_seal-outcome in
     sealed c.args.format g.D.Disk most stood c.args.bodies.now c.args.disk.now c.put_records.new.disk c.put_seal-outcome.new.disk
-    (ready g seal h most (first g at.After-put_records h most stood room other) tailed)
+    (ready g seal h most (cut g at.After-put_records h most stood room other) tailed)
     (second g at.After-put_records h most stood room other).fits (c.in-Ok-put_records.ensures.durable h)
     c.put_seal-outcome.result c.put_seal-outcome.ensures.not_full (went g seal h) (c.put_seal-outcome.ensures.time h).follows
 
 pub returns-in-Ok-put_records-clause-calls : goal.returns-in-Ok-put_records-clause-calls
 returns-in-Ok-put_records-clause-calls g c =
     sealed_calls c.put_seal-outcome.result c.put_seal-outcome.ensures.not_full
-    (length c.args.bodies.now) _ _ _ _ c.in-Ok.ensures.calls c.in-Ok-put_records.ensures.calls c.put_seal-outcome.ensures.calls
+    (length c.args.bodies.now) _ _ _ _ (c.shorten.ensures.calls ∙ c.in-Ok.ensures.calls) c.in-Ok-put_records.ensures.calls c.put_seal-outcome.ensures.calls
 
-pub returns-in-Err-put_records-clause-grows : goal.returns-in-Err-put_records-clause-grows
-returns-in-Err-put_records-clause-grows g c h = omega (arith, c.put_front.ensures.grows h, (c.put_records.ensures.torn h).no_shorter)
+pub returns-in-Err-clause-known : goal.returns-in-Err-clause-known
+returns-in-Err-clause-known g c h was = omega (arith, was, c.put_front.ensures.grows h)
 
-pub returns-in-Ok-put_records-clause-grows : goal.returns-in-Ok-put_records-clause-grows
-returns-in-Ok-put_records-clause-grows g c h =
-    omega (arith, c.put_front.ensures.grows h, (c.put_records.ensures.torn h).no_shorter, seal_grows _ _ _ _ _ _ _ (c.put_seal-outcome.ensures.went h))
+pub returns-in-Err-put_records-clause-known : goal.returns-in-Err-put_records-clause-known
+returns-in-Err-put_records-clause-known g c h was =
+    omega (arith, c.shorten.ensures.reaches h (omega (arith, was, c.put_front.ensures.grows h)), (c.put_records.ensures.torn h).no_shorter)
+
+pub returns-in-Ok-put_records-clause-known : goal.returns-in-Ok-put_records-clause-known
+returns-in-Ok-put_records-clause-known g c h was =
+    omega (
+      arith,
+      c.shorten.ensures.reaches h (omega (arith, was, c.put_front.ensures.grows h)),
+      (c.put_records.ensures.torn h).no_shorter,
+      seal_grows _ _ _ _ _ _ _ (c.put_seal-outcome.ensures.went h),
+    )
+
+pub returns-in-Ok-put_records-clause-cut : goal.returns-in-Ok-put_records-clause-cut
+returns-in-Ok-put_records-clause-cut g c h shortens kept over =
+    let at = goal.at.returns-in-Ok-put_records-clause-cut g c in
+    let small : c.args.end % 262144 < 262144 = mod-lt c.args.end (omega arith) in
+    let gone : length (g.D.Disk.seen c.shorten.new.disk) ≤ cut_behind c.args.end = c.shorten.ensures.cut h shortens over in
+    seal_within g.D.Disk.tears c.put_seal-outcome.result _ _ _ _ (cut_behind c.args.end) kept
+    (omega (arith, gone, (c.put_records.ensures.torn h).no_longer, c.requires.end, c.requires.few, small))
+    (omega (arith, long g at.After-shorten h, (c.put_records.ensures.torn h).no_shorter)) (went g at.After-put_seal-outcome h)
 
 pub returns-in-Ok-put_records-clause-reaches : goal.returns-in-Ok-put_records-clause-reaches
 returns-in-Ok-put_records-clause-reaches g c h kept =
-    let mid : List ℕ = g.D.Disk.seen c.put_front.new.disk in
+    let mid : List ℕ = g.D.Disk.seen c.shorten.new.disk in
     let done : List ℕ = g.D.Disk.seen c.put_records.new.disk in
-    let long : 12 ≤ length mid = header_long c.args.format (g.D.Disk.seen c.args.disk.now) mid (c.in-Ok.ensures.made h) in
-    let whole : 12 + length (records (start c.args.format) c.args.bodies.now) + c.args.more ≤ length done = records_reach c.args.more c.args.format c.args.bodies.now mid done (c.in-Ok-put_records.ensures.written h long) in
+    let there : 12 ≤ length mid = long g (goal.at.returns-in-Ok-put_records-clause-reaches g c).After-shorten h in
+    let whole : 12 + length (records (start c.args.format) c.args.bodies.now) + c.args.more ≤ length done = records_reach c.args.more c.args.format c.args.bodies.now mid done (c.in-Ok-put_records.ensures.written h there) in
     omega (arith, whole, seal_grows _ _ _ _ _ _ _ (c.put_seal-outcome.ensures.went h))
 
 pub returns-in-Ok-put_records-clause-cleared : goal.returns-in-Ok-put_records-clause-cleared
 returns-in-Ok-put_records-clause-cleared g c h kept =
-    let mid : List ℕ = g.D.Disk.seen c.put_front.new.disk in
-    let old : List ℕ = g.D.Disk.seen c.args.disk.now in
+    let at = goal.at.returns-in-Ok-put_records-clause-cleared g c in
+    let mid : List ℕ = g.D.Disk.seen c.shorten.new.disk in
     let new = c.put_seal-outcome.new.disk in
-    let long : 12 ≤ length mid = header_long c.args.format old mid (c.in-Ok.ensures.made h) in
-    sealed_cleared g.D.Disk.tears c.args.more c.args.format c.args.bodies.now old mid (g.D.Disk.seen c.put_records.new.disk) (g.D.Disk.seen new) (g.D.Disk.may_leave new)
-    c.put_seal-outcome.result (c.in-Ok.ensures.made h) long c.requires.sizes c.requires.some (c.in-Ok-put_records.ensures.written h long) kept
-    (went g (goal.at.returns-in-Ok-put_records-clause-cleared g c).After-put_seal-outcome h)
+    let there : 12 ≤ length mid = long g at.After-shorten h in
+    sealed_cleared g.D.Disk.tears c.args.more c.args.format c.args.bodies.now mid mid (g.D.Disk.seen c.put_records.new.disk) (g.D.Disk.seen new) (g.D.Disk.may_leave new)
+    c.put_seal-outcome.result (header_split c.args.format mid (header g at.After-shorten h)) there c.requires.sizes c.requires.some
+    (c.in-Ok-put_records.ensures.written h there) kept (went g at.After-put_seal-outcome h)

@@ -1,4 +1,3 @@
-use Rattle.std.proofs.Common.{◌≡◌, ap, sym, List, ℕ}
 use Rattle.xa_log.specs.Reading.{bodies_of}
 use Rattle.xa_log.proofs.Snapshot.{one_whole}
 use Rattle.xa_log.proofs.damage.is_broken.Goals as goal

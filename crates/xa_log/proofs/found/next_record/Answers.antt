@@ -1,66 +1,23 @@
-use Rattle.std.proofs.Common.{◌≡◌, ◌+◌, ◌-◌, ◌≤◌, drop, take, sym, subst, ap, ◌∙◌, refl, arith, length, length-drop, ℕ, List, inl, inr, IfOk}
-use Rattle.std.specs.Int.{w32, to_be_bytes}
-use Rattle.std.proofs.lemmas.Bool.{cases_lt}
-use Rattle.xa_log.specs.Chain.{size_at}
-use Rattle.xa_log.specs.Reading.{Finds}
-use Rattle.xa_log.specs.Window.{Caches}
-use Rattle.xa_log.proofs.Front.{none_short, none_empty, none_large, none_cut, size_front, size_bytes, bytes_read}
-use Rattle.xa_log.proofs.Cached.{cached_slice}
-use Rattle.xa_log.proofs.Fetch.{on_fault, within_more, length_read, length_reaches}
+use Rattle.std.proofs.Common.{subst, List, ℕ}
+use Rattle.xa_log.specs.Shown.{Shows, FetchedShown}
+use Rattle.xa_log.proofs.Shown.{unshown, found_or, found_read}
 use Rattle.xa_log.proofs.found.next_record.Goals as goal
-use Rattle.xa_log.proofs.found.next_record.Goals.{then-size-eq0-via-then-size-eq0, then-size-eq0-via-else-size-eq0+then-size-most_body, then-size-eq0-via-else-size-eq0+else-size-most_body+then-len-at-2}
 
-pub returns-then-len-at-clause-finds : goal.returns-then-len-at-clause-finds
-returns-then-len-at-clause-finds g c h whole caches =
-    let file = g.D.Disk.seen c.args.disk.now in
-    none_short c.args.format c.args.prev.now (drop c.args.at file) (omega (arith, whole, length-drop c.args.at file))
+pub returns-in-None-clause-finds : goal.returns-in-None-clause-finds
+returns-in-None-clause-finds g c h whole caches =
+    unshown c.args.format c.args.prev.now _ (subst (λ o. Shows c.args.format (g.D.Disk.seen c.args.disk.now) c.args.at c.next_shown.new.window o) c.in-None.is (c.in_ok-next_shown.ensures.shows h whole caches))
 
-pub returns-then-size-eq0-clause-finds : goal.returns-then-size-eq0-clause-finds
-returns-then-size-eq0-clause-finds g c h whole caches =
-    let file = g.D.Disk.seen c.args.disk.now in
-    let x = drop c.args.at file in
-    let size : c.size_of-size.result ≡ size_at x =
-    c.size_of-size.ensures ∙ size_front _ x (cached_slice file c.fill.new.window c.in_ok-span.span c.args.at 4 _ _ refl (omega arith) (c.in_ok-span.ensures.caches h caches) c.in_ok-span.ensures.covers) in
-    elim c.then-size-eq0.branch [
-      | then-size-eq0-via-then-size-eq0 w ↦ none_empty c.args.format c.args.prev.now x (sym size ∙ w.if-size-eq0.true)
-      | then-size-eq0-via-else-size-eq0+then-size-most_body w ↦ none_large c.args.format c.args.prev.now x (omega (arith, size))
-      | then-size-eq0-via-else-size-eq0+else-size-most_body+then-len-at-2 w ↦ none_cut c.args.format c.args.prev.now x (omega (arith, size, whole, length-drop c.args.at file))
-    ]
+pub returns-in-None-clause-fetched : goal.returns-in-None-clause-fetched
+returns-in-None-clause-fetched g c start most f r =
+    subst (λ o. FetchedShown c.args.len most start (g.D.Disk.counts c.next_shown.new.disk) o) c.in-None.is (c.in_ok-next_shown.ensures.fetched start most f r)
 
-pub returns-clause-finds : goal.returns-clause-finds
-returns-clause-finds g c h whole caches =
+pub returns-in-Some-clause-finds : goal.returns-in-Some-clause-finds
+returns-in-Some-clause-finds g c h whole caches =
     let file : List ℕ = g.D.Disk.seen c.args.disk.now in
-    let x : List ℕ = drop c.args.at file in
-    let same = c.in_ok-span.ensures.same h in
-    let first = c.in_ok-span.ensures.caches h caches in
-    let front = cached_slice file c.fill.new.window c.in_ok-span.span c.args.at 4 (c.args.at - c.in_ok-span.span.from) _ refl (omega arith) first c.in_ok-span.ensures.covers in
-    let size : c.size_of-size.result ≡ size_at x = c.size_of-size.ensures ∙ size_front _ x front in
-    let spelled = size_bytes x (omega (arith, whole, length-drop c.args.at file)) (bytes_read c.fill.new.window x (c.args.at - c.in_ok-span.span.from) _ (omega arith) front c.fill.ensures.bytes) in
-    subst (λ f. IfOk c.record_at.result (Finds c.args.format c.args.prev.now f c.args.at c.record_at.new.window)) same
-    (c.record_at.ensures.finds c.args.format (omega arith) h (whole ∙ ap (λ (f : List ℕ). length f) (sym same))
-    (subst (λ f. Caches f c.fill.new.window c.in_ok-span.span) (sym same) first)
-    (ap (λ (f : List ℕ). take 4 (drop c.args.at f)) same ∙ spelled ∙ ap (λ (k : ℕ). to_be_bytes w32 k) (sym size)))
+    let shows = subst (λ o. Shows c.args.format file c.args.at c.next_shown.new.window o) c.in-Some.is (c.in_ok-next_shown.ensures.shows h whole caches) in
+    found_or c.chain_on.result c.ok.result c.args.format c.args.prev.now file c.next_shown.new.window c.args.at c.ok.ensures.value (c.chain_on.ensures.chains c.args.format file c.next_shown.new.window c.args.at shows)
 
-pub returns-in_err-span-clause-fetched : goal.returns-in_err-span-clause-fetched
-returns-in_err-span-clause-fetched g c start most f r =
-    let far : c.args.at + 1048576 ≤ most = elim (cases_lt (c.args.span.from + c.args.span.have) (c.args.at + 4)) [
-      | inl short ↦ r.1 (omega arith) short
-      | inr long ↦ absurd (cc (c.in_err-span.ensures.covered long))
-    ] in
-    on_fault _ _ c.from_residual.result c.from_residual.ensures.0
-    (within_more c.args.len (c.args.at + 1048576) most start _ far (c.in_err-span.ensures.fetched start f))
-
-pub returns-then-size-eq0-clause-fetched : goal.returns-then-size-eq0-clause-fetched
-returns-then-size-eq0-clause-fetched g c start most f r =
-    let it = length_read c.args.span c.in_ok-span.span c.args.at c.args.len most (omega arith) c.in_ok-span.ensures.whole (λ le. cc (c.in_ok-span.ensures.covered le)) r.0 r.1 in
-    record { upto = _; fetched = c.in_ok-span.ensures.fetched start f; bounded = it.bounded }
-
-pub returns-clause-fetched : goal.returns-clause-fetched
-returns-clause-fetched g c start most f r =
-    let it = length_read c.args.span c.in_ok-span.span c.args.at c.args.len most (omega arith) c.in_ok-span.ensures.whole (λ le. cc (c.in_ok-span.ensures.covered le)) r.0 r.1 in
-    c.record_at.ensures.fetched start most (c.in_ok-span.ensures.fetched start f)
-    (length_reaches c.args.span c.in_ok-span.span c.args.at most _ it (omega arith)
-    (r.2 c.size_of-size.result
-    (λ h whole caches.
-    c.size_of-size.ensures ∙ size_front _ _ (cached_slice (g.D.Disk.seen c.args.disk.now) c.fill.new.window c.in_ok-span.span c.args.at 4 _ _ refl (omega arith) (c.in_ok-span.ensures.caches h caches) c.in_ok-span.ensures.covers))
-    (omega arith) (omega arith)))
+pub returns-in-Some-clause-fetched : goal.returns-in-Some-clause-fetched
+returns-in-Some-clause-fetched g c start most f r =
+    let read = subst (λ o. FetchedShown c.args.len most start (g.D.Disk.counts c.next_shown.new.disk) o) c.in-Some.is (c.in_ok-next_shown.ensures.fetched start most f r) in
+    found_read c.chain_on.result c.ok.result c.in-Some.shown c.args.len most start _ c.ok.ensures.value c.chain_on.ensures.kept read

@@ -1,10 +1,14 @@
 use Rattle.std.proofs.Common.{◌∙◌}
 use Rattle.xa_log.proofs.Looks.{handed_on}
+use Rattle.xa_log.proofs.Leaves.{current_left}
 use Rattle.xa_log.proofs.Opens.{current_logged, opened_leaves}
 use Rattle.xa_log.proofs.opening.open_on.Goals as goal
 
 pub returns-clause-logged : goal.returns-clause-logged
 returns-clause-logged g c h = current_logged _ _ _ _ (c.in_ok-on_first.ensures.value h).1
+
+pub returns-clause-left : goal.returns-clause-left
+returns-clause-left g c h = current_left _ _ _ _ (c.in_ok-on_first.ensures.value h).1
 
 pub returns-clause-leaves : goal.returns-clause-leaves
 returns-clause-leaves g c h x y left left_second =

@@ -2,7 +2,8 @@ use Rattle.std.proofs.Common.{◌≡◌, ◌∙◌, ◌+◌, ◌≤◌, ◌&&◌
 use Rattle.std.specs.Prelude.{is_some}
 use Rattle.xa_log.specs.Chain.{format_of, start}
 use Rattle.xa_log.specs.Damage.{lost_first}
-use Rattle.xa_log.specs.Reading.{Finds, IsScan}
+use Rattle.xa_log.specs.Reading.{Finds, IsScan, bodies_of}
+use Rattle.xa_log.proofs.Records.{rests_logged}
 use Rattle.xa_log.specs.Window.{Caches}
 use Rattle.xa_log.proofs.Choosing.{magic_of, names_no_fault}
 use Rattle.xa_log.proofs.First.{front_read, lost_is}
@@ -163,3 +164,8 @@ returns-clause-damaged g c h =
     ∙ ap (λ (b : Bool). (c.is_lost_first-shown.result && not b) || c.in_ok-scan.scan.broken) c.is_some-chains.ensures
     ∙ damaged_read file c.in_ok-scan.scan (c.is_lost_first-shown.result && not (is_some c.in_ok-first.first)) (found g at.In_ok-scan h)
     (ap (λ (b : Bool). c.is_lost_first-shown.result && b) (none_is c.in_ok-first.first) ∙ lost)
+
+pub returns-clause-logged : goal.returns-clause-logged
+returns-clause-logged g c h =
+    let it = found g (goal.at.returns-clause-logged g c).In_ok-scan h in
+    rests_logged c.in_ok-scan.scan.format (bodies_of c.in_ok-scan.scan.bodies.items) (g.D.Disk.seen c.args.disk.now) it.rests

@@ -1,7 +1,7 @@
 use Rattle.std.proofs.Common.{[], subst}
 use Rattle.xa_log.specs.Stands.{EndsBehind}
 use Rattle.xa_manager.proofs.FirstRecords.{first_appended, first_full, one_body, appends_first, snapshots_first}
-use Rattle.xa_manager.proofs.FoundLogs.{found_stands, found_new, first_kept, first_ends, replaced_ends}
+use Rattle.xa_manager.proofs.FoundLogs.{found_stands, found_new, first_kept, first_ends, first_number, replaced_ends, replaced_number}
 use Rattle.xa_manager.proofs.first_records.log_first.Goals as goal
 
 pub returns-then-bodies-eq1-clause-full : goal.returns-then-bodies-eq1-clause-full
@@ -22,6 +22,11 @@ returns-then-bodies-eq1-clause-ends g c = λ kept old empty ends.
     let one = one_body c.args.bodies.now c.index-bodies-0.result c.as_slice.result.now c.if-bodies-eq1.true c.index-bodies-0.is c.as_slice.ensures in
     first_ends _ c.args.log.now _ old _ c.as_slice.result.now kept (empty c.if-is_new.true) one c.append.ensures.moves ends
 
+pub returns-then-bodies-eq1-clause-number : goal.returns-then-bodies-eq1-clause-number
+returns-then-bodies-eq1-clause-number g c = λ kept old empty ends.
+    let one = one_body c.args.bodies.now c.index-bodies-0.result c.as_slice.result.now c.if-bodies-eq1.true c.index-bodies-0.is c.as_slice.ensures in
+    first_number _ c.args.log.now _ old _ c.as_slice.result.now kept (empty c.if-is_new.true) one c.append.ensures.numbers ends
+
 pub returns-else-is_new-clause-kept : goal.returns-else-is_new-clause-kept
 returns-else-is_new-clause-kept g c = λ h kept old empty found.
     let it = found_stands g.D.Disk c.args.is_new old c.args.log.now found in
@@ -29,6 +34,9 @@ returns-else-is_new-clause-kept g c = λ h kept old empty found.
 
 pub returns-else-is_new-clause-ends : goal.returns-else-is_new-clause-ends
 returns-else-is_new-clause-ends g c = λ kept old empty ends. replaced_ends _ c.args.log.now _ old _ kept (c.checkpoint.ensures.swaps ends.alive) ends
+
+pub returns-else-is_new-clause-number : goal.returns-else-is_new-clause-number
+returns-else-is_new-clause-number g c = λ kept old empty ends. replaced_number _ c.args.log.now _ _ kept (c.checkpoint.ensures.swaps ends.alive)
 
 pub returns-else-is_new-clause-full : goal.returns-else-is_new-clause-full
 returns-else-is_new-clause-full g c = λ full old empty ends. (c.checkpoint.ensures.full ends.alive).0 full

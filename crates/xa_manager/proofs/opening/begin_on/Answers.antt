@@ -1,4 +1,4 @@
-use Rattle.std.proofs.Common.{◌≡◌, ◌+◌, ◌<◌, ℕ, List, true, false, sym, refl, ◌∙◌, subst, arith}
+use Rattle.std.proofs.Common.{◌≡◌, ◌+◌, ◌<◌, ℕ, List, true, false, ap, sym, refl, ◌∙◌, subst, arith}
 use Rattle.xa_log.specs.Buffer.{HoldsEach}
 use Rattle.xa_log.specs.Pair.{generation}
 use Rattle.xa_log.specs.Reading.{bodies_of}
@@ -79,6 +79,7 @@ returns-clause-begun g c = λ found sized.
           refl refl refl refl (c.log_first.ensures.settings ∙ c.in-Ok.ensures.ok.fields.log_bytes ∙ sized) c.new.ensures plan.ready.branches plan.ready.records
           (subst (λ (l : List (List ℕ)). EndsBehind l c.log_first.new.log) same ends)
           (c.log_first.ensures.modern c.in-Kept.is (c.in-Ok.ensures.ok.fields.lost ∙ c.requires.ends.alive))
+          (c.log_first.ensures.number c.in-Kept.is (bodies_of c.args.bodies.items) c.requires.made (ends_same g.D.Disk c.args.log.now mid c.in-Ok.ensures.ok (bodies_of c.args.bodies.items) c.requires.ends) ∙ ap (λ (l : List (List ℕ)). generation l) same)
           (λ h. subst (λ (l : List (List ℕ)). HasBodies g.D.Disk l c.log_first.new.log) same
           (c.log_first.ensures.kept h c.in-Kept.is (bodies_of c.args.bodies.items) c.requires.made (found_same g.D.Disk c.args.log.now mid c.in-Ok.ensures.ok c.args.is_new (bodies_of c.args.bodies.items) (found h))))
           plan.limits plan.form (omega arith) room;

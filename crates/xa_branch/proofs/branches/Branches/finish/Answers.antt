@@ -27,8 +27,8 @@ returns-in-Some-Completed-clause-committed c = λ s h st.
 
 pub returns-in-Some-clause-rolled_back : goal.returns-in-Some-clause-rolled_back
 returns-in-Some-clause-rolled_back c = λ s h st.
-    finished_stands c.args.self.now _ _ _ s c.args.xid.now (rolled_back s c.args.xid.now).branches c.in-Some.working h st (rolled_finishes s c.args.xid.now h) (sym c.in-Some.ensures) (sym c.in-None.ensures)
-    c.take-in-Some.ensures c.take_time-in-Some.ensures c.take_due.ensures
+    finished_stands c.args.self.now _ _ _ _ s c.args.xid.now (rolled_back s c.args.xid.now).branches c.in-Some.working h st (rolled_finishes s c.args.xid.now h) (sym c.in-Some.ensures)
+    c.take-in-Some.ensures c.take-in-Some-2.ensures c.take_time-in-Some.ensures c.take_due.ensures
 
 pub returns-in_default-clause-rolled_back : goal.returns-in_default-clause-rolled_back
 returns-in_default-clause-rolled_back c = λ s h st.
@@ -37,8 +37,8 @@ returns-in_default-clause-rolled_back c = λ s h st.
 
 pub returns-in-Some-clause-committed : goal.returns-in-Some-clause-committed
 returns-in-Some-clause-committed c = λ s h st.
-    finished_stands c.args.self.now _ _ _ s c.args.xid.now (committed s c.args.xid.now).branches c.in-Some.working h st (committed_finishes s c.args.xid.now h) (sym c.in-Some.ensures) (sym c.in-None.ensures)
-    c.take-in-Some.ensures c.take_time-in-Some.ensures c.take_due.ensures
+    finished_stands c.args.self.now _ _ _ _ s c.args.xid.now (committed s c.args.xid.now).branches c.in-Some.working h st (committed_finishes s c.args.xid.now h) (sym c.in-Some.ensures)
+    c.take-in-Some.ensures c.take-in-Some-2.ensures c.take_time-in-Some.ensures c.take_due.ensures
 
 pub returns-in_default-clause-committed : goal.returns-in_default-clause-committed
 returns-in_default-clause-committed c = λ s h st.

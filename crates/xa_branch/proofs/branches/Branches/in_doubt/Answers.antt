@@ -5,6 +5,7 @@ use Rattle.std.specs.Map.Iter.{deref_pair}
 use Rattle.std.proofs.lemmas.Map.Iter.{rest_more}
 use Rattle.xa_xid.specs.Triple.{xid_cmp}
 use Rattle.xa_branch.proofs.Picked.{prepared_part, picked_none, picked_over, picked_next, times_all}
+use Rattle.xa_branch.proofs.NoRooms.{no_rooms}
 use Rattle.xa_branch.proofs.branches.Branches.in_doubt.Goals as goal
 
 pub loop-xid-init : goal.loop-xid-init
@@ -24,4 +25,4 @@ loop-xid-preserved-in_ok-insert c =
     c.copied.ensures c.in_ok-insert.ensures.updates.0 c.insert.ensures.ordered c.loop-xid.invariant
 
 pub returns : goal.returns
-returns c = λ s h st. times_all c.args.self.now s c.loop-xid.xid-iterator c.loop-xid.times h st c.in-None.ensures.steps.0 c.loop-xid.invariant
+returns c = λ s h st. times_all c.args.self.now s c.loop-xid.xid-iterator c.loop-xid.times h st (no_rooms c.args.self.now s h st (c.has_rooms.ensures c.if-has_rooms.false)) c.in-None.ensures.steps.0 c.loop-xid.invariant

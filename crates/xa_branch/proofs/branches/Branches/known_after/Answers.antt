@@ -7,6 +7,7 @@ use Rattle.xa_branch.specs.Told.{told_working, told_lasting}
 use Rattle.xa_branch.proofs.Listing.{few_taken}
 use Rattle.xa_branch.proofs.KnownLists.{part_is, all_after, known_same}
 use Rattle.xa_branch.proofs.Merging.{Takes, merged_more, merged_all, merged_enough}
+use Rattle.xa_branch.proofs.NoRooms.{no_rooms}
 use Rattle.xa_branch.proofs.branches.Branches.known_after.Goals as goal
 use Rattle.xa_branch.proofs.branches.Branches.known_after.Goals.{else-loop-test, then-loop-test+in_default}
 
@@ -51,4 +52,4 @@ returns-clause-few c = few_taken c.loop.known.items (all_after (option_copied c.
 
 pub returns-clause-known : goal.returns-clause-known
 returns-clause-known c = λ s h st.
-    all_taken c ∙ known_same c.args.self.now s (option_copied c.args.after) c.args.count h st c.range-working.ensures.ordered c.range-lasting.ensures.ordered
+    all_taken c ∙ known_same c.args.self.now s (option_copied c.args.after) c.args.count h st (no_rooms c.args.self.now s h st (c.has_rooms.ensures c.if-has_rooms.false)) c.range-working.ensures.ordered c.range-lasting.ensures.ordered

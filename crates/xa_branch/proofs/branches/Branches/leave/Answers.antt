@@ -1,4 +1,4 @@
-use Rattle.std.proofs.Common.{◌≡◌, None, sym, subst, rules}
+use Rattle.std.proofs.Common.{refl, ◌≡◌, None, sym, subst, rules}
 use Rattle.std.specs.Prelude.{option_map}
 use Rattle.xa_branch.specs.declared.kind.Kind.{Kind}
 use Rattle.xa_branch.specs.declared.kind.Kind.TheVariants as kind
@@ -18,6 +18,7 @@ returns-in-Some c =
       not_resumed = λ s n st is. not_resumed_stands m _ s n c.args.xid.now c.args.kind st is sets;
       not_suspended = λ s n st is any.
           not_suspended_stands m _ s n c.args.xid.now st any (subst (λ (k : Kind). Sets m.working c.args.xid.now (option_map (less_one k) (working_at m c.args.xid.now)) c.set.new.kept) is sets);
+      rooms = refl;
     }
 
 pub returns-in_default : goal.returns-in_default
@@ -28,4 +29,5 @@ returns-in_default c =
       ended = λ s n h st is. ended_stands m m.working s n c.args.xid.now c.args.kind h st is (unset_by_any (less_one c.args.kind) m.working c.args.xid.now none);
       not_resumed = λ s n st is. not_resumed_stands m m.working s n c.args.xid.now c.args.kind st is (unset_by_any (less_one c.args.kind) m.working c.args.xid.now none);
       not_suspended = λ s n st is any. not_suspended_stands m m.working s n c.args.xid.now st any (unset_by_any (less_one kind.Active) m.working c.args.xid.now none);
+      rooms = refl;
     }

@@ -7,6 +7,7 @@ use Rattle.std.proofs.lemmas.List.{append-nil}
 use Rattle.xa_xid.specs.Triple.{Triple, xid_cmp}
 use Rattle.xa_model.specs.Listed.{is_above}
 use Rattle.xa_branch.proofs.Listing.{above, keys_filtered, taken_more, taken_all, listed_same, few_taken}
+use Rattle.xa_branch.proofs.NoRooms.{no_rooms}
 use Rattle.xa_branch.proofs.branches.Branches.list_after.Goals as goal
 
 and_true : (b : Bool) → (b && true) ≡ b
@@ -42,4 +43,4 @@ returns-clause-listed c = λ s h st.
     let all : take l.xid-iterator.n (keys_of l.xid-iterator.iter) ≡ [] = taken_all l.xid-iterator.n l.xid-iterator.iter (λ some. (c.in-None.ensures.steps some).0) in
     sym (append-nil l.listed.items)
     ∙ (sym (ap (λ (xs : List Triple). l.listed.items ++ xs) all)
-    ∙ (l.invariant ∙ ap (λ (xs : List Triple). take c.args.count (filter (is_above (option_copied c.args.after)) xs)) (listed_same c.args.self.now s h st c.range.ensures.ordered)))
+    ∙ (l.invariant ∙ ap (λ (xs : List Triple). take c.args.count (filter (is_above (option_copied c.args.after)) xs)) (listed_same c.args.self.now s h st (no_rooms c.args.self.now s h st (c.has_rooms.ensures c.if-has_rooms.false)) c.range.ensures.ordered)))

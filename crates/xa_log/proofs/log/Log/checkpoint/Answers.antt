@@ -121,19 +121,19 @@ returns-in-Kept-clause-known g c h was =
     let format = c.newest-format.result in
     let reaches = wrote.ensures.reaches h c.in-Kept.is in
     let long : c.in-Some.end + 4 ≤ length (g.D.Disk.seen wrote.new.disk) = omega (arith, c.in-Some.ensures.some.0, reaches, length-text format c.args.bodies.now) in
-    known_swapped g.D.Disk (shown c.self.inside) _ wrote.new.disk (wrote.ensures.grows h) k (c.in-Some.end + 4) long c.swap.ensures.x_after c.swap.ensures.y_after c.max-known.ensures refl
+    known_swapped g.D.Disk (shown c.self.inside) _ wrote.new.disk wrote.new.known (wrote.ensures.known h) k (c.in-Some.end + 4) long c.swap.ensures.x_after c.swap.ensures.y_after c.max-known.ensures refl
 
 pub returns-in-Refused-clause-known : goal.returns-in-Refused-clause-known
 returns-in-Refused-clause-known g c h was =
     let k = of_fields (λ l. IsKnown g.D.Disk l) c.self.view_is was in
     let wrote = c.checkpoint_on-outcome in
-    known_beside g.D.Disk (shown c.self.inside) _ wrote.new.disk (wrote.ensures.grows h) k refl refl refl refl
+    known_beside g.D.Disk (shown c.self.inside) _ wrote.new.disk wrote.new.known (wrote.ensures.known h) k refl refl refl refl
 
 pub returns-in-Lost-clause-known : goal.returns-in-Lost-clause-known
 returns-in-Lost-clause-known g c h was =
     let k = of_fields (λ l. IsKnown g.D.Disk l) c.self.view_is was in
     let wrote = c.checkpoint_on-outcome in
-    known_beside g.D.Disk (shown c.self.inside) _ wrote.new.disk (wrote.ensures.grows h) k refl refl refl refl
+    known_beside g.D.Disk (shown c.self.inside) _ wrote.new.disk wrote.new.known (wrote.ensures.known h) k refl refl refl refl
 
 pub returns-in-Kept-clause-cleared : goal.returns-in-Kept-clause-cleared
 returns-in-Kept-clause-cleared g c h kept alive =

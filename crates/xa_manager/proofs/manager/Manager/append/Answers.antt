@@ -14,7 +14,7 @@ returns g c =
       appended = λ alive room.
           has_appended _ group c.became.result c.append_group-appended.result old c.append_group-appended.new.self
           (c.became.ensures.answer (never_full c.append_group-appended.result old.log_bytes old.end AROUND_CLOSED (as_one group) (λ is. (h.full alive).0 is) room))
-          h.settings h.other h.moves h.pair (h.calls alive) h.any_moment;
+          h.settings h.other h.moves h.numbers h.pair (h.calls alive) h.any_moment;
       up = λ up. c.became.ensures.up up;
       doubt = c.became.ensures.doubt ∙ ap (λ e. doubt_after c.became.result e) c.end-end.ensures;
       tables = refl;

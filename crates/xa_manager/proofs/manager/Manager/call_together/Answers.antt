@@ -8,6 +8,7 @@ use Rattle.xa_manager.specs.GroupAnswers.{told}
 use Rattle.xa_manager.specs.Together.{members_of}
 use Rattle.xa_manager.proofs.GroupFacts.{each_size}
 use Rattle.xa_manager.proofs.GroupReplies.{answers_group, group_up, replied_once, some_bodies}
+use Rattle.xa_manager.proofs.Taking.{on_err}
 use Rattle.xa_manager.proofs.manager.Manager.call_together.Goals as goal
 
 pub take_memory_together-requires : goal.take_memory_together-requires
@@ -48,3 +49,7 @@ returns-clause-once g c =
     let a = c.carry_out_together-answer.result in
     replied_once g.D.Disk c.args.self.now c.args.calls.now t a c.tell.new.replies.items c.in_ok-together.ensures
     (subst (λ (l : List Joining). c.tell.new.replies.items ≡ map (told a) l) c.deref.ensures.value c.tell.ensures)
+
+pub returns-in_err-take_memory_together-clause-err : goal.returns-in_err-take_memory_together-clause-err
+returns-in_err-take_memory_together-clause-err g c =
+    on_err c.from_residual-in_err-take_memory_together.result _ (c.take_memory_together.ensures.stays c.args.calls.now c.in_ok-together.ensures)

@@ -1,46 +1,30 @@
 use Rattle.std.proofs.Common.{◌≡◌, List, map, refl, sym, subst}
 use Rattle.xa_log.specs.Calls.{SettlesBy}
 use Rattle.xa_log.specs.LogView.{LogView}
-use Rattle.xa_xid.specs.Triple.{Triple}
 use Rattle.xa_manager.specs.Answered.{as_appended}
 use Rattle.xa_manager.specs.declared.together.Joining.{Joining}
-use Rattle.xa_manager.specs.Acts.{MakeRooms, StaysIfDistinct}
 use Rattle.xa_manager.specs.GroupAnswers.{told}
 use Rattle.xa_manager.specs.Once.{AreOnce}
 use Rattle.xa_manager.proofs.GroupReplies.{once_of}
-use Rattle.xa_manager.proofs.Finished.{still_pending, has_finished, finished, finishes_still, stays_without}
+use Rattle.xa_manager.proofs.Finished.{has_finished, finished, finishes_still}
 use Rattle.xa_manager.proofs.manager.Manager.finish_group.Goals as goal
 
-pub returns-in_default-make_rooms-clause-err : goal.returns-in_default-make_rooms-clause-err
-returns-in_default-make_rooms-clause-err g c =
-    let m = c.args.self.now in
-    let f = c.args.group in
-    let m' = record m { tables = c.make_rooms.new.self } in
-    let stays : StaysIfDistinct m.tables f.together.prepares.items c.make_rooms.new.self =
-    subst (λ (xids : List Triple). StaysIfDistinct m.tables xids c.make_rooms.new.self) c.deref.ensures.value c.in_default-make_rooms.ensures.err in
-    (refl, λ log s fl. still_pending g.D.Disk m m' f log s refl refl refl (stays_without g.D.Disk m m' f c.requires stays) fl)
-
-pub returns-clause-ok : goal.returns-clause-ok
-returns-clause-ok g c =
+pub returns-clause-finished : goal.returns-clause-finished
+returns-clause-finished g c =
     let m = c.args.self.now in
     let f = c.args.group in
     let a = c.settle-became.result in
-    let mid = record m { tables = c.make_rooms.new.self } in
     let mid' = c.settle-became.new.self in
     let m' = record mid' { tables = c.take_together.new.self } in
-    let made : MakeRooms m.tables f.together.prepares.items c.make_rooms.new.self =
-    subst (λ (xids : List Triple). MakeRooms m.tables xids c.make_rooms.new.self) c.deref.ensures.value c.in-Ok-make_rooms.ensures.ok in (
-      has_finished g.D.Disk m c.give_low_water.new.self f a c.tell.new.replies.items c.requires
-          (subst (λ (l : List Joining). c.tell.new.replies.items ≡ map (told a) l) c.deref-2.ensures.value c.tell.ensures)
-          (subst (λ (l : LogView _). SettlesBy f.written.write (as_appended a) (g.D.Disk.failures m.log.disk) (g.D.Disk.failures l.disk)) (sym c.give_low_water.ensures.log) c.settle-became.ensures.fails)
-          (λ log s fl first rest are. finishes_still g.D.Disk log s first rest a m' c.give_low_water.new.self c.give_low_water.ensures.stays c.give_low_water.ensures.log
-          (finished g.D.Disk m mid mid' m' f a c.requires refl refl made c.settle-became.ensures refl refl refl c.take_together.ensures.took c.take_together.ensures.gave log s fl first rest are)),
-      refl,
-    )
+    has_finished g.D.Disk m c.give_low_water.new.self f a c.tell.new.replies.items c.requires
+    (subst (λ (l : List Joining). c.tell.new.replies.items ≡ map (told a) l) c.deref.ensures.value c.tell.ensures)
+    (subst (λ (l : LogView _). SettlesBy f.written.write (as_appended a) (g.D.Disk.failures m.log.disk) (g.D.Disk.failures l.disk)) (sym c.give_low_water.ensures.log) c.settle-became.ensures.fails)
+    (λ log s fl first rest are. finishes_still g.D.Disk log s first rest a m' c.give_low_water.new.self c.give_low_water.ensures.stays c.give_low_water.ensures.log
+    (finished g.D.Disk m mid' m' f a c.requires c.settle-became.ensures refl refl refl c.take_together.ensures.took c.take_together.ensures.gave log s fl first rest are))
 
 pub returns-clause-once : goal.returns-clause-once
 returns-clause-once g c =
     let f = c.args.group in
     let a = c.settle-became.result in
-    subst AreOnce (sym (subst (λ (l : List Joining). c.tell.new.replies.items ≡ map (told a) l) c.deref-2.ensures.value c.tell.ensures))
+    subst AreOnce (sym (subst (λ (l : List Joining). c.tell.new.replies.items ≡ map (told a) l) c.deref.ensures.value c.tell.ensures))
     (once_of f.calls.items f.together.members.items a c.requires.places c.requires.rows c.requires.distinct)

@@ -25,7 +25,7 @@ returns-in-Kept-clause-turn g c =
     is_answer _ (boot_became t (t.logged_boot + 1) Kept) _ (ap (λ (o : Outcome). taken (restart_turn s) o) c.begun.ensures.told ∙ turn_opens c.args.survived s t Kept fate less) (
       cc,
       begun_stands g.D.Disk c.args.self.now _ s t c.args.survived rs refl refl refl refl c.checkpoint.ensures.settings st fate backs less c.restart.ensures.any ready.branches ready.records
-          (pair.current.end ∙ text_size _ (snapshot (durable t) (t.logged_boot + 1))) pair.current.alive swaps.2 (map spelled rs, pair),
+          (pair.current.end ∙ text_size _ (snapshot (durable t) (t.logged_boot + 1))) pair.current.alive swaps.2 pair.current.number (map spelled rs, pair),
     )
 
 pub returns-in-Refused-clause-turn : goal.returns-in-Refused-clause-turn
@@ -44,7 +44,7 @@ returns-in-Lost-clause-turn g c =
     is_answer _ (boot_became t (t.logged_boot + 1) Lost) _ (ap (λ (o : Outcome). taken (restart_turn s) o) c.begun-in-Lost.ensures.told ∙ turn_opens c.args.survived s t Lost fate less) (
       cc,
       lost_stands g.D.Disk c.args.self.now _ s t c.args.survived rs refl refl (ap (λ (n : ℕ). Some (Boot n)) boot) c.checkpoint.ensures.settings st fate backs (ltb-true t.logged_boot MOST_BOOTS less)
-          (subst (λ (b : List (List ℕ)). MaySeal g.D.Disk (map spelled rs) b c.checkpoint.new.self) bodies kept),
+          (λ trusts. (rs, backs, subst (λ (b : List (List ℕ)). MaySeal g.D.Disk (map spelled rs) b c.checkpoint.new.self) bodies kept)),
     )
 
 pub returns-in-Full-clause-turn : goal.returns-in-Full-clause-turn

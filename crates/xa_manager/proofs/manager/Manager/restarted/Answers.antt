@@ -68,6 +68,7 @@ returns-else-self-clause-err g c =
           wanted
           (λ up. record {
             end = ap (λ m. m.log.end) (sym e) ∙ w.goes_on.ensures.end w.if-not-goes_on.false ∙ c.end-end.ensures;
+            number = ap (λ m. m.log.generation) (sym e) ∙ w.goes_on.ensures.number w.if-not-goes_on.false ∙ c.generation-number.ensures;
             modern = ap (λ m. m.log.format) (sym e) ∙ w.goes_on.ensures.modern w.if-not-goes_on.false;
           })
       | else-self-via-else-self w ↦ wanted (λ up. absurd (cc (up, ok.up, ap (λ m. m.up) e)))

@@ -13,14 +13,14 @@ returns-in-Ok-clause-ok g c =
     let apart = c.is_apart.ensures.is c.if-not-is_apart.false in
     let none : c.refusal.result ≡ None = search rules in
     work_done g.D.Disk m (record m { tables = c.work-answered.new.self }) (record m { tables = c.give_low_water.new.self; outcome = Quiet }) c.args.group.now c.args.session c.args.request c.refusal.result c.in-Ok.reply
-    c.requires.asked c.requires.group apart.0 apart.1 none c.refusal.ensures.value c.refusal.ensures.answered refl refl refl c.in-Ok.ensures.ok refl refl refl c.give_low_water.ensures.stays
+    c.requires.asked c.requires.group apart.0 apart.1 none c.refusal.ensures.value c.refusal.ensures.answered refl refl refl c.in-Ok.ensures.ok c.work-answered.ensures.rooms refl refl refl c.give_low_water.ensures.stays c.give_low_water.ensures.rooms
 
 pub returns-in-Some-clause-ok : goal.returns-in-Some-clause-ok
 returns-in-Some-clause-ok g c =
     let m = c.args.self.now in
     let apart = c.is_apart.ensures.is c.if-not-is_apart.false in
     refused_beside g.D.Disk m (record m { outcome = Quiet }) c.args.group.now c.args.session c.args.request c.in-Some.reply c.requires.group apart.0 apart.1 c.in-Some.ensures.value c.in-Some.ensures.served
-    refl refl refl (λ s st. st)
+    refl refl refl (λ s st. st) refl
 
 pub returns-in-Err-clause-ok : goal.returns-in-Err-clause-ok
 returns-in-Err-clause-ok g c =
@@ -28,4 +28,4 @@ returns-in-Err-clause-ok g c =
     wanted_beside g.D.Disk m (record m { tables = c.give_low_water.new.self }) c.args.group.now c.args.session c.args.request c.detailed.result c.requires.group
     (wants c.work-answered.result c.in-Err.field-0 (may_want c.args.request) c.in-Err.is c.work-answered.ensures.memory)
     (c.detailed.ensures ∙ ap (λ (k : ℤ). detailed k detail.Memory) (ap (λ (k : ℤ). to_z w32 (of_z w32 k)) c.memory_code-code.ensures ∙ code_kept c.args.request))
-    refl refl refl (λ s st. c.give_low_water.ensures.stays s (c.in-Err.ensures.err s st))
+    refl refl refl (λ s st. c.give_low_water.ensures.stays s (c.in-Err.ensures.err s st)) (c.give_low_water.ensures.rooms ∙ c.work-answered.ensures.rooms)

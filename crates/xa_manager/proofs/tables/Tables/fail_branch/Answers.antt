@@ -11,7 +11,7 @@ returns-clause-becomes c = λ s st p recoverable.
       log_bytes = st.log_bytes;
       up = st.up;
       sessions = c.leave.ensures.failed s st.recoverable.sound st.sessions;
-      branches = c.mark.ensures (ended s n xid) (c.leave-2.ensures.ended s n st.recoverable.sound st.branches p);
+      branches = c.mark.ensures.marks (ended s n xid) (c.leave-2.ensures.ended s n st.recoverable.sound st.branches p);
       records = marked_records XA_RBROLLBACK xid s c.args.self.now.records st.records;
       recoverable = recoverable;
     }

@@ -10,7 +10,7 @@ returns-clause-ok c = λ s st recoverable. record {
   log_bytes = st.log_bytes;
   up = st.up;
   sessions = subst (λ (x : Triple). SessionsStandFor c.join.new.self (joined s c.args.session x).after) c.copied.ensures (c.in_ok-join.ensures.ok s st.recoverable.sound st.sessions);
-  branches = c.join-2.ensures s c.args.session st.recoverable.sound st.branches;
+  branches = c.join-2.ensures.joins s c.args.session st.recoverable.sound st.branches;
   records = st.records;
   recoverable = recoverable;
 }

@@ -12,7 +12,7 @@ returns-clause-marks c = λ s st recoverable. record {
   log_bytes = st.log_bytes;
   up = st.up;
   sessions = unmoved c.args.self.now.sessions s (marked_with c.args.code s c.args.xid.now) refl refl st.sessions;
-  branches = subst (λ (code : ℤ). BranchesStandFor c.mark.new.self (marked_with code s c.args.xid.now)) (to_z-of_z w32 c.args.code c.ranges.code) (c.mark.ensures s st.branches);
+  branches = subst (λ (code : ℤ). BranchesStandFor c.mark.new.self (marked_with code s c.args.xid.now)) (to_z-of_z w32 c.args.code c.ranges.code) (c.mark.ensures.marks s st.branches);
   records = marked_records c.args.code c.args.xid.now s c.args.self.now.records st.records;
   recoverable = recoverable;
 }

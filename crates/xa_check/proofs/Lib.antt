@@ -1,0 +1,3 @@
+pub mod Counting
+pub mod Telling
+pub mod Opening
