@@ -23,13 +23,16 @@ def entries(journal):
 
 
 class Image:
-    """A file as it was synced, and the writes since then."""
+    """A file as it was synced, and the writes and cuts since then."""
 
     def __init__(self, content=b""):
         self.content, self.writes, self.begun = bytearray(content), [], {}
 
     def write(self, at, some):
         self.writes.append((at, some))
+
+    def cut(self, to):
+        self.writes.append((to, None))
 
     def begin(self, thread):
         """A thread's sync begins: what was written before it is covered."""
@@ -43,6 +46,9 @@ class Image:
     def keep(self, count):
         """So many of the writes reach the medium."""
         for at, some in self.writes[:count]:
+            if some is None:
+                del self.content[at:]
+                continue
             if len(self.content) < at:
                 self.content += bytes(at - len(self.content))
             self.content[at : at + len(some)] = some

@@ -5,8 +5,8 @@
    count for all from one to the other. The name 'over' stands for each pwrite of more bytes than the number says, and 'slow' for an
    fdatasync that takes so many milliseconds longer as the error says.
 
-   To the descriptor whose number stands in JOURNAL it writes what a crash needs to know: each pwrite before it is made, with its bytes,
-   and where each thread's sync begins and has ended. A kill leaves what was written, synced or not; from this one can make the files
+   To the descriptor whose number stands in JOURNAL it writes what a crash needs to know: each pwrite and cut before it is made, with its
+   bytes, and where each thread's sync begins and has ended. A kill leaves what was written, synced or not; from this one can make the files
    that a power failure leaves. */
 typedef unsigned long size_t;
 typedef long ssize_t;
@@ -26,7 +26,7 @@ extern ssize_t write(int file, const void *bytes, size_t count);
 extern int poll(void *files, unsigned long count, int milliseconds);
 extern void abort(void);
 
-enum { PREAD = 17, PWRITE = 18, SENDTO = 44, FSYNC = 74, FDATASYNC = 75, GETTID = 186, FADVISE = 221 };
+enum { PREAD = 17, PWRITE = 18, SENDTO = 44, FSYNC = 74, FDATASYNC = 75, FTRUNCATE = 77, GETTID = 186, FADVISE = 221 };
 
 struct piece {
     const void *bytes;
@@ -142,6 +142,14 @@ ssize_t pwrite(int file, const void *bytes, size_t count, off_t at)
     if (!fails("pwrite"))
         return written(file, bytes, count, at);
     return error ? told("pwrite", file, at, failed()) : written(file, bytes, (count + 1) / 2, at);
+}
+
+int ftruncate(int file, off_t length)
+{
+    if (fails("ftruncate"))
+        return (int)told("ftruncate", file, length, failed());
+    note("cut", file, (void *)0, 0, length);
+    return (int)told("ftruncate", file, length, syscall(FTRUNCATE, file, length));
 }
 
 /* a sync that isn't to fail */

@@ -57,6 +57,14 @@ def scanned(program, row):
         return differ([("it prints", shown, row.shown), ("its status", status, row.status), ("the file then", stands(room)[0], row.file)])
 
 
+def checked(program, row):
+    """What is wrong with a check."""
+    with tempfile.TemporaryDirectory(prefix="logs-", dir=ROOM) as room:
+        put(room, row.files)
+        status, shown = ran(program, ["check", "l", *row.words], room)
+        return differ([("it prints", shown, row.shown), ("its status", status, row.status), ("the files then", stands(room), tuple(row.files))])
+
+
 class Server:
     """A server in a folder, until it ends or is killed."""
 
@@ -92,9 +100,30 @@ def served(program, row):
             answers = server.answers(row.asked) if server.is_ready and row.asked else ""
             status, told = server.end()
         wanted = "".join(f"{reply}\n" for _, reply in row.asked)
-        ends = -signal.SIGKILL if not row.told else 1
+        ends = 1 if row.is_refused else -signal.SIGKILL
         firsts = [("it tells", told, row.told), ("its status", status, ends), ("it answers", answers, wanted)]
         return differ(firsts + [(f"in {name} stands", *file) for name, *file in zip(FILES, stands(room), row.after)])
+
+
+def accepted(program, row):
+    """What is wrong with a server that is to open what stands of a damaged log, and with the copies that it keeps."""
+    with tempfile.TemporaryDirectory(prefix="logs-", dir=ROOM) as room:
+        put(room, row.serve.before)
+        for name in row.before:
+            with open(os.path.join(room, name), "wb") as to:
+                to.write(name.encode())
+        with Server(program, room, row.serve.words) as server:
+            answers = server.answers(row.serve.asked) if server.is_ready and row.serve.asked else ""
+            status, told = server.end()
+        wanted = "".join(f"{reply}\n" for _, reply in row.serve.asked)
+        ends = 1 if row.serve.is_refused else -signal.SIGKILL
+        copies = sorted(name for name in os.listdir(room) if ".damaged-" in name)
+        kept = [plays.read(os.path.join(room, name)) for name in row.kept if name in copies]
+        there = [plays.read(os.path.join(room, name)) for name in row.before]
+        firsts = [("it tells", told, row.told), ("its status", status, ends)]
+        firsts += [("it answers", answers, wanted), ("the copies", copies, sorted([*row.before, *row.kept]))]
+        firsts += [("what they hold", kept, [file or b"" for file in row.serve.before] if row.kept else []), ("what was there", there, [name.encode() for name in row.before])]
+        return differ(firsts + [(f"in {name} stands", *file) for name, *file in zip(FILES, stands(room), row.serve.after)])
 
 
 def tried_one(how, program, row):

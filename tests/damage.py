@@ -46,20 +46,29 @@ def harmed(file):
     yield "absent", None
 
 
-def harms():
-    """Each harm to either file of each pair."""
+def harmed_pairs(each):
+    """Each N-th harm to either file of each pair: a title, both files, which one is harmed, and the pair's records."""
+    rows = (
+        (f"{pair}: {name}: {title}", instead(files, at, file), at, records)
+        for pair, files, _, _, records in whole_pairs()
+        for at, name in enumerate(("the first file", "the second file"))
+        for title, file in harmed(files[at])
+    )
+    return itertools.islice(rows, 0, None, each)
+
+
+def harms(each):
+    """Each N-th harm, and each pair as it was."""
     for pair, files, _, _, records in whole_pairs():
         yield taken(f"{pair}: whole", files, records, is_asked=True)
-        for at, name in enumerate(("the first file", "the second file")):
-            for title, file in harmed(files[at]):
-                yield taken(f"{pair}: {name}: {title}", instead(files, at, file), records)
+    yield from (taken(title, files, records) for title, files, _, records in harmed_pairs(each))
 
 
-def scans():
-    """The same of each file by itself."""
-    for pair, files, _, _, records in whole_pairs():
-        for at, name in enumerate(("the first file", "the second file")):
-            yield from (printed(f"{pair}: {name}: {title}", file, records) for title, file in harmed(files[at]) if file is not None)
+def scans(each):
+    """The same of the harmed file by itself."""
+    for title, files, at, records in harmed_pairs(each):
+        if files[at] is not None:
+            yield printed(title, files[at], records)
 
 
 def untold(files, at, end):

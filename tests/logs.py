@@ -46,6 +46,11 @@ class Serve(NamedTuple):
     asked: list
     after: tuple
 
+    @property
+    def is_refused(self):
+        """What is told of records that an opening passed over comes from a server that goes on."""
+        return bool(self.told) and not self.told.endswith("left out: a torn write, or damage\n")
+
 
 # Bodies.
 
@@ -156,17 +161,24 @@ MOST = {b"XARMLOG1": MOST_OF_ONE, b"XARMLOG2": MOST_BODY}
 APPENDED = range(2, 7)
 
 
-def chained(file):
-    """The bodies of a log that chain, and where the last one ends."""
-    at, digest, bodies = FIRST, hashlib.sha256(file[:FIRST]).digest(), []
+def chain_from(file, at, before):
+    """The bodies that chain from a place on behind a digest, where the last one ends, and its digest."""
+    digest, bodies = before, []
     while True:
         size = int.from_bytes(file[at : at + 4], "big")
         end = at + 4 + size
-        digest = hashlib.sha256(digest + file[at:end]).digest()
-        if not 0 < size <= MOST[file[:FIRST]] or file[end : end + 32] != digest:
-            return bodies, at
+        if not 0 < size <= MOST[file[:FIRST]] or len(file) < end + 32:
+            return bodies, at, digest
+        its = hashlib.sha256(digest + file[at:end]).digest()
+        if file[end : end + 32] != its:
+            return bodies, at, digest
         bodies.append(file[at + 4 : end])
-        at = end + 32
+        at, digest = end + 32, its
+
+
+def chained(file):
+    """The bodies of a log that chain, and where the last one ends."""
+    return chain_from(file, FIRST, hashlib.sha256(file[:FIRST]).digest())[:2]
 
 
 def generation(bodies):
@@ -202,14 +214,55 @@ def is_cut(file):
     return generation(bodies) >= 2 and not any(body[0] in APPENDED for body in bodies) and not begins_well
 
 
+# The most bytes of a group of several records. What chains farther behind a break was synced later.
+MOST_GROUP = 262_144
+
+
+def left_out(file):
+    """Behind a log's records, of which there is one at least: how far behind their end records chain, behind one that is shown there, and their
+    bodies."""
+    bodies, at, before = chain_from(file, FIRST, hashlib.sha256(file[:FIRST]).digest())
+    size = int.from_bytes(file[at : at + 4], "big")
+    end = at + 4 + size
+    if not bodies or not 0 < size <= MOST[file[:FIRST]] or len(file) < end + 32:
+        return 0, []
+    for digest in (file[end : end + 32], hashlib.sha256(before + file[at:end]).digest()):
+        left = chain_from(file, end + 32, digest)[0]
+        if left:
+            return end + 32 - at, left
+    return 0, []
+
+
+def passed_over(file, name):
+    """What a server tells that opens a log with such records."""
+    many = len(left_out(file)[1])
+    which = "1 record that chains" if many == 1 else f"{many} records that chain"
+    told = f"xarm: {name}: {which} behind byte {chained(file)[1]} {'is' if many == 1 else 'are'} left out: a torn write, or damage\n"
+    return told if many else ""
+
+
+def is_own(body, number):
+    """It is a branch's that was prepared or committed in one phase, and has a stamp of the boot that is the log's generation, or of a later
+    one."""
+    at = 7 + body[5] + body[6] if len(body) > 6 else len(body)
+    return body[0] in (2, 3) and len(body) >= at + 4 and int.from_bytes(body[at : at + 4], "big") >= number
+
+
+def stops_short(file):
+    """Far behind a record that doesn't chain stands one of the log's own that does."""
+    at, left = left_out(file)
+    places = itertools.accumulate((AROUND + len(body) for body in left), initial=at)
+    return any(place >= MOST_GROUP and is_own(body, generation(chained(file)[0])) for place, body in zip(places, left))
+
+
 def damage_of(first, second):
     """Which record of two files isn't as it was written, as it is told, None where none is: the first one of either, or else the one at which the
-    current one's snapshot is cut."""
+    current one's snapshot is cut, or at which it stops short."""
     current = current_of(first, second)
     for name, file in (("l", first), ("l.2", second)):
         if is_headless(file):
             return f"log damaged: {name}: record 1 at byte 8"
-    if current is not None and is_cut((first, second)[current]):
+    if current is not None and (is_cut((first, second)[current]) or stops_short((first, second)[current])):
         bodies, end = chained((first, second)[current])
         return f"log damaged: {('l', 'l.2')[current]}: record {len(bodies) + 1} at byte {end}"
     return None
@@ -335,7 +388,7 @@ def bits():
 
 def scan_of(title, file, status, shown):
     """A row of a file, of which a scan prints this; behind it, where it is a damaged log, it tells the record that isn't as it was written."""
-    if file[:FIRST] in MOST and (is_headless(file) or is_cut(file)):
+    if file[:FIRST] in MOST and (is_headless(file) or is_cut(file) or stops_short(file)):
         bodies, end = chained(file)
         return Scan(title, file, 1, f"{shown}xarm: log damaged: record {len(bodies) + 1} at byte {end}\n")
     return Scan(title, file, status, shown)
@@ -541,6 +594,11 @@ def found():
             yield Serve(title, before, words, "", [], (before[0], checkpoint(*came)))
 
 
+def left_of(before, told):
+    """Two files that weren't opened. One that is absent is created, empty, unless it is missed."""
+    return before if told in (NO_FIRST, NO_SECOND) else tuple(file or b"" for file in before)
+
+
 # What stands in a file: none or another one, a later format, and a log without a record, without a length and with one that is 0.
 NOTHING, NAMED, STRANGE, NEWER, BARE, BARE_NEW = b"", b"XARMLOG", b"XARMLOGx", b"XARMLOG3", b"XARMLOG1", b"XARMLOG2"
 # Logs of a generation: that is the number in the bytes 1 to 4 of the first body, or 0 where it is shorter. What an opening tells, or the boot
@@ -589,7 +647,6 @@ PAIRS = [
     # the first, of which the second generation wasn't written yet
     (EMPTY, NOTHING, 0),
     (BOOT_ONE, NOTHING, 0),
-    (BOOT_ONE, None, 0),
     (ZEROS, NOTHING, 0),
     # none is
     (NOTHING, NAMED, "not a log"),
@@ -602,7 +659,9 @@ PAIRS = [
     (NEWER, STRANGE, "log too new"),
     (NOTHING, NEWER, "log too new"),
     (STRANGE, NEWER, "log too new"),
-    # the second one is missing, beside the second generation or a later one
+    # the second one is missing: it isn't there, or it is empty beside the second generation or a later one
+    (BOOT_ONE, None, NO_SECOND),
+    (EMPTY, None, NO_SECOND),
     (BOOT_TWO, NOTHING, NO_SECOND),
     (BOOT_TWO, NAMED, NO_SECOND),
     (BOOT_TWO, bytes(12), NO_SECOND),
@@ -656,7 +715,7 @@ def taken(title, before, words, current):
     """A row of two files of which one is current, or none is."""
     if isinstance(current, str):
         # a file that was none was made
-        return Serve(title, before, words, f"xarm: {current}\n", [], tuple(file or b"" for file in before))
+        return Serve(title, before, words, f"xarm: {current}\n", [], left_of(before, current))
     begins, after = BEGINS[before[current]], [*before]
     if isinstance(begins, int):
         return Serve(title, before, words, f"xarm: record {begins} malformed\n", [], before)
@@ -777,10 +836,10 @@ def old_files():
     yield Serve("the same, read", (MOVED_FIRST, OLD_SECOND), [], "", P1 + begins + reads, (MOVED_FIRST, ended_log))
     one = old_log(OPENED, PREPARED)
     reads = [("1 start TMNOFLAGS 1:cc:", f"{OK} number {2 * BOOT + 1}"), ("1 get 6b", f"{OK} value 76")]
-    yield Serve("an old log", (one, None), [], "", [], (one, checkpoint(AGAIN, HELD)))
-    yield Serve("an old log, committed", (one, None), [], "", [*P1, COMMIT, *reads], (one, new_log(AGAIN, HELD, COMPLETED)))
-    yield Serve("an old log's name", (one[:8], None), [], "", [], (one[:8], checkpoint(OPENED)))
-    yield Serve("an old log's boot", (one[:49], None), [], "", [], (one[:49], checkpoint(AGAIN)))
+    yield Serve("an old log", (one, b""), [], "", [], (one, checkpoint(AGAIN, HELD)))
+    yield Serve("an old log, committed", (one, b""), [], "", [*P1, COMMIT, *reads], (one, new_log(AGAIN, HELD, COMPLETED)))
+    yield Serve("an old log's name", (one[:8], b""), [], "", [], (one[:8], checkpoint(OPENED)))
+    yield Serve("an old log's boot", (one[:49], b""), [], "", [], (one[:49], checkpoint(AGAIN)))
 
 
 # Checkpoints that are cut at each byte: the front with a length 0, all behind it, and the first length.

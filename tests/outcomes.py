@@ -112,15 +112,16 @@ def taken(title, files, records, most=None, is_asked=False):
     words = [] if most is None else ["--log-bytes", str(most), "--trim", "0"]
     told, there = fault_of(*files), [file or b"" for file in files]
     if told:
-        return Serve(title, files, words, f"xarm: {told}\n", [], tuple(there))
-    state = State([])
+        return Serve(title, files, words, f"xarm: {told}\n", [], logs.left_of(files, told))
+    state, tells = State([]), ""
     if any(there):
         current = logs.current_of(*files)
+        tells = logs.passed_over(there[current], ("l", "l.2")[current])
         state = State([records[body] for body in logs.chained(there[current])[0]])
         there[1 - current] = over(there[1 - current], (bytes_of(state.snapshot(state.boot + 1)) + CLEARED)[:most])
     else:
         there[0] = bytes_of([opened(1)]) + CLOSED
-    return Serve(title, files, words, "", state.asked() if is_asked else [], tuple(there))
+    return Serve(title, files, words, tells, state.asked() if is_asked else [], tuple(there))
 
 
 def stands_as(file):
@@ -138,6 +139,8 @@ def fault_of(first, second):
     """What is told of two files that aren't opened, None of others, and of two empty ones."""
     files = first or b"", second or b""
     stand = [stands_as(file) for file in files]
+    if None in (first, second) and "log" in stand:
+        return logs.NO_FIRST if first is None else logs.NO_SECOND
     if "later" in stand:
         return "log too new"
     if "stray" in stand:
