@@ -7,14 +7,14 @@ use Rattle.xa_check.specs.Opens.{CurrentLaw, WholeLaw}
 use Rattle.xa_check.specs.Told.{break_of, fault_told, log_told, no_log_told, told_in}
 use Rattle.xa_check.specs.declared.told.Told.{Told}
 use Rattle.xa_check.specs.declared.told.Told.TheVariants.{Log, Nothing, Stray, Later, TooLong}
-use Rattle.xa_log.specs.Chain.{format_in, format_of, logged, text}
+use Rattle.xa_log.specs.Believed.Chain.{format_in, format_of, logged, text}
 use Rattle.xa_log.specs.Contents.{left_in}
-use Rattle.xa_log.specs.Damage.{is_damaged, is_headless}
-use Rattle.xa_log.specs.Generation.{generation}
-use Rattle.xa_log.specs.Pair.{current_of, has_log, is_broken, is_nil, on_first, pair_fault}
+use Rattle.xa_log.specs.Believed.Damage.{is_damaged, is_headless}
+use Rattle.xa_log.specs.Believed.Generation.{generation}
+use Rattle.xa_log.specs.Believed.Pair.{current_of, has_log, is_broken, is_nil, on_first, pair_fault}
 use Rattle.xa_log.specs.Reading.{fault_unless, is_newer}
-use Rattle.xa_log.specs.Standing.{is_remnant, standing}
-use Rattle.xa_log.specs.Unfit.{generation_in, unfit_by, unfit_of}
+use Rattle.xa_log.specs.Believed.Standing.{is_remnant, standing}
+use Rattle.xa_log.specs.Believed.Unfit.{generation_in, unfit_by, unfit_of}
 use Rattle.xa_log.specs.declared.fault.OpenFault.{OpenFault}
 use Rattle.xa_log.specs.declared.fault.OpenFault.TheVariants as fault
 use Rattle.xa_log.specs.declared.format.Format.{Format}

@@ -8,7 +8,7 @@ use Rattle.xa_check.specs.declared.fault.CheckFault.TheVariants as check
 use Rattle.xa_check.specs.declared.told.Told.{Told}
 use Rattle.xa_check.specs.declared.told.Told.TheVariants as told
 use Rattle.xa_log.specs.Contents.{IsContents}
-use Rattle.xa_log.specs.Standing.{standing}
+use Rattle.xa_log.specs.Believed.Standing.{standing}
 use Rattle.xa_log.specs.declared.contents.Contents.{Contents}
 use Rattle.xa_log.specs.declared.contents.Contents.TheVariants.{Log, Nothing, Stray, Later, TooLong}
 use Rattle.xa_log.specs.declared.standing.Standing.{Standing}

@@ -3,7 +3,7 @@ use Rattle.std.specs.Prelude.{Bool, true, false, not, ◌&&◌, ◌||◌, ◌==�
 use Rattle.xa_check.specs.declared.told.LogTold.{LogTold}
 use Rattle.xa_check.specs.declared.told.Told.{Told}
 use Rattle.xa_check.specs.declared.told.Told.TheVariants.{Log, Nothing, Stray, Later, TooLong}
-use Rattle.xa_log.specs.Unfit.{unfit_by}
+use Rattle.xa_log.specs.Believed.Unfit.{unfit_by}
 use Rattle.xa_log.specs.declared.standing.Standing.{Standing}
 use Rattle.xa_log.specs.declared.standing.Standing.TheVariants as standing_as
 use Rattle.xa_log.specs.declared.unfit.Unfit.{Unfit}

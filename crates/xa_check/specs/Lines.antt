@@ -6,7 +6,7 @@ use Rattle.xa_check.specs.declared.told.Break.{Break}
 use Rattle.xa_check.specs.declared.told.LogTold.{LogTold}
 use Rattle.xa_check.specs.declared.told.Told.{Told}
 use Rattle.xa_check.specs.declared.told.Told.TheVariants.{Log, Nothing, Stray, Later, TooLong}
-use Rattle.xa_log.specs.Chain.{format_number}
+use Rattle.xa_log.specs.Believed.Chain.{format_number}
 use Rattle.xa_log.specs.declared.unfit.Unfit.{Unfit}
 use Rattle.xa_log.specs.declared.unfit.Unfit.TheVariants as unfit
 

@@ -2,8 +2,8 @@
 use Rattle.std.specs.Prelude.{◌≡◌, ◌⊎◌, ℕ, true, not, List, None, Some}
 use Rattle.xa_check.specs.Fit.{is_first, is_second, is_whole}
 use Rattle.xa_check.specs.Told.{told_in}
-use Rattle.xa_log.specs.Pair.{on_first, pair_fault}
-use Rattle.xa_log.specs.Unfit.{unfit_of}
+use Rattle.xa_log.specs.Believed.Pair.{on_first, pair_fault}
+use Rattle.xa_log.specs.Believed.Unfit.{unfit_of}
 use Rattle.xa_log.specs.declared.fault.OpenFault.TheVariants.{Damaged}
 use Rattle.xa_log.specs.declared.unfit.Unfit.TheVariants.{Neither}
 

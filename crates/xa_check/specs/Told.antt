@@ -5,12 +5,12 @@ use Rattle.xa_check.specs.declared.told.Break.{Break}
 use Rattle.xa_check.specs.declared.told.LogTold.{LogTold}
 use Rattle.xa_check.specs.declared.told.Told.{Told}
 use Rattle.xa_check.specs.declared.told.Told.TheVariants as told
-use Rattle.xa_log.specs.Chain.{format_in, logged, text}
+use Rattle.xa_log.specs.Believed.Chain.{format_in, logged, text}
 use Rattle.xa_log.specs.Contents.{left_in}
-use Rattle.xa_log.specs.Damage.{is_damaged}
-use Rattle.xa_log.specs.Generation.{generation}
+use Rattle.xa_log.specs.Believed.Damage.{is_damaged}
+use Rattle.xa_log.specs.Believed.Generation.{generation}
 use Rattle.xa_log.specs.Reading.{bodies_of, fault_of}
-use Rattle.xa_log.specs.Standing.{standing}
+use Rattle.xa_log.specs.Believed.Standing.{standing}
 use Rattle.xa_log.specs.declared.contents.Contents.{Contents}
 use Rattle.xa_log.specs.declared.contents.Contents.TheVariants.{Log, Nothing, Stray, Later, TooLong}
 use Rattle.xa_log.specs.declared.fault.OpenFault.{OpenFault}

@@ -1,6 +1,6 @@
 ghost use Rattle.std.specs.Prelude.{◌⊎◌, IsErrOf};
 ghost use Rattle.xa_commands.specs.Done.{HasPlayed};
-ghost use Rattle.xa_manager.specs.Opening.{IsBadSetting};
+ghost use Rattle.xa_manager.specs.Believed.Opening.{IsBadSetting};
 
 use std::io::{self, BufWriter};
 use xa_manager::Settings;

@@ -5,8 +5,8 @@ use Rattle.xa_frame.specs.declared.question.Question.{Question}
 use Rattle.xa_frame.specs.declared.reply.Reply.{Reply}
 use Rattle.xa_desk.specs.declared.served.Served.{Served}
 use Rattle.xa_desk.specs.declared.served.Served.TheVariants.{Ended, ReadFault, WriteFault, TooLong, Memory}
-use Rattle.xa_desk.specs.Frames.{frame}
-use Rattle.xa_desk.specs.Serving.{Ends, Talks}
+use Rattle.xa_desk.specs.Believed.Frames.{frame}
+use Rattle.xa_desk.specs.Believed.Serving.{Ends, Talks}
 use Rattle.xa_desk.proofs.Talking.{answers-append}
 use Rattle.xa_connection.specs.declared.connection.Connection.{Connection}
 use Rattle.xa_connection.specs.declared.answering.Answering.{Answering}

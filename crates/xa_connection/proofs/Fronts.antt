@@ -5,7 +5,7 @@ use Rattle.std.proofs.lemmas.List.{drop_at, drop-drop, take-append-drop, length-
 use Rattle.xa_bytes.specs.Numbers.{number_at, AreBytes, ReadsBack}
 use Rattle.xa_bytes.proofs.Digits.{reads_back, wide32}
 use Rattle.xa_limits.specs.declared.TheConstants.{MOST_CONTENT}
-use Rattle.xa_desk.specs.Serving.{IsCut, IsShort}
+use Rattle.xa_desk.specs.Believed.Serving.{IsCut, IsShort}
 use Rattle.xa_connection.specs.Fronts.{BeginsWhole, BeginsTooLong}
 
 -- the number was read, and these are the bytes after it

@@ -4,7 +4,7 @@ use Rattle.std.specs.Int.{w32, to_be_bytes}
 use Rattle.std.proofs.lemmas.List.{length-append}
 use Rattle.xa_bytes.specs.Numbers.{number_at}
 use Rattle.xa_limits.specs.declared.TheConstants.{MOST_CONTENT}
-use Rattle.xa_desk.specs.Serving.{IsCut}
+use Rattle.xa_desk.specs.Believed.Serving.{IsCut}
 use Rattle.xa_connection.proofs.Fronts.{Reads, law}
 
 both : {A : Type 0} (x y : A) → Some x ≡ Some y → x ≡ y

@@ -7,8 +7,8 @@ use Rattle.xa_frame.specs.declared.reply.Reply.{Reply}
 use Rattle.xa_frame.specs.Made.{bad_frame}
 use Rattle.xa_desk.specs.declared.served.Served.{Served}
 use Rattle.xa_desk.specs.declared.served.Served.TheVariants as served
-use Rattle.xa_desk.specs.Frames.{frame}
-use Rattle.xa_desk.specs.Serving.{Answers}
+use Rattle.xa_desk.specs.Believed.Frames.{frame}
+use Rattle.xa_desk.specs.Believed.Serving.{Answers}
 use Rattle.xa_connection.specs.declared.answering.Answering.{Answering}
 use Rattle.xa_connection.specs.declared.answering.Answering.TheVariants.{Idle, Answered, Memory}
 use Rattle.xa_connection.specs.declared.connection.Connection.{Connection}

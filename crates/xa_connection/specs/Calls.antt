@@ -11,8 +11,8 @@ use Rattle.xa_frame.specs.Limits.{IsReply}
 use Rattle.xa_frame.specs.Questions.{IsQuestion, SpellsQuestion, fault_of_question}
 use Rattle.xa_desk.specs.declared.served.Served.{Served}
 use Rattle.xa_desk.specs.declared.served.Served.TheVariants as served
-use Rattle.xa_desk.specs.Frames.{frame, reply_frame, without_memory}
-use Rattle.xa_desk.specs.Serving.{Answers, IsShort, IsCut}
+use Rattle.xa_desk.specs.Believed.Frames.{frame, reply_frame, without_memory}
+use Rattle.xa_desk.specs.Believed.Serving.{Answers, IsShort, IsCut}
 use Rattle.xa_connection.specs.declared.answering.Answering.{Answering}
 use Rattle.xa_connection.specs.declared.answering.Answering.TheVariants.{Idle, Answered, Memory}
 use Rattle.xa_connection.specs.declared.connection.Connection.{Connection}

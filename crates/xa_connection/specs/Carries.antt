@@ -6,8 +6,8 @@ use Rattle.xa_frame.specs.declared.reply.Reply.{Reply}
 use Rattle.xa_frame.specs.Made.{bad_frame}
 use Rattle.xa_desk.specs.declared.served.Served.{Served}
 use Rattle.xa_desk.specs.declared.served.Served.TheVariants.{TooLong, Memory}
-use Rattle.xa_desk.specs.Frames.{frame, reply_frame}
-use Rattle.xa_desk.specs.Serving.{AnswersAll, IsShort, Owes, frames_of}
+use Rattle.xa_desk.specs.Believed.Frames.{frame, reply_frame}
+use Rattle.xa_desk.specs.Believed.Serving.{AnswersAll, IsShort, Owes, frames_of}
 use Rattle.xa_connection.specs.declared.answering.Answering.{Answering}
 use Rattle.xa_connection.specs.declared.connection.Connection.{Connection}
 use Rattle.xa_connection.specs.declared.connection.TheConstants.{MOST_INPUT}

@@ -1,8 +1,8 @@
 -- What is at the front of bytes.
 use Rattle.std.specs.Prelude.{ℕ, ◌≡◌, ◌≢◌, ◌+◌, ◌≤◌, List, [], ◌++◌, length, take, drop}
 use Rattle.xa_limits.specs.declared.TheConstants.{MOST_CONTENT}
-use Rattle.xa_desk.specs.Frames.{frame}
-use Rattle.xa_desk.specs.Serving.{IsCut, IsTooLong}
+use Rattle.xa_desk.specs.Believed.Frames.{frame}
+use Rattle.xa_desk.specs.Believed.Serving.{IsCut, IsTooLong}
 use Rattle.xa_connection.specs.declared.front.Front.{Front}
 use Rattle.xa_connection.specs.declared.front.Front.TheVariants.{Whole, Cut, TooLong}
 

@@ -4,7 +4,7 @@ use Rattle.xa_frame.specs.declared.question.Question.{Question}
 use Rattle.xa_frame.specs.declared.reply.Reply.{Reply}
 use Rattle.xa_desk.specs.declared.served.Served.{Served}
 use Rattle.xa_desk.specs.declared.served.Served.TheVariants.{Ended, ReadFault, WriteFault, TooLong, Memory}
-use Rattle.xa_desk.specs.Serving.{AnswersAll, IsCut, Talks}
+use Rattle.xa_desk.specs.Believed.Serving.{AnswersAll, IsCut, Talks}
 use Rattle.xa_connection.specs.declared.answering.Answering.{Answering}
 use Rattle.xa_connection.specs.declared.connection.Connection.{Connection}
 use Rattle.xa_connection.specs.Calls.{Feeds, Turns, new_connection}

@@ -1,6 +1,6 @@
 ghost use Rattle.std.specs.Prelude.{◌≡◌, ◌≤◌, ◌↔◌, ◌++◌, [], drop, length, vec_len, IsTrue, OnOk, OnErr};
 ghost use Rattle.xa_frame.specs.Limits.{IsReply};
-ghost use Rattle.xa_desk.specs.Frames.{reply_frame};
+ghost use Rattle.xa_desk.specs.Believed.Frames.{reply_frame};
 
 use std::alloc::{AllocError, Global};
 use std::marker::Model;

@@ -1,6 +1,6 @@
 ghost use Rattle.std.specs.Prelude.{◌≡◌};
 ghost use Rattle.xa_connection.specs.Fronts.{IsFront};
-ghost use Rattle.xa_desk.specs.Serving.{IsCut};
+ghost use Rattle.xa_desk.specs.Believed.Serving.{IsCut};
 
 use xa_bytes::take_u32;
 use xa_limits::MOST_CONTENT;

@@ -13,8 +13,8 @@ use Rattle.xa_frame.specs.Made.{bad_frame}
 use Rattle.xa_output.proofs.Pieces.{appends_both, nothing_appended}
 use Rattle.xa_desk.specs.declared.served.Served.{Served}
 use Rattle.xa_desk.specs.declared.served.Served.TheVariants.{Ended, ReadFault, WriteFault, TooLong, Memory}
-use Rattle.xa_desk.specs.Frames.{frame, reply_frame}
-use Rattle.xa_desk.specs.Serving.{Answers, AnswersAll, IsShort, frames_of, Owes, Ends, Talks}
+use Rattle.xa_desk.specs.Believed.Frames.{frame, reply_frame}
+use Rattle.xa_desk.specs.Believed.Serving.{Answers, AnswersAll, IsShort, frames_of, Owes, Ends, Talks}
 use Rattle.xa_desk.specs.Steps.{Lacks, ReadsLength, Sends, end_of}
 use Rattle.xa_desk.proofs.Known.{consumes-none, consumes-twice}
 

@@ -1,3 +1,2 @@
-pub mod Frames
-pub mod Serving
+pub mod Believed
 pub mod Steps

@@ -3,8 +3,9 @@ ghost use Rattle.std.specs.Prelude.{◌≡◌, ◌<◌, ◌≤◌, ◌++◌, dro
 ghost use Rattle.std.specs.Io.KnownBytes.{Consumes};
 ghost use Rattle.xa_limits.specs.declared.TheConstants.{MOST_CONTENT};
 ghost use Rattle.xa_frame.specs.Limits.{IsReply};
-ghost use Rattle.xa_desk.specs.{declared.connection.TheConstants.MOST_FRAMES, Frames.reply_frame, Frames.without_memory, Serving.Answers};
-ghost use Rattle.xa_desk.specs.{Serving.Talks};
+ghost use Rattle.xa_desk.specs.{declared.connection.TheConstants.MOST_FRAMES, Believed.Frames.reply_frame};
+ghost use Rattle.xa_desk.specs.{Believed.Frames.without_memory, Believed.Serving.Answers};
+ghost use Rattle.xa_desk.specs.{Believed.Serving.Talks};
 ghost use Rattle.xa_desk.specs.Steps.{Fills, Lacks, ReadsLength, Sends, end_of};
 
 use crate::door::Door;

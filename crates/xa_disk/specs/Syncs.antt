@@ -1,5 +1,5 @@
 -- What a sync that was made beside a disk was answered.
-use Rattle.std.specs.Prelude.{ℕ, ◌≡◌, ◌<◌, IfSome, IsErr, IsSomeAnd}
+use Rattle.std.specs.Prelude.{ℕ, ◌≡◌, ◌<◌, IfSome, IsErr, IsSomeAnd, None, MatchOption}
 use Rattle.xa_disk.specs.Counts.{top}
 use Rattle.xa_disk.specs.declared.file_id.FileId.{FileId}
 use Rattle.xa_disk.specs.declared.syncer.SyncAnswer.{SyncAnswer}
@@ -24,3 +24,10 @@ HasFailed answer = IsSomeAnd answer.told (λ told. IsErr told.answer)
 -- the sync was made, of this file, behind the last of so many writes
 abbrev pub IsDueSync : SyncAnswer → FileId → ℕ → Type 0
 IsDueSync answer file writes = IsSomeAnd answer.told (λ told. IsDue told file writes)
+
+-- What a syncer's sync was answered: of its file, behind as many writes as it was made for; or none was made, which leaves
+-- it to the disk.
+abbrev pub IsAnswerOf : Syncer → SyncAnswer → Type 0
+IsAnswerOf syncer answer =
+    MatchOption syncer.handle (answer.told ≡ None)
+    (λ handle. IsSomeAnd answer.told (λ told. (told.file ≡ handle.id) × (told.writes ≡ syncer.writes)))

@@ -1,6 +1,6 @@
 //! A sync that is made while others use the disk.
 ghost use Rattle.std.specs.Prelude.{◌≡◌, None, MatchBool};
-ghost use Rattle.xa_disk.specs.Syncs.{HasFailed};
+ghost use Rattle.xa_disk.specs.Syncs.{HasFailed, IsAnswerOf};
 
 use crate::shared_file::HostHandle;
 use crate::told::Told;
@@ -41,8 +41,10 @@ impl Syncer {
         Syncer { handle, writes }
     }
 
-    /// Makes the sync.
-    pub fn sync(self) -> SyncAnswer {
+    /// Makes the sync. Its answer is one of that file, behind as many writes as there had been.
+    pub fn sync(self) -> SyncAnswer
+        ensures { IsAnswerOf self result }
+    {
         let Syncer { handle, writes } = self;
         match handle {
             Some(handle) => SyncAnswer {

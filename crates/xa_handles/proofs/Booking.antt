@@ -2,17 +2,17 @@
 use Rattle.std.proofs.Common.{◌≡◌, ◌∙◌, ℕ, ◌+◌, List, [], ◌∷◌, ◌++◌, length, map, refl, sym, ap, append-nil}
 use Rattle.std.proofs.lemmas.List.{length-map, map-append}
 use Rattle.xa_frame.specs.declared.reply.Reply.{Reply}
-use Rattle.xa_handles.specs.Standing.{HasBook, shown}
+use Rattle.xa_handles.specs.Believed.Standing.{HasBook, shown}
 use Rattle.xa_model.specs.State.{State}
 use Rattle.xa_model.specs.declared.event.Event.{Event}
-use Rattle.xa_history.specs.Book.{receipt_of}
+use Rattle.xa_history.specs.Believed.Book.{receipt_of}
 use Rattle.xa_history.specs.declared.entry.Entry.{Entry}
 use Rattle.xa_history.specs.declared.manages.Manages.{Ghosts}
-use Rattle.xa_sequencer.specs.Numbers.{Adds}
-use Rattle.xa_sequencer.specs.Stands.{GoesOn, HasHistory, Numbered, Stands}
+use Rattle.xa_sequencer.specs.Believed.Numbers.{Adds}
+use Rattle.xa_sequencer.specs.Believed.Stands.{GoesOn, HasHistory, Numbered, Stands}
 use Rattle.xa_tokens.specs.declared.ask.Ask.{Ask}
 use Rattle.xa_tokens.specs.declared.receipt.Receipt.{Receipt}
-use Rattle.xa_tokens.specs.Receipts as tokens
+use Rattle.xa_tokens.specs.Believed.Receipts as tokens
 
 module _ {M : Type 0} (m : Ghosts M) (start : State → Type 0) (base : ℕ × ℕ) where
   -- it goes on with entries, which the keeper has noted

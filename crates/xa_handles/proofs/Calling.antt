@@ -5,26 +5,26 @@ use Rattle.xa_assoc.specs.Refusals.{is_memory}
 use Rattle.xa_assoc.specs.declared.fault.ConnectFault.{ConnectFault}
 use Rattle.xa_frame.specs.declared.reply.Reply.{Reply}
 use Rattle.xa_frame.specs.declared.request.Request.{Request}
-use Rattle.xa_handles.specs.Accounts.{AsksAtOnce, IsToldAtOnce}
+use Rattle.xa_handles.specs.Believed.Accounts.{AsksAtOnce, IsToldAtOnce}
 use Rattle.xa_handles.specs.Mail.{AreLetters, FitPending, Mailed, ask_weight, told_weight}
-use Rattle.xa_handles.specs.Shared.{ConnectedBy, DidCall, LeftBy}
-use Rattle.xa_handles.specs.Standing.{HasBook, KeepsMail, Standing, TellsMail}
+use Rattle.xa_handles.specs.Believed.Shared.{ConnectedBy, DidCall, LeftBy}
+use Rattle.xa_handles.specs.Believed.Standing.{HasBook, KeepsMail, Standing, TellsMail}
 use Rattle.xa_handles.specs.Telling.{AnswersAll}
 use Rattle.xa_handles.proofs.Booking.{adds, rests}
-use Rattle.xa_manager.specs.Answered.{connect_reply}
+use Rattle.xa_manager.specs.Believed.Answered.{connect_reply}
 use Rattle.xa_manager.specs.declared.together.Asked.{Asked}
 use Rattle.xa_model.specs.Answer.{plain}
 use Rattle.xa_model.specs.State.{State}
 use Rattle.xa_model.specs.declared.event.Event.{Event}
 use Rattle.xa_model.specs.declared.event.Event.TheVariants.{Connect, Hangup, Call}
-use Rattle.xa_history.specs.Book.{placed}
+use Rattle.xa_history.specs.Believed.Book.{placed}
 use Rattle.xa_history.specs.declared.manages.Manages.{Ghosts}
-use Rattle.xa_sequencer.specs.Numbers.{Adds, Called, Connected, Leaves, Left}
-use Rattle.xa_sequencer.specs.Stands.{HasHistory, Numbered}
+use Rattle.xa_sequencer.specs.Believed.Numbers.{Adds, Called, Connected, Leaves, Left}
+use Rattle.xa_sequencer.specs.Believed.Stands.{HasHistory, Numbered}
 use Rattle.xa_tokens.specs.declared.ask.Ask.{Ask}
 use Rattle.xa_tokens.specs.declared.receipt.Receipt.{Receipt}
-use Rattle.xa_tokens.specs.Account.{Account}
-use Rattle.xa_tokens.specs.Receipts.{receipt_of}
+use Rattle.xa_tokens.specs.Believed.Account.{Account}
+use Rattle.xa_tokens.specs.Believed.Receipts.{receipt_of}
 
 pub fits : (p : Option (List Asked)) (letters : List (Option Mailed)) → p ≡ None → FitPending p letters
 fits None letters is = tt

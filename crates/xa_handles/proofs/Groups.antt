@@ -7,12 +7,12 @@ use Rattle.xa_manager.specs.declared.together.Asked.{Asked}
 use Rattle.xa_model.specs.State.{State}
 use Rattle.xa_model.specs.declared.outcome.Outcome.{Outcome}
 use Rattle.xa_model.specs.declared.outcome.Outcome.TheVariants.{Joined}
-use Rattle.xa_history.specs.Book.{receipt_of}
-use Rattle.xa_history.specs.Together.{IsToldOf}
+use Rattle.xa_history.specs.Believed.Book.{receipt_of}
+use Rattle.xa_history.specs.Believed.Together.{IsToldOf}
 use Rattle.xa_history.specs.declared.entry.Entry.{Entry}
 use Rattle.xa_history.specs.declared.manages.Manages.{Ghosts}
-use Rattle.xa_sequencer.specs.Stands.{GoesOn, HasHistory, Numbered}
-use Rattle.xa_sequencer.specs.Together.{ArePlaced, CalledTogether, entries_for, entry_for}
+use Rattle.xa_sequencer.specs.Believed.Stands.{GoesOn, HasHistory, Numbered}
+use Rattle.xa_sequencer.specs.Believed.Together.{ArePlaced, CalledTogether, entries_for, entry_for}
 
 pub all_within : (calls : List Asked) (rs : List (ℕ × Reply)) → AllByRecursion (IsToldOf calls) rs → AllByRecursion (λ r. r.0 < length calls) rs
 all_within calls [] told = tt

@@ -7,14 +7,14 @@ use Rattle.std.proofs.lemmas.List.Sums.{sum_by-append, sum_by-cons}
 use Rattle.xa_frame.specs.Limits.{IsRequest}
 use Rattle.xa_frame.specs.declared.reply.Reply.{Reply}
 use Rattle.xa_handles.specs.Mail.{AreLetters, IsCallOf, Mailed, ask_weight, put_at, reply_weight, slot_weight, told_weight}
-use Rattle.xa_handles.specs.Standing.{shown}
+use Rattle.xa_handles.specs.Believed.Standing.{shown}
 use Rattle.xa_handles.specs.Telling.{AnswersAll, AnswersAt, IsOpen, shown_reply}
 use Rattle.xa_manager.specs.Once.{AreOnce}
 use Rattle.xa_manager.specs.declared.together.Asked.{Asked}
-use Rattle.xa_history.specs.Together.{event_at}
-use Rattle.xa_sequencer.specs.Together.{ArePlaced}
+use Rattle.xa_history.specs.Believed.Together.{event_at}
+use Rattle.xa_sequencer.specs.Believed.Together.{ArePlaced}
 use Rattle.xa_tokens.specs.declared.receipt.Receipt.{Receipt}
-use Rattle.xa_tokens.specs.Receipts.{receipt_of}
+use Rattle.xa_tokens.specs.Believed.Receipts.{receipt_of}
 
 -- ---- which calls they are
 

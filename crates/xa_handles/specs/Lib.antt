@@ -1,7 +1,4 @@
-pub mod Accounts
+pub mod Believed
 pub mod Mail
-pub mod Standing
 pub mod Owing
-pub mod Posted
-pub mod Shared
 pub mod Telling

@@ -9,7 +9,7 @@ use Rattle.xa_model.specs.declared.event.Event.{Event}
 use Rattle.xa_model.specs.declared.event.Event.TheVariants.{Connect, Hangup, Call}
 use Rattle.xa_tokens.specs.declared.ask.Ask.{Ask}
 use Rattle.xa_tokens.specs.declared.receipt.Receipt.{Receipt}
-use Rattle.xa_tokens.specs.Receipts.{receipt_of}
+use Rattle.xa_tokens.specs.Believed.Receipts.{receipt_of}
 
 -- A letter: the tray of the thread that posted it, the call's place among those that the thread asks, the ask, and its
 -- reply, once there is one.

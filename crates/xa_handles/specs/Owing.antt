@@ -1,12 +1,12 @@
 -- What a share owes, behind what it did.
 use Rattle.std.proofs.Common.{ℕ, ◌≡◌, ◌+◌, zero, suc, [], ◌∷◌, refl, Bool, true, false, inl, inr, arith, ap, length, length-append}
 use Rattle.xa_frame.specs.declared.reply.Reply.{Reply}
-use Rattle.xa_handles.specs.Accounts.{AsksAtOnce, Ends, HasAsked, asking, next_ask, told_of, without}
+use Rattle.xa_handles.specs.Believed.Accounts.{AsksAtOnce, Ends, HasAsked, asking, next_ask, told_of, without}
 use Rattle.xa_model.specs.declared.event.Event.{Event}
 use Rattle.xa_tokens.specs.declared.ask.Ask.{Ask}
 use Rattle.xa_tokens.specs.declared.receipt.Receipt.{Receipt}
-use Rattle.xa_tokens.specs.Account.{Account, Owes}
-use Rattle.xa_tokens.specs.Receipts.{receipt_of}
+use Rattle.xa_tokens.specs.Believed.Account.{Account, Owes}
+use Rattle.xa_tokens.specs.Believed.Receipts.{receipt_of}
 
 pub owes_asking : (a b : Account) (ask : Ask) (n : ℕ) → b ≡ asking a ask → Owes a n → Owes b (n + 1)
 owes_asking a b ask n is owes =

@@ -2,16 +2,16 @@
 use Rattle.std.specs.Prelude.{ℕ, ◌≡◌, ◌+◌, List, [], ◌∷◌, ◌++◌, map, Option, None, Some, slice_get, slice_set, sum_by}
 use Rattle.xa_frame.specs.declared.reply.Reply.{Reply}
 use Rattle.xa_handles.specs.Mail.{Mailed, ask_weight, slot_weight, told_weight}
-use Rattle.xa_handles.specs.Posted.{WasAnswered}
-use Rattle.xa_handles.specs.Standing.{shown}
+use Rattle.xa_handles.specs.Believed.Posted.{WasAnswered}
+use Rattle.xa_handles.specs.Believed.Standing.{shown}
 use Rattle.xa_manager.specs.declared.together.Asked.{Asked}
 use Rattle.xa_model.specs.State.{State}
-use Rattle.xa_history.specs.Together.{event_at}
+use Rattle.xa_history.specs.Believed.Together.{event_at}
 use Rattle.xa_history.specs.declared.manages.Manages.{Ghosts}
 use Rattle.xa_history.specs.declared.receipt.Receipt as entry
 use Rattle.xa_tokens.specs.declared.ask.Ask.{Ask}
 use Rattle.xa_tokens.specs.declared.receipt.Receipt.{Receipt}
-use Rattle.xa_tokens.specs.Receipts.{ask_of, receipt_of}
+use Rattle.xa_tokens.specs.Believed.Receipts.{ask_of, receipt_of}
 
 -- the call of a reply was answered so, whatever its asker had been told before
 abbrev pub IsAnswerTo : {M : Type 0} → Ghosts M → (State → Type 0) → ℕ × ℕ → List Asked → ℕ × Reply → Type 0

@@ -1,6 +1,6 @@
 ghost use Rattle.std.specs.Prelude.{◌≡◌, ◌<◌, []};
-ghost use Rattle.xa_handles.specs.Accounts.{asking, next_ask, told_of, without};
-ghost use Rattle.xa_tokens.specs.Receipts.{IsInOrder, last_or};
+ghost use Rattle.xa_handles.specs.Believed.Accounts.{asking, next_ask, told_of, without};
+ghost use Rattle.xa_tokens.specs.Believed.Receipts.{IsInOrder, last_or};
 
 use std::marker::Model;
 use xa_model::Event;
@@ -16,8 +16,8 @@ pub struct Asker<'a, B: Book> {
 
 impl<'a, B: Book> Model for Asker<'a, B> {
     ghost use Rattle.std.specs.Prelude.{◌≡◌, ◌<◌};
-    ghost use Rattle.xa_tokens.specs.Account.{Account};
-    ghost use Rattle.xa_tokens.specs.Receipts.{last_or};
+    ghost use Rattle.xa_tokens.specs.Believed.Account.{Account};
+    ghost use Rattle.xa_tokens.specs.Believed.Receipts.{last_or};
 
     ghost Value = { Account };
 

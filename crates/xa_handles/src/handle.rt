@@ -1,12 +1,12 @@
 ghost use Rattle.std.specs.Prelude.{ℕ, ◌≡◌, ◌⊎◌, ◌+◌, ◌<◌, [], is_none, IfOk};
 ghost use Rattle.xa_assoc.specs.Refusals.{is_memory};
 ghost use Rattle.xa_frame.specs.Limits.{IsReply, IsRequest};
-ghost use Rattle.xa_handles.specs.Accounts.{Ends, Posts, asking, next_ask, told_of};
+ghost use Rattle.xa_handles.specs.Believed.Accounts.{Ends, Posts, asking, next_ask, told_of};
 ghost use Rattle.xa_handles.specs.Mail.{IsCall};
-ghost use Rattle.xa_handles.specs.Shared.{CalledBy, ConnectedBy, DidCall, IsTold};
+ghost use Rattle.xa_handles.specs.Believed.Shared.{CalledBy, ConnectedBy, DidCall, IsTold};
 ghost use Rattle.xa_model.specs.declared.event.Event.TheVariants as Event;
 ghost use Rattle.xa_sequencer.specs.Associates.{AssociatedBy, EndedBy};
-ghost use Rattle.xa_tokens.specs.{Account.Owes, Receipts.IsInOrder};
+ghost use Rattle.xa_tokens.specs.{Believed.Account.Owes, Believed.Receipts.IsInOrder};
 
 use crate::asker::Asker;
 use crate::held::Held;
@@ -245,7 +245,7 @@ impl<'a, M: GroupCommits, S: Start, B: Book, R: Wait> Handle<'a, M, S, B, R> {
 
 impl<M: GroupCommits, S: Start, B: Book, R: Wait> Door for Handle<'_, M, S, B, R> {
     ghost use Rattle.std.specs.Prelude.{Bool};
-    ghost use Rattle.xa_handles.specs.Shared.{AskedBy, LeftBy};
+    ghost use Rattle.xa_handles.specs.Believed.Shared.{AskedBy, LeftBy};
 
     ghost called = { λ session a question reply b.
         AskedBy M.manages S.start S.base session a.asker question reply b.asker };

@@ -14,7 +14,7 @@ pub struct Held<'a, M: GroupCommits, S: Start, B: Book> {
 }
 
 impl<'a, M: GroupCommits, S: Start, B: Book> Model for Held<'a, M, S, B> {
-    ghost use Rattle.xa_handles.specs.Standing.{Standing};
+    ghost use Rattle.xa_handles.specs.Believed.Standing.{Standing};
 
     ghost Value = { Standing M };
 

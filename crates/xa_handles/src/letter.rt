@@ -1,6 +1,6 @@
 ghost use Rattle.std.specs.Prelude.{◌≡◌, ◌+◌, [], ◌∷◌, ◌++◌, true, IfSome, IsTrue, None, Some, length};
-ghost use Rattle.xa_handles.specs.{Mail.IsCall, Mail.mailed, Posted.IsLetter, Posted.WasAnswered};
-ghost use Rattle.xa_tokens.specs.Receipts.{receipt_of};
+ghost use Rattle.xa_handles.specs.{Mail.IsCall, Mail.mailed, Believed.Posted.IsLetter, Believed.Posted.WasAnswered};
+ghost use Rattle.xa_tokens.specs.Believed.Receipts.{receipt_of};
 ghost use Rattle.xa_model.specs.declared.event.Event.TheVariants as Event;
 
 use std::marker::{Model, PhantomData};
@@ -30,7 +30,7 @@ pub struct Letter<M: GroupCommits, S: Start, B: Book> {
 }
 
 impl<M: GroupCommits, S: Start, B: Book> Model for Letter<M, S, B> {
-    ghost use Rattle.xa_handles.specs.{Mail.Mailed, Mail.mailed, Posted.IsLetter};
+    ghost use Rattle.xa_handles.specs.{Mail.Mailed, Mail.mailed, Believed.Posted.IsLetter};
 
     ghost Value = { Mailed };
 

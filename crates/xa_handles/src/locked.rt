@@ -1,12 +1,12 @@
 ghost use Rattle.std.specs.Prelude.{◌≡◌, ◌≢◌, ◌⊎◌, ◌<◌, [], None, is_none, length, IfErr, IfOk, MatchBool, MatchOption, OnErr, OnOk};
 ghost use Rattle.xa_assoc.specs.Refusals.{is_memory};
 ghost use Rattle.xa_frame.specs.Limits.{IsReply};
-ghost use Rattle.xa_handles.specs.Accounts.{Ends};
+ghost use Rattle.xa_handles.specs.Believed.Accounts.{Ends};
 ghost use Rattle.xa_handles.specs.Mail.{IsCall, put_at};
-ghost use Rattle.xa_handles.specs.Shared.{ConnectedBy, DidCall, IsTold, LeftBy};
-ghost use Rattle.xa_handles.specs.Standing.{HasBook, KeepsMail, LeavesMail, TellsMail};
+ghost use Rattle.xa_handles.specs.Believed.Shared.{ConnectedBy, DidCall, IsTold, LeftBy};
+ghost use Rattle.xa_handles.specs.Believed.Standing.{HasBook, KeepsMail, LeavesMail, TellsMail};
 ghost use Rattle.xa_sequencer.specs.Associates.{AssociatedBy, EndedBy};
-ghost use Rattle.xa_sequencer.specs.Stands.{Stands};
+ghost use Rattle.xa_sequencer.specs.Believed.Stands.{Stands};
 
 use crate::asker::Asker;
 use crate::letter::Letter;
@@ -41,7 +41,7 @@ pub(crate) struct Locked<M: GroupCommits, S: Start, B: Book> {
 
 impl<M: GroupCommits, S: Start, B: Book> Model for Locked<M, S, B> {
     ghost use Rattle.xa_handles.specs.Mail.{FitPending};
-    ghost use Rattle.xa_handles.specs.Standing.{HasBook, Standing};
+    ghost use Rattle.xa_handles.specs.Believed.Standing.{HasBook, Standing};
 
     ghost Value = { Standing M };
 

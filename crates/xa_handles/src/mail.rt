@@ -5,7 +5,7 @@ ghost use Rattle.xa_frame.specs.Limits.{IsRequest};
 ghost use Rattle.xa_handles.specs.Mail.{AreLetters, IsCallOf, Mailed, slot_weight};
 ghost use Rattle.xa_handles.specs.Telling.{AnswersAll, AnswersAt, IsAnswerTo, IsOpen};
 ghost use Rattle.xa_manager.specs.Once.{AreOnce};
-ghost use Rattle.xa_sequencer.specs.Together.{ArePlaced};
+ghost use Rattle.xa_sequencer.specs.Believed.Together.{ArePlaced};
 
 use crate::letter::Letter;
 use crate::trays::Trays;

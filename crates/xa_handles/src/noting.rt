@@ -1,8 +1,8 @@
 //! What became of asks, noted by the keeper of the history.
 ghost use Rattle.std.specs.Prelude.{◌≡◌, ◌+◌, [], ◌∷◌, ◌++◌, length, MatchBool};
 ghost use Rattle.xa_assoc.specs.Refusals.{is_memory};
-ghost use Rattle.xa_handles.specs.Accounts.{Ends, IsToldAtOnce, next_ask};
-ghost use Rattle.xa_tokens.specs.Receipts.{receipt_of};
+ghost use Rattle.xa_handles.specs.Believed.Accounts.{Ends, IsToldAtOnce, next_ask};
+ghost use Rattle.xa_tokens.specs.Believed.Receipts.{receipt_of};
 
 use crate::asker::Asker;
 use xa_frame::Reply;

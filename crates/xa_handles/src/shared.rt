@@ -1,8 +1,8 @@
 ghost use Rattle.std.specs.Prelude.{◌≡◌, ◌≢◌, ◌-◌, ◌<◌, [], None};
-ghost use Rattle.xa_handles.specs.Shared.{IsWhole};
-ghost use Rattle.xa_sequencer.specs.Stands.{Stands};
-ghost use Rattle.xa_tokens.specs.Account.{Owes, account, merged};
-ghost use Rattle.xa_tokens.specs.View.{all_parts};
+ghost use Rattle.xa_handles.specs.Believed.Shared.{IsWhole};
+ghost use Rattle.xa_sequencer.specs.Believed.Stands.{Stands};
+ghost use Rattle.xa_tokens.specs.Believed.Account.{Owes, account, merged};
+ghost use Rattle.xa_tokens.specs.Believed.View.{all_parts};
 
 use crate::held::Held;
 use crate::letter::Letter;

@@ -5,8 +5,8 @@ use Rattle.xa_frame.specs.declared.reply.Reply.{Reply}
 use Rattle.xa_assoc.specs.Refusals.{is_memory}
 use Rattle.xa_assoc.specs.declared.fault.ConnectFault.{ConnectFault}
 use Rattle.xa_assoc.specs.declared.fault.ConnectFault.TheVariants.{Full, Memory}
-use Rattle.xa_manager.specs.Answered.{connect_reply}
-use Rattle.xa_manager.specs.Counted.{RiseBy, failures_in, failures_of}
+use Rattle.xa_manager.specs.Believed.Answered.{connect_reply}
+use Rattle.xa_manager.specs.Believed.Counted.{RiseBy, failures_in, failures_of}
 use Rattle.xa_model.specs.declared.event.Event.{Event}
 use Rattle.xa_model.specs.declared.outcome.Outcome.{Outcome}
 use Rattle.xa_model.specs.State.{State}
@@ -18,9 +18,9 @@ use Rattle.xa_model.specs.declared.outcome.Appending.{Appending}
 use Rattle.xa_model.specs.History.{Leads, HasGroups, JoinAfter, append_in, joins}
 use Rattle.xa_history.specs.declared.entry.Entry.{Entry}
 use Rattle.xa_history.specs.declared.manages.Manages.{Ghosts}
-use Rattle.xa_history.specs.Book.{AreNumbered, HasNoRestart, entry_of, plain_entries, unplaced}
-use Rattle.xa_history.specs.Manages.{Acts, Counts, StepsTo}
-use Rattle.xa_history.specs.Upholds.{Upholds}
+use Rattle.xa_history.specs.Believed.Book.{AreNumbered, HasNoRestart, entry_of, plain_entries, unplaced}
+use Rattle.xa_history.specs.Believed.Manages.{Acts, Counts, StepsTo}
+use Rattle.xa_history.specs.Believed.Upholds.{Upholds}
 
 pub not_memory : (A B : Type 0) (b : Bool) → b ≡ false → MatchBool b A B → B
 not_memory A B false e h = h

@@ -7,14 +7,14 @@ use Rattle.xa_assoc.specs.Refusals.{is_memory}
 use Rattle.xa_model.specs.declared.event.Event.{Event}
 use Rattle.xa_model.specs.Events.{is_trim}
 use Rattle.xa_manager.specs.declared.manager.Manager.{Manager}
-use Rattle.xa_manager.specs.Answered.{FullyAnswered, HasCalledFor}
-use Rattle.xa_manager.specs.Counted.{counted_by}
-use Rattle.xa_manager.specs.Crash.{CrashesAs}
-use Rattle.xa_manager.specs.LogStands.{Trusts}
+use Rattle.xa_manager.specs.Believed.Answered.{FullyAnswered, HasCalledFor}
+use Rattle.xa_manager.specs.Believed.Counted.{counted_by}
+use Rattle.xa_manager.specs.Believed.Crash.{CrashesAs}
+use Rattle.xa_manager.specs.Believed.LogStands.{Trusts}
 use Rattle.xa_manager.specs.Managed.{ManagerStandsFor}
 use Rattle.xa_manager.proofs.Counting.{called_alone, called_for, none_by}
-use Rattle.xa_manager.specs.Parts.{log_of, outcome_of}
-use Rattle.xa_history.specs.Manages.{Acts}
+use Rattle.xa_manager.specs.Believed.Parts.{log_of, outcome_of}
+use Rattle.xa_history.specs.Believed.Manages.{Acts}
 
 each_way : (b : Bool) (A B C E : Type 0) → (b ≡ true → A → C) → (b ≡ false → B → E) → MatchBool b A B → MatchBool b C E
 each_way true A B C E f g h = f refl h

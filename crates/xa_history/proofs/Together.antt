@@ -17,9 +17,9 @@ use Rattle.xa_model.specs.declared.outcome.Appending.TheVariants.{Kept, Refused,
 use Rattle.xa_model.specs.declared.outcome.Outcome.{Outcome}
 use Rattle.xa_model.specs.declared.outcome.Outcome.TheVariants.{Appended, Joined}
 use Rattle.xa_manager.specs.GroupAnswers.{AreReplies, IsReplyTo}
-use Rattle.xa_manager.specs.Together.{Member, part_of, parts_of}
+use Rattle.xa_manager.specs.Believed.Together.{Member, part_of, parts_of}
 use Rattle.xa_manager.specs.declared.together.Asked.{Asked}
-use Rattle.xa_history.specs.Together.{AreUnplaced, IsToldOf, event_at, events_of, lost_entries, lost_entry, told_entries, told_entry}
+use Rattle.xa_history.specs.Believed.Together.{AreUnplaced, IsToldOf, event_at, events_of, lost_entries, lost_entry, told_entries, told_entry}
 
 pub if_ok : {A E : Type 0} (r : Result A E) (P Q : A → Type 0) → ((x : A) → P x → Q x) → IfOk r P → IfOk r Q
 if_ok (Ok x) P Q f h = f x h

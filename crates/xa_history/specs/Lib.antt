@@ -1,6 +1,2 @@
-pub mod Manages
-pub mod Together
-pub mod Book
-pub mod Upholds
+pub mod Believed
 pub mod Status
-pub mod Promises

@@ -8,9 +8,11 @@ use xa_model::Outcome;
 /// The manager over a log on two disks. Its counts of failures are those of the two.
 impl<D: Disk> Manages for Manager<D> {
     ghost use Rattle.xa_model.specs.Events.{is_trim};
-    ghost use Rattle.xa_manager.specs.{Answered.HasCalledFor, Connected.connected_to, Counted.counted_by, Crash.CrashesAs};
-    ghost use Rattle.xa_manager.specs.{LogStands.Trusts, Managed.ManagerStandsFor, Parts.log_of, Parts.outcome_of, Status.versions_of};
-    ghost use Rattle.xa_history.specs.Together.{CrashesTogether};
+    ghost use Rattle.xa_manager.specs.{Believed.Answered.HasCalledFor, Connected.connected_to};
+    ghost use Rattle.xa_manager.specs.{Believed.Counted.counted_by, Believed.Crash.CrashesAs};
+    ghost use Rattle.xa_manager.specs.{Believed.LogStands.Trusts, Managed.ManagerStandsFor};
+    ghost use Rattle.xa_manager.specs.{Believed.Parts.log_of, Believed.Parts.outcome_of, Status.versions_of};
+    ghost use Rattle.xa_history.specs.Believed.Together.{CrashesTogether};
 
     ghost stands = { ManagerStandsFor D.Disk };
 

@@ -9,8 +9,8 @@ pub trait Manages {
     ghost use Rattle.xa_frame.specs.Limits.{IsReply};
     ghost use Rattle.xa_model.specs.{declared.event.Event.Event, declared.outcome.Outcome.Outcome, Answer.plain, Events.IsAsked};
     ghost use Rattle.xa_model.specs.{State.State};
-    ghost use Rattle.xa_manager.specs.{Answered.connect_reply, Status.status_of};
-    ghost use Rattle.xa_history.specs.Manages.{Acts};
+    ghost use Rattle.xa_manager.specs.{Believed.Answered.connect_reply, Status.status_of};
+    ghost use Rattle.xa_history.specs.Believed.Manages.{Acts};
 
     /// The states that it stands for.
     ghost stands: { Self → State → Type 0 };

@@ -1,6 +1,6 @@
 ghost use Rattle.std.specs.Prelude.{◌≡◌};
 ghost use Rattle.xa_assoc.specs.Refusals.{is_memory};
-ghost use Rattle.xa_history.specs.Book.{placed};
+ghost use Rattle.xa_history.specs.Believed.Book.{placed};
 
 use xa_codes::Detail;
 use xa_frame::Reply;

@@ -1,15 +1,15 @@
 -- What a rescan that succeeds finds of a log.
 use Rattle.std.proofs.Common.{◌≡◌, ◌⊎◌, ⊎_elim, inl, inr, ℕ, ◌≤◌, Bool, true, false, List, ◌++◌, length, take, refl, sym, ◌∙◌, ap, cond, None}
 use Rattle.xa_disk.specs.declared.disk.Disk.{Ghosts}
-use Rattle.xa_log.specs.LogView.{LogView}
-use Rattle.xa_log.specs.Chain.{logged}
-use Rattle.xa_log.specs.Group.{HasFirstPart, IsFirstPart, NoChance}
+use Rattle.xa_log.specs.Believed.LogView.{LogView}
+use Rattle.xa_log.specs.Believed.Chain.{logged}
+use Rattle.xa_log.specs.Believed.Group.{HasFirstPart, IsFirstPart, NoChance}
 use Rattle.xa_log.specs.Reading.{is_newer, fault_of}
-use Rattle.xa_log.specs.Pair.{beats, has_log, IsCalm, CalmTears, logged_of}
-use Rattle.xa_log.specs.Checkpoint.{IsQuiet, SealTears}
-use Rattle.xa_log.specs.Laws.{IsLogOf}
-use Rattle.xa_log.specs.TwoFiles.{Pair, MayStandPair, MaySeal, IsOpenPair, IsReadPair}
-use Rattle.xa_log.specs.LogStates.{LogState, Whole, LostAppend, LostCheckpoint, IsIn, MayFind, LostTears, IsCalmBeside}
+use Rattle.xa_log.specs.Believed.Pair.{beats, has_log, IsCalm, CalmTears, logged_of}
+use Rattle.xa_log.specs.Believed.Checkpoint.{IsQuiet, SealTears}
+use Rattle.xa_log.specs.Believed.Laws.{IsLogOf}
+use Rattle.xa_log.specs.Believed.TwoFiles.{Pair, MayStandPair, MaySeal, IsOpenPair, IsReadPair}
+use Rattle.xa_log.specs.Believed.LogStates.{LogState, Whole, LostAppend, LostCheckpoint, IsIn, MayFind, LostTears, IsCalmBeside}
 use Rattle.xa_log.proofs.Again.{no_fault, rests_front, fits_of}
 use Rattle.xa_log.proofs.Choosing.{no_fault_log, no_fault_newer}
 use Rattle.xa_log.proofs.Pair.{pair_log, calm_logged, beats_read}

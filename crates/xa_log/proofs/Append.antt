@@ -8,8 +8,8 @@ use Rattle.xa_disk.specs.Disk.{put, Torn}
 use Rattle.xa_disk.specs.declared.counts.Counts.{Counts}
 use Rattle.xa_log.specs.Answers.{HasCause}
 use Rattle.xa_log.specs.Calls.{AppendsAhead}
-use Rattle.xa_log.specs.Chain.{start, last, text, digest, record_of, records, Rests}
-use Rattle.xa_log.specs.Pair.{number_in, generation}
+use Rattle.xa_log.specs.Believed.Chain.{start, last, text, digest, record_of, records, Rests}
+use Rattle.xa_log.specs.Believed.Pair.{number_in, generation}
 use Rattle.xa_log.specs.declared.appending.Appended.{Appended}
 use Rattle.xa_log.specs.declared.appending.Appended.TheVariants.{Kept, Refused, Lost, Full}
 use Rattle.xa_log.specs.declared.format.Format.{Format}

@@ -4,7 +4,7 @@ use Rattle.std.specs.Prelude.{is_some}
 use Rattle.std.proofs.lemmas.Bool.{cases_Bool, and_from}
 use Rattle.std.proofs.lemmas.Bool.Decides.{nat_tests}
 use Rattle.xa_log.specs.declared.format.Format.{Format}
-use Rattle.xa_log.specs.Chain.{format_of, format_in, most_body, size_at}
+use Rattle.xa_log.specs.Believed.Chain.{format_of, format_in, most_body, size_at}
 use Rattle.xa_log.specs.Calls.{Reaches, first_end, begins_long, brief, MOST_BRIEF}
 use Rattle.xa_log.proofs.Choosing.{own_format}
 use Rattle.xa_log.proofs.Records.{limit}

@@ -14,14 +14,14 @@ use Rattle.xa_log.specs.declared.format.Format.{Format}
 use Rattle.xa_log.specs.declared.format.Format.TheVariants.{One, Two}
 use Rattle.xa_log.specs.declared.found.Found.{Found}
 use Rattle.xa_log.specs.declared.heads.Head.{Head}
-use Rattle.xa_log.specs.Chain.{magic, start, format_of, format_in, is_record, body_at, rest_at, digest_at, bodies_from, logged, records, Rests}
+use Rattle.xa_log.specs.Believed.Chain.{magic, start, format_of, format_in, is_record, body_at, rest_at, digest_at, bodies_from, logged, records, Rests}
 use Rattle.xa_log.specs.declared.reading.Scan.{Scan}
-use Rattle.xa_log.specs.Damage.{breaks_behind, breaks_off, is_cut, is_damaged, is_headless}
-use Rattle.xa_log.specs.LeftOut.{stops_short}
+use Rattle.xa_log.specs.Believed.Damage.{breaks_behind, breaks_off, is_cut, is_damaged, is_headless}
+use Rattle.xa_log.specs.Believed.LeftOut.{stops_short}
 use Rattle.xa_log.specs.Reading.{is_newer, fault_unless, front_fault, fault_of, Explains, Finds, IsScan, bodies_of}
-use Rattle.xa_log.specs.Pair.{number_in, generation, is_nil, beats, has_log, on_first, current_of, is_broken, pair_fault}
+use Rattle.xa_log.specs.Believed.Pair.{number_in, generation, is_nil, beats, has_log, on_first, current_of, is_broken, pair_fault}
 use Rattle.xa_log.specs.Looking.{AreShort, either_log, Tells, IsHead, IsCurrent}
-use Rattle.xa_log.specs.Unfit.{generation_in}
+use Rattle.xa_log.specs.Believed.Unfit.{generation_in}
 use Rattle.xa_log.proofs.Header.{magic_known}
 use Rattle.xa_log.proofs.Records.{format_magic, length-magic, record_to, bodies_closed, format_text, rests_logged}
 use Rattle.xa_log.proofs.Whole.{none_damaged}
@@ -179,7 +179,7 @@ abbrev pub by_both : List ℕ → List ℕ → Option OpenFault
 by_both a b = cond (is_broken a b) (Some Damaged) None
 
 -- one that shows a first record that doesn't chain is a log
-named_headless : (file : List ℕ) → is_headless file ≡ true → has_log file ≡ true
+pub named_headless : (file : List ℕ) → is_headless file ≡ true → has_log file ≡ true
 unfolding is_headless
 named_headless file is = (and_parts (has_log file) _ is).0
 

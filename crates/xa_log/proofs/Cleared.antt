@@ -10,9 +10,9 @@ use Rattle.xa_log.specs.declared.appending.Appended.{Appended}
 use Rattle.xa_log.specs.declared.appending.Appended.TheVariants.{Kept, Refused, Lost, Full}
 use Rattle.xa_log.specs.declared.format.Format.{Format}
 use Rattle.xa_log.specs.Answers.{PutBecame}
-use Rattle.xa_log.specs.Chain.{newest, start, last, preamble, text, size_at, behind_text, body_at, is_record, IsBody}
-use Rattle.xa_log.specs.Checkpoint.{behind_front, first_length, IsCleared, IsTailed}
-use Rattle.xa_log.specs.Laws.{StaleLaw}
+use Rattle.xa_log.specs.Believed.Chain.{newest, start, last, preamble, text, size_at, behind_text, body_at, is_record, IsBody}
+use Rattle.xa_log.specs.Believed.Checkpoint.{behind_front, first_length, IsCleared, IsTailed}
+use Rattle.xa_log.specs.Believed.Laws.{StaleLaw}
 use Rattle.xa_log.proofs.Header.{header_whole}
 use Rattle.xa_log.proofs.Parts.{records_ready}
 use Rattle.xa_log.proofs.Ready.{sealed_is}

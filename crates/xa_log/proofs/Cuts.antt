@@ -6,8 +6,8 @@ use Rattle.xa_disk.specs.Disk.{Cut, Only}
 use Rattle.xa_disk.specs.Images.{cut_same}
 use Rattle.xa_disk.specs.Time.{TimePasses, LeavesOnly}
 use Rattle.xa_log.specs.declared.format.Format.{Format}
-use Rattle.xa_log.specs.Checkpoint.{LeavesNone}
-use Rattle.xa_log.specs.Chain.{preamble}
+use Rattle.xa_log.specs.Believed.Checkpoint.{LeavesNone}
+use Rattle.xa_log.specs.Believed.Chain.{preamble}
 use Rattle.xa_log.proofs.Header.{header_whole}
 use Rattle.xa_log.proofs.Ready.{leaves_by}
 

@@ -15,7 +15,7 @@ use Rattle.xa_log.specs.declared.window.Span.{Span}
 use Rattle.xa_log.specs.Window.{Ahead}
 use Rattle.std.proofs.lemmas.Bool.{cases_lt}
 use Rattle.xa_log.specs.Reading.{fault_unless, front_fault, is_newer}
-use Rattle.xa_log.specs.Chain.{format_of}
+use Rattle.xa_log.specs.Believed.Chain.{format_of}
 use Rattle.xa_log.proofs.Front.{take_both}
 
 plus_more : (x r k m : ℕ) → min (min (x + r) m + k) m ≡ min (x + (r + k)) m
@@ -124,6 +124,25 @@ length_read old s at len most fits whole covered within far = elim (cases_lt (ol
 
 pub length_reaches : (old s : Span) (at most end : ℕ) → LengthRead old s at most → at + 36 ≤ end → ReachesTo end (old.from + old.have) most → ReachesTo end (s.from + s.have) most
 length_reaches old s at most end it le r = (it.bounded, λ short. ⊎_elim (λ same. r.1 (subst (λ z. z.from + z.have < end) same short)) (λ before. r.1 (omega (arith, before, le))) it.from)
+
+-- the read of so many bytes from an offset on, by way of a window
+pub fill_within : (old s : Span) (len at count most : ℕ) (start now : Counts) → Fetched len (s.from + s.have) start now → (s ≡ old) ⊎ ((s.from ≡ at) × (s.have ≡ min (len - at) 1048576)) → (at + count ≤ old.from + old.have → s ≡ old)
+    → ReachesTo (at + count) (old.from + old.have) most → FetchedUpto len most start now s
+fill_within old s len at count most start now f whole covered r = (
+  f,
+  elim (cases_lt (old.from + old.have) (at + count)) [
+    | inl short ↦ ⊎_elim (λ same. subst (λ z. z.from + z.have ≤ most) (sym same) r.0) (λ read. omega (arith, read.0, read.1, r.1 short)) whole
+    | inr long ↦ subst (λ z. z.from + z.have ≤ most) (sym (covered long)) r.0
+  ],
+)
+
+-- one that failed
+pub fault_within : (old : Span) (len at count most : ℕ) (start now : Counts) → FetchedWithin len (at + 1048576) start now → (at + count ≤ old.from + old.have → ⊥) → ReachesTo (at + count) (old.from + old.have) most
+    → FetchedWithin len most start now
+fault_within old len at count most start now f missing r = elim (cases_lt (old.from + old.have) (at + count)) [
+  | inl short ↦ within_more len (at + 1048576) most start now (omega (arith, r.1 short)) f
+  | inr long ↦ absurd (missing long)
+]
 
 -- ---- a record that was found or wasn't
 

@@ -4,9 +4,9 @@ use Rattle.std.specs.Prelude.{is_some, is_none}
 use Rattle.std.proofs.lemmas.Bool.{and_left, and_right}
 use Rattle.std.proofs.lemmas.Bool.Decides.{nat_tests}
 use Rattle.std.proofs.lemmas.List.{drop-take, take-take, take_all, length-take}
-use Rattle.xa_log.specs.Chain.{start, format_of, format_in, is_record, begins}
-use Rattle.xa_log.specs.Damage.{lost_first, is_headless}
-use Rattle.xa_log.specs.Generation.{number_in}
+use Rattle.xa_log.specs.Believed.Chain.{start, format_of, format_in, is_record, begins}
+use Rattle.xa_log.specs.Believed.Damage.{lost_first, is_headless}
+use Rattle.xa_log.specs.Believed.Generation.{number_in}
 use Rattle.xa_log.specs.Reading.{Finds}
 use Rattle.xa_log.specs.Window.{Caches}
 use Rattle.xa_log.specs.declared.format.Format.{Format}

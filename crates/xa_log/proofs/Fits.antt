@@ -4,13 +4,13 @@ use Rattle.std.proofs.Math.Nat.{eq-zero-or-pos}
 use Rattle.std.proofs.lemmas.Bool.{cases_Bool, or_left, or_parts}
 use Rattle.std.proofs.lemmas.Bool.Decides.{nat_tests}
 use Rattle.xa_log.specs.declared.fault.OpenFault.TheVariants.{NotALog, TooNew, TooLong, Damaged}
-use Rattle.xa_log.specs.Chain.{preamble, start, format_in, is_record, logged}
-use Rattle.xa_log.specs.Pair.{generation, is_nil, beats, has_log, is_broken, pair_fault}
+use Rattle.xa_log.specs.Believed.Chain.{preamble, start, format_in, is_record, logged}
+use Rattle.xa_log.specs.Believed.Pair.{generation, is_nil, beats, has_log, is_broken, pair_fault}
 use Rattle.xa_log.specs.Reading.{is_newer}
 use Rattle.xa_log.specs.declared.format.Format.{Format}
-use Rattle.xa_log.specs.Standing.{Interrupted, is_remnant, standing}
-use Rattle.xa_log.specs.TwoFiles.{NoStray}
-use Rattle.xa_log.specs.Unfit.{generation_in, unfit_by, unfit_of}
+use Rattle.xa_log.specs.Believed.Standing.{Interrupted, is_remnant, standing}
+use Rattle.xa_log.specs.Believed.TwoFiles.{NoStray}
+use Rattle.xa_log.specs.Believed.Unfit.{generation_in, unfit_by, unfit_of}
 use Rattle.xa_log.specs.declared.standing.Standing.{Standing}
 use Rattle.xa_log.specs.declared.standing.Standing.TheVariants.{Nothing, Log, Later, Stray}
 use Rattle.xa_log.specs.declared.unfit.Unfit.TheVariants.{Neither}

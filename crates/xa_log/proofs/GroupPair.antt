@@ -6,14 +6,14 @@ use Rattle.xa_disk.specs.Disk.{Torn}
 use Rattle.xa_log.specs.Ahead.{ready_for, IsKnown}
 use Rattle.xa_log.specs.Answers.{Wrote, PutAheadBecame}
 use Rattle.xa_log.specs.Calls.{AppendsAhead}
-use Rattle.xa_log.specs.Checkpoint.{IsOther}
-use Rattle.xa_log.specs.Group.{as_one, closed, closed_by}
-use Rattle.xa_log.specs.Pair.{beats, IsCalm}
-use Rattle.xa_log.specs.Stands.{Answers}
-use Rattle.xa_log.specs.TwoFiles.{AppendsTo, Pair}
+use Rattle.xa_log.specs.Believed.Checkpoint.{IsOther}
+use Rattle.xa_log.specs.Believed.Group.{as_one, closed, closed_by}
+use Rattle.xa_log.specs.Believed.Pair.{beats, IsCalm}
+use Rattle.xa_log.specs.Believed.Stands.{Answers}
+use Rattle.xa_log.specs.Believed.TwoFiles.{AppendsTo, Pair}
 use Rattle.xa_log.specs.declared.appending.Appended.{Appended}
 use Rattle.xa_log.specs.declared.appending.Appended.TheVariants.{Kept, Refused, Lost, Full}
-use Rattle.xa_log.specs.LogView.{LogView}
+use Rattle.xa_log.specs.Believed.LogView.{LogView}
 use Rattle.xa_log.proofs.Grouped.{beats_group, bytes_as_one, length-closed, length-closed_by}
 use Rattle.xa_log.proofs.Known.{append_grows, append_reaches}
 use Rattle.xa_log.proofs.Two.{pair_on}

@@ -3,8 +3,8 @@ use Rattle.std.proofs.Common.{◌≡◌, ℕ, zero, suc, ◌+◌, ◌-◌, ◌�
 use Rattle.std.specs.List.{AllByRecursion}
 use Rattle.std.proofs.lemmas.List.{take_at, take-take, take_all, length-map}
 use Rattle.xa_log.specs.Ahead.{ready}
-use Rattle.xa_log.specs.Chain.{closing, last, record_of, records, IsBody}
-use Rattle.xa_log.specs.Group.{group_bytes, as_one, closed}
+use Rattle.xa_log.specs.Believed.Chain.{closing, last, record_of, records, IsBody}
+use Rattle.xa_log.specs.Believed.Group.{group_bytes, as_one, closed}
 use Rattle.xa_log.specs.Reading.{bodies_of}
 use Rattle.xa_log.specs.declared.format.Format.{Format}
 use Rattle.xa_log.proofs.Grouped.{length-records, bytes_as_one}

@@ -8,15 +8,15 @@ use Rattle.xa_disk.specs.Time.{TimePasses, LeavesOnly}
 use Rattle.xa_disk.specs.declared.disk.Disk.{Ghosts}
 use Rattle.xa_disk.specs.Images.{torn_same, put_torn}
 use Rattle.xa_log.specs.Answers.{Wrote, PutAheadBecame, FailedPut, FailedPutAhead}
-use Rattle.xa_log.specs.Chain.{start, last, text, closing, IsBody, behind_text, digest, record_of, records, is_record, digest_at, rest_at, size_at, Rests}
-use Rattle.xa_log.specs.Damage.{breaks_off, AreAppended}
-use Rattle.xa_log.specs.Group.{group_bytes, as_one, first_of_group, closed, closed_by, HasFirstPart, IsFirstPart, IsPlain}
-use Rattle.xa_log.specs.Pair.{number_in, generation, beats}
-use Rattle.xa_log.specs.Stands.{Answers, Leaves, MayStand, Stands}
+use Rattle.xa_log.specs.Believed.Chain.{start, last, text, closing, IsBody, behind_text, digest, record_of, records, is_record, digest_at, rest_at, size_at, Rests}
+use Rattle.xa_log.specs.Believed.Damage.{breaks_off, AreAppended}
+use Rattle.xa_log.specs.Believed.Group.{group_bytes, as_one, first_of_group, closed, closed_by, HasFirstPart, IsFirstPart, IsPlain}
+use Rattle.xa_log.specs.Believed.Pair.{number_in, generation, beats}
+use Rattle.xa_log.specs.Believed.Stands.{Answers, Leaves, MayStand, Stands}
 use Rattle.xa_log.specs.declared.appending.Appended.{Appended}
 use Rattle.xa_log.specs.declared.appending.Appended.TheVariants.{Kept, Refused, Lost, Full}
 use Rattle.xa_log.specs.declared.format.Format.{Format}
-use Rattle.xa_log.specs.LogView.{LogView}
+use Rattle.xa_log.specs.Believed.LogView.{LogView}
 use Rattle.xa_log.proofs.Again.{no_fault}
 use Rattle.xa_log.proofs.Append.{torn_begins, begins_same, refused, generation_more}
 use Rattle.xa_log.proofs.Records.{length-record_of, text_more, sizes_more, closed_zeros}
@@ -59,8 +59,8 @@ last_group prev (b ∷ bodies) group = last_group (digest prev b) bodies group
 
 pub text_group : (format : Format) (bodies group : List (List ℕ)) → text format (bodies ++ group) ≡ text format bodies ++ records (last (start format) bodies) group
 text_group format bodies group =
-    ap (λ (l : List ℕ). Rattle.xa_log.specs.Chain.magic format ++ l) (records_group (start format) bodies group)
-    ∙ sym (append_assoc (Rattle.xa_log.specs.Chain.magic format) (records (start format) bodies) (records (last (start format) bodies) group))
+    ap (λ (l : List ℕ). Rattle.xa_log.specs.Believed.Chain.magic format ++ l) (records_group (start format) bodies group)
+    ∙ sym (append_assoc (Rattle.xa_log.specs.Believed.Chain.magic format) (records (start format) bodies) (records (last (start format) bodies) group))
 
 pub sizes_group : (format : Format) (bodies group : List (List ℕ)) → AllByRecursion (IsBody format) bodies → AllByRecursion (IsBody format) group → AllByRecursion (IsBody format) (bodies ++ group)
 sizes_group format [] group sizes ok = ok

@@ -3,7 +3,7 @@ use Rattle.std.proofs.Common.{◌≡◌, ℕ, ◌+◌, false, List, ◌∷◌, �
 use Rattle.xa_disk.specs.Disk.{put}
 use Rattle.xa_log.specs.declared.format.Format.{Format}
 use Rattle.xa_log.specs.declared.format.Format.TheVariants.{One, Two}
-use Rattle.xa_log.specs.Chain.{magic, preamble}
+use Rattle.xa_log.specs.Believed.Chain.{magic, preamble}
 use Rattle.xa_log.specs.Reading.{is_newer}
 use Rattle.xa_log.proofs.Torn.{put_within}
 

@@ -7,10 +7,10 @@ use Rattle.std.proofs.lemmas.List.{ext_get_or, get_or-take, length-take}
 use Rattle.std.proofs.lemmas.Bool.Decides.{nat_tests}
 use Rattle.xa_log.specs.declared.format.Format.{Format}
 use Rattle.xa_log.specs.declared.format.Format.TheVariants.{One, Two}
-use Rattle.xa_log.specs.Chain.{magic, preamble, format_of}
-use Rattle.xa_log.specs.Pair.{has_log}
+use Rattle.xa_log.specs.Believed.Chain.{magic, preamble, format_of}
+use Rattle.xa_log.specs.Believed.Pair.{has_log}
 use Rattle.xa_log.specs.Reading.{is_newer}
-use Rattle.xa_log.specs.Standing.{is_part_of, is_remnant, standing, Interrupted}
+use Rattle.xa_log.specs.Believed.Standing.{is_part_of, is_remnant, standing, Interrupted}
 use Rattle.xa_log.specs.declared.standing.Standing.TheVariants.{Nothing, Log, Later, Stray}
 use Rattle.xa_log.proofs.Choosing.{magic_of}
 use Rattle.xa_log.proofs.Header.{length-preamble}

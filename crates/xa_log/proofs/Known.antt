@@ -9,11 +9,11 @@ use Rattle.xa_disk.specs.Images.{put_torn}
 use Rattle.xa_log.specs.declared.format.Format.{Format}
 use Rattle.xa_log.specs.Ahead.{IsKnown}
 use Rattle.xa_log.specs.Answers.{PutBecame, Wrote, PutAheadBecame}
-use Rattle.xa_log.specs.Chain.{start, closing, preamble, records}
-use Rattle.xa_log.specs.Checkpoint.{behind_front}
+use Rattle.xa_log.specs.Believed.Chain.{start, closing, preamble, records}
+use Rattle.xa_log.specs.Believed.Checkpoint.{behind_front}
 use Rattle.xa_log.specs.declared.appending.Appended.{Appended}
 use Rattle.xa_log.specs.declared.appending.Appended.TheVariants.{Kept, Refused, Lost, Full}
-use Rattle.xa_log.specs.LogView.{LogView}
+use Rattle.xa_log.specs.Believed.LogView.{LogView}
 use Rattle.xa_log.proofs.Header.{length-preamble}
 use Rattle.xa_log.proofs.Tried.{torn_wrote}
 

@@ -3,13 +3,11 @@ use Rattle.std.proofs.Common.{◌≡◌, ℕ, Bool, List, [], length, refl, sym,
 use Rattle.std.specs.Prelude.{Vec}
 use Rattle.std.specs.declared.alloc.Global.{Global}
 use Rattle.std.proofs.lemmas.List.{length-map}
-use Rattle.xa_log.specs.Chain.{format_in, logged, text}
-use Rattle.xa_log.specs.LeftOut.{left_out}
+use Rattle.xa_log.specs.Believed.Chain.{format_in, logged, text}
+use Rattle.xa_log.specs.Believed.LeftOut.{left_out}
 use Rattle.xa_log.specs.Looking.{IsCurrent}
 use Rattle.xa_log.specs.Opened.{passed_by, passed_of, passed_of_file}
-use Rattle.xa_log.specs.Pair.{current_of, on_first}
 use Rattle.xa_log.specs.Reading.{IsScan, bodies_of}
-use Rattle.xa_log.specs.declared.format.Format.{Format}
 use Rattle.xa_log.specs.declared.reading.Scan.{Scan}
 use Rattle.xa_log.proofs.Records.{format_text, rests_logged}
 

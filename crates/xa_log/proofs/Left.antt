@@ -1,5 +1,5 @@
 -- What chains behind a record that doesn't.
-use Rattle.std.proofs.Common.{◌≡◌, inl, inr, ⊎_elim, ℕ, zero, suc, ◌+◌, ◌-◌, ◌≤◌, ◌<◌, min, Bool, true, false, ◌&&◌, ◌||◌, List, [], ◌∷◌, ◌++◌, length, take, drop, refl, sym, ◌∙◌, ap, arith, cond, nat_le, append_assoc, length-drop, Vec, Global, get_or}
+use Rattle.std.proofs.Common.{◌≡◌, inl, inr, ⊎_elim, ℕ, zero, suc, ◌+◌, ◌≤◌, ◌<◌, min, Bool, true, false, ◌&&◌, ◌||◌, List, [], ◌∷◌, ◌++◌, length, take, drop, refl, sym, ◌∙◌, ap, arith, cond, nat_le, append_assoc, length-drop, Vec, Global, get_or}
 use Rattle.std.specs.Prelude.{slice_index, ◌==◌}
 use Rattle.std.specs.Int.{w32, from_be_bytes}
 use Rattle.std.specs.Prelude.{Option, Some, None}
@@ -10,14 +10,16 @@ use Rattle.xa_log.specs.declared.format.Format.{Format}
 use Rattle.xa_log.specs.declared.found.Found.{Found}
 use Rattle.xa_log.specs.declared.found.Shown.{Shown}
 use Rattle.xa_log.specs.declared.left_out.Left.{Left}
-use Rattle.xa_log.specs.Chain.{start, last, behind_text, digest, size_at, rest_at, digest_at, is_record, bodies_from}
-use Rattle.xa_log.specs.LeftOut.{left_out, stops_short, shows_record, digest_left, stamp_at, boot_in, is_own, has_own}
+use Rattle.xa_log.specs.declared.mending.Mended.{Mended}
+use Rattle.xa_log.specs.Believed.Chain.{start, last, digest, size_at, rest_at, digest_at, is_record, bodies_from}
+use Rattle.xa_log.specs.Believed.LeftOut.{left_out, stops_short, shows_record, stored_at, with_size, written_behind, digest_left, stamp_at, boot_in, is_own, has_own}
 use Rattle.xa_log.specs.Reading.{Finds, bodies_of}
-use Rattle.xa_log.specs.Shown.{Shows, IsLeft, IsLeftOut}
-use Rattle.xa_log.specs.Generation.{generation}
+use Rattle.xa_log.specs.Shown.{Shows, IsLeft, IsLeftOut, IsMended}
+use Rattle.xa_log.specs.Believed.Generation.{generation}
 use Rattle.xa_log.proofs.Front.{digest_is}
-use Rattle.xa_log.proofs.Records.{record_to, bodies_true, bodies_closed}
-use Rattle.xa_log.proofs.Shown.{shown_to, length-shown}
+use Rattle.xa_log.proofs.Mend.{rest_with, size_with}
+use Rattle.xa_log.proofs.Records.{IsRecord, record_to, bodies_true, bodies_closed}
+use Rattle.xa_log.proofs.Shown.{shown_from, shown_to, length-shown}
 use Rattle.xa_log.proofs.Walk.{length-body_at}
 
 -- ---- along a chain
@@ -95,6 +97,39 @@ module _ (format : Format) (file window prev computed : List ℕ) (at end distan
     distance = λ shows. far ∙ distance_is ∙ ap (λ (k : ℕ). 36 + k) long;
   }
 
+-- behind a record by another length than it has
+pub mended_left : (format : Format) (file prev : List ℕ) (at end : ℕ) (mended : Mended) (left : Left) → mended.size ≤ 524288 → IsMended format prev (drop at file) mended → end ≡ at + (36 + mended.size) → left.distance ≡ 36 + mended.size
+    → bodies_of left.bodies.items ≡ bodies_from format (length (with_size mended.size (drop at file))) mended.digest (drop end file) → IsLeft format prev (with_size mended.size (drop at file)) left
+mended_left format file prev at end mended left small it end_is far bodies = record {
+  bodies = bodies
+      ∙ (λ i. bodies_from format (length w) (sym own i) (sym rest i))
+      ∙ sym (ap (λ (b : Bool). cond b (bodies_from format (length w) (digest_left format prev w) (rest_at w)) []) shown);
+  distance = λ shows. far ∙ ap (λ (k : ℕ). 36 + k) (sym size);
+}
+  where
+    w : List ℕ
+    w = with_size mended.size (drop at file)
+
+    r : IsRecord format prev w
+    r = record_to format prev w it.chains
+
+    shown : shows_record format w ≡ true
+    shown = shown_from format w (record { some = r.some; small = r.small; whole = r.whole })
+
+    size : size_at w ≡ mended.size
+    size = size_with mended.size (drop at file) small
+
+    rest : rest_at w ≡ drop end file
+    rest =
+        rest_with mended.size (drop at file) ∙ ap (λ (k : ℕ). drop (36 + k) (drop at file)) size ∙ drop-drop (36 + mended.size) at file
+        ∙ ap (λ (k : ℕ). drop k file) (sym end_is)
+
+    own : digest_left format prev w ≡ mended.digest
+    own = elim (cases_Bool (is_record format (stored_at w) (rest_at w))) [
+      | inl is ↦ ap (λ (b : Bool). cond b (stored_at w) (digest_at prev w)) is ∙ r.chains ∙ sym it.digest
+      | inr other ↦ ap (λ (b : Bool). cond b (stored_at w) (digest_at prev w)) other ∙ sym it.digest
+    ]
+
 -- where none is shown, nothing is left out
 pub none_is_left : (format : Format) (prev x : List ℕ) (left : Left) → bodies_of left.bodies.items ≡ [] → shows_record format x ≡ false → IsLeft format prev x left
 none_is_left format prev x left none unshown = record {
@@ -142,10 +177,10 @@ pub left_none : (format : Format) (bodies : List (List ℕ)) (file : List ℕ) (
 left_none format bodies file left none nothing = record { bodies_are = nothing ∙ sym (ap (λ (l : List (List ℕ)). left_out format l file) none); distance = inl nothing }
 
 -- and behind some
-pub left_some : (format : Format) (bodies : List (List ℕ)) (file : List ℕ) (left : Left) → 1 ≤ length bodies → IsLeft format (last (start format) bodies) (behind_text format bodies file) left → IsLeftOut format bodies file left
+pub left_some : (format : Format) (bodies : List (List ℕ)) (file : List ℕ) (left : Left) → 1 ≤ length bodies → IsLeft format (last (start format) bodies) (written_behind format bodies file) left → IsLeftOut format bodies file left
 left_some format [] file left some it = absurd (omega (arith, some))
 left_some format (body ∷ bodies) file left some it =
-    let x : List ℕ = behind_text format (body ∷ bodies) file in
+    let x : List ℕ = written_behind format (body ∷ bodies) file in
     let prev : List ℕ = last (start format) (body ∷ bodies) in
     record {
       bodies_are = it.bodies;
@@ -161,6 +196,6 @@ unfolding stops_short
 stops_by format bodies file left it = ⊎_elim
     (λ none.
     ap (λ (l : List (List ℕ)). has_own (generation bodies) left.distance l) none
-    ∙ sym (ap (λ (l : List (List ℕ)). has_own (generation bodies) (36 + size_at (behind_text format bodies file)) l) (sym it.bodies_are ∙ none)))
+    ∙ sym (ap (λ (l : List (List ℕ)). has_own (generation bodies) (36 + size_at (written_behind format bodies file)) l) (sym it.bodies_are ∙ none)))
     (λ far. λ i. has_own (generation bodies) (far i) (it.bodies_are i))
     it.distance

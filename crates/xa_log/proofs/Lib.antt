@@ -5,6 +5,7 @@ pub mod Tried
 pub mod Whole
 pub mod Mixed
 pub mod Short
+pub mod Mend
 pub mod First
 pub mod Known
 pub mod Encode
@@ -34,6 +35,7 @@ pub mod GroupSteps
 pub mod Which
 pub mod Choosing
 pub mod Told
+pub mod Ended
 pub mod Opens
 pub mod Leaves
 pub mod Standings

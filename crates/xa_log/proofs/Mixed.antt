@@ -4,11 +4,11 @@ use Rattle.std.proofs.lemmas.Bool.{and_from, and_parts, or_left, or_right, or_ca
 use Rattle.std.proofs.lemmas.Bool.Decides.{nat_tests}
 use Rattle.std.proofs.lemmas.List.{drop_at, get_or-drop, get_or_past, length-take-le}
 use Rattle.xa_disk.specs.Disk.{put}
-use Rattle.xa_log.specs.Chain.{start, last, text, headed, behind_text, Rests}
-use Rattle.xa_log.specs.Damage.{is_appended, is_snapshot, goes_on, is_cut}
-use Rattle.xa_log.specs.Generation.{generation}
-use Rattle.xa_log.specs.Group.{closed_by}
-use Rattle.xa_log.specs.Laws.{IsMixed, MixedLaw}
+use Rattle.xa_log.specs.Believed.Chain.{start, last, text, headed, behind_text, Rests}
+use Rattle.xa_log.specs.Believed.Damage.{is_appended, is_snapshot, goes_on, is_cut}
+use Rattle.xa_log.specs.Believed.Generation.{generation}
+use Rattle.xa_log.specs.Believed.Group.{closed_by}
+use Rattle.xa_log.specs.Believed.Laws.{IsMixed, MixedLaw}
 use Rattle.xa_log.specs.declared.format.Format.{Format}
 use Rattle.xa_log.specs.declared.format.Format.TheVariants.{One, Two}
 use Rattle.xa_log.proofs.Torn.{put_within}

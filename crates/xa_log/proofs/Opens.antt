@@ -6,17 +6,17 @@ use Rattle.xa_disk.specs.Disk.{Only}
 use Rattle.xa_disk.specs.declared.disk.Disk.{Ghosts}
 use Rattle.xa_disk.specs.Images.{torn_same}
 use Rattle.xa_log.specs.declared.fault.OpenFault.TheVariants.{NotALog, TooNew, TooLong, Damaged}
-use Rattle.xa_log.specs.LogView.{LogView}
+use Rattle.xa_log.specs.Believed.LogView.{LogView}
 use Rattle.xa_log.specs.declared.reading.Scan.{Scan}
-use Rattle.xa_log.specs.Chain.{start, last, text, Rests, logged}
+use Rattle.xa_log.specs.Believed.Chain.{start, last, text, Rests, logged}
 use Rattle.xa_log.specs.Reading.{is_newer, bodies_of, IsScan}
-use Rattle.xa_log.specs.Damage.{breaks_off, is_damaged, is_headless}
-use Rattle.xa_log.specs.Pair.{generation, is_nil, beats, has_log, current_of, is_broken, logged_pair, pair_fault, Behind, IsCalm}
-use Rattle.xa_log.specs.Checkpoint.{IsOther, IsQuiet}
+use Rattle.xa_log.specs.Believed.Damage.{breaks_off, is_damaged, is_headless}
+use Rattle.xa_log.specs.Believed.Pair.{generation, is_nil, beats, has_log, current_of, is_broken, logged_pair, pair_fault, Behind, IsCalm}
+use Rattle.xa_log.specs.Believed.Checkpoint.{IsOther, IsQuiet}
 use Rattle.xa_log.specs.Looking.{IsCurrent}
-use Rattle.xa_log.specs.Stands.{Stands}
-use Rattle.xa_log.specs.TwoFiles.{Pair, IsOpenPair, NoStray}
-use Rattle.xa_log.specs.Laws.{OpenedLaw}
+use Rattle.xa_log.specs.Believed.Stands.{Stands}
+use Rattle.xa_log.specs.Believed.TwoFiles.{Pair, IsOpenPair, NoStray}
+use Rattle.xa_log.specs.Believed.Laws.{OpenedLaw}
 use Rattle.xa_log.proofs.Records.{rests_logged}
 use Rattle.xa_log.proofs.Parts.{calm_log}
 use Rattle.xa_log.proofs.Pair.{beats_nil}

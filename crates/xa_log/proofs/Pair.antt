@@ -6,10 +6,10 @@ use Rattle.std.proofs.lemmas.List.{drop-drop, length-take-le, ext_get_or, get_or
 use Rattle.xa_disk.specs.Disk.{Torn, AllOrNone}
 use Rattle.xa_log.specs.declared.fault.OpenFault.TheVariants.{NotALog, Damaged}
 use Rattle.xa_log.specs.declared.format.Format.{Format}
-use Rattle.xa_log.specs.Chain.{start, preamble, format_in, size_at, body_at, rest_at, digest_at, is_record, bodies_from, begins, logged}
+use Rattle.xa_log.specs.Believed.Chain.{start, preamble, format_in, size_at, body_at, rest_at, digest_at, is_record, bodies_from, begins, logged}
 use Rattle.xa_log.specs.Reading.{is_newer}
-use Rattle.xa_log.specs.Damage.{is_damaged, is_headless}
-use Rattle.xa_log.specs.Pair.{generation, beats, has_log, on_first, current_of, is_broken, logged_of, fault_pair, IsCalm, Behind, AllOrNoBodies, CalmTears}
+use Rattle.xa_log.specs.Believed.Damage.{is_damaged, is_headless}
+use Rattle.xa_log.specs.Believed.Pair.{generation, beats, has_log, on_first, current_of, is_broken, logged_of, fault_pair, IsCalm, Behind, AllOrNoBodies, CalmTears}
 use Rattle.xa_log.proofs.Records.{record_to, bodies_closed, closed_zeros}
 use Rattle.xa_log.proofs.Torn.{torn_then}
 use Rattle.xa_log.proofs.Whole.{closed_headed, damaged_headed, none_damaged, zero_size}

@@ -7,15 +7,15 @@ use Rattle.xa_disk.specs.Time.{TimePasses, LeavesOnly}
 use Rattle.xa_disk.specs.declared.disk.Disk.{Ghosts}
 use Rattle.xa_disk.specs.Images.{torn_same, put_torn}
 use Rattle.xa_log.specs.declared.format.Format.{Format}
-use Rattle.xa_log.specs.Chain.{magic, start, preamble, format_of, format_in, records, IsBody, Rests, logged, begins, body_at, rest_at, digest_at, bodies_from}
+use Rattle.xa_log.specs.Believed.Chain.{magic, start, preamble, format_of, format_in, records, IsBody, Rests, logged, begins, body_at, rest_at, digest_at, bodies_from}
 use Rattle.xa_log.specs.Reading.{is_newer}
 use Rattle.xa_log.specs.Answers.{FailedPut, PutBecame}
 use Rattle.xa_log.specs.declared.appending.Appended.{Appended}
 use Rattle.xa_log.specs.declared.appending.Appended.TheVariants.{Kept, Refused, Lost, Full}
-use Rattle.xa_log.specs.Pair.{has_log, IsCalm, Behind}
+use Rattle.xa_log.specs.Believed.Pair.{has_log, IsCalm, Behind}
 use Rattle.std.proofs.lemmas.Bool.{cases_Bool}
-use Rattle.xa_log.specs.Damage.{breaks_off, is_headless}
-use Rattle.xa_log.specs.Checkpoint.{behind_front, first_length, records_bytes, IsComplete, IsReady, IsOther, IsQuiet, LeavesOf, LeavesNone, LeavesSealed, LeavesAny, SealTears, Checkpointed}
+use Rattle.xa_log.specs.Believed.Damage.{breaks_off, is_headless}
+use Rattle.xa_log.specs.Believed.Checkpoint.{behind_front, first_length, records_bytes, IsComplete, IsReady, IsOther, IsQuiet, LeavesOf, LeavesNone, LeavesSealed, LeavesAny, SealTears, Checkpointed}
 use Rattle.std.proofs.lemmas.List.{take_at}
 use Rattle.xa_log.proofs.Records.{format_magic, length-magic, record_to, bodies_closed, rests_logged}
 use Rattle.xa_log.proofs.Torn.{torn_front, put_within}

@@ -6,7 +6,7 @@ use Rattle.std.specs.Prelude.{Option, Some, None}
 use Rattle.std.specs.Str.{bytes_eq}
 use Rattle.xa_log.specs.declared.format.Format.{Format}
 use Rattle.xa_log.specs.declared.window.Span.{Span}
-use Rattle.xa_log.specs.Chain.{most_body, digest}
+use Rattle.xa_log.specs.Believed.Chain.{most_body, digest}
 use Rattle.xa_log.specs.Reading.{IfDigest}
 use Rattle.xa_log.specs.Window.{Caches, Covers}
 use Rattle.xa_log.proofs.Cached.{cached_slice}

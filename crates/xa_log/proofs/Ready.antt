@@ -7,11 +7,11 @@ use Rattle.xa_disk.specs.Time.{TimePasses, LeavesOnly}
 use Rattle.xa_disk.specs.declared.disk.Disk.{Ghosts}
 use Rattle.xa_disk.specs.Images.{put_torn}
 use Rattle.xa_log.specs.declared.format.Format.{Format}
-use Rattle.xa_log.specs.Chain.{magic, start, preamble, last, logged, size_at, text, digest, format_of, record_of, records, headed, Rests}
-use Rattle.xa_log.specs.Damage.{breaks_off, goes_on, is_damaged}
+use Rattle.xa_log.specs.Believed.Chain.{magic, start, preamble, last, logged, size_at, text, digest, format_of, record_of, records, headed, Rests}
+use Rattle.xa_log.specs.Believed.Damage.{breaks_off, goes_on, is_damaged}
 use Rattle.xa_log.specs.Answers.{FailedPut}
-use Rattle.xa_log.specs.Pair.{has_log, IsCalm, Behind, CalmTears}
-use Rattle.xa_log.specs.Checkpoint.{behind_front, first_length, IsReady, IsOther, LeavesOf}
+use Rattle.xa_log.specs.Believed.Pair.{has_log, IsCalm, Behind, CalmTears}
+use Rattle.xa_log.specs.Believed.Checkpoint.{behind_front, first_length, IsReady, IsOther, LeavesOf}
 use Rattle.xa_log.proofs.Records.{closed_zeros, format_front, format_magic, length-record_of, length-text, rests_logged}
 use Rattle.xa_log.proofs.Torn.{torn_front, put_within}
 use Rattle.xa_log.proofs.Header.{length-preamble, header_magic, header_rest, put_header}

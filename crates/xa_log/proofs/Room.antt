@@ -3,9 +3,9 @@ use Rattle.std.proofs.Common.{◌≡◌, ◌⊎◌, inl, inr, ⊎_elim, ℕ, ◌
 use Rattle.std.specs.Vec.{with_items}
 use Rattle.std.specs.List.{AllByRecursion}
 use Rattle.xa_log.specs.declared.format.Format.{Format}
-use Rattle.xa_log.specs.LogView.{LogView}
+use Rattle.xa_log.specs.Believed.LogView.{LogView}
 use Rattle.xa_log.specs.Buffer.{Holds, HoldsEach, KeepsRoom, EachFits}
-use Rattle.xa_log.specs.Chain.{IsBody}
+use Rattle.xa_log.specs.Believed.Chain.{IsBody}
 
 pub holds_room : {D : Type 0} (log : LogView D) (n : ℕ) → 1048576 ≤ log.room → Holds log n → 40 + n + 262144 ≤ log.room
 holds_room log n room holds = ⊎_elim (λ small. omega (arith, small, room)) (λ fits. fits) holds

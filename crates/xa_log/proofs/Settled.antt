@@ -8,13 +8,13 @@ use Rattle.xa_log.specs.Ahead.{ready_for, IsKnown}
 use Rattle.xa_log.specs.Answers.{LeftWritten, PutAheadBecame}
 use Rattle.xa_log.specs.Buffer.{KeepsRoom}
 use Rattle.xa_log.specs.Calls.{AppendsAhead}
-use Rattle.xa_log.specs.Damage.{AreAppended}
-use Rattle.xa_log.specs.Group.{as_one, first_of_group}
-use Rattle.xa_log.specs.Stands.{Answers, Moves, Renumbers, Stands}
+use Rattle.xa_log.specs.Believed.Damage.{AreAppended}
+use Rattle.xa_log.specs.Believed.Group.{as_one, first_of_group}
+use Rattle.xa_log.specs.Believed.Stands.{Answers, Moves, Renumbers, Stands}
 use Rattle.xa_log.specs.Written.{AppendsGroup, HasWritten, range_of, ready_range_of}
 use Rattle.xa_log.specs.declared.appending.Appended.{Appended}
 use Rattle.xa_log.specs.declared.appending.Appended.TheVariants.{Kept, Refused, Lost, Full}
-use Rattle.xa_log.specs.LogView.{LogView}
+use Rattle.xa_log.specs.Believed.LogView.{LogView}
 use Rattle.xa_log.specs.declared.written.Written.{Written}
 use Rattle.xa_log.proofs.Append.{kept_ahead}
 use Rattle.xa_log.proofs.Grouped.{answers_kept, answers_refused, answers_lost, length-closed, length-closed_by, range_moments}

@@ -1,18 +1,21 @@
 -- A record that is shown, and whether it chains.
 use Rattle.std.proofs.Common.{◌≡◌, inl, inr, ℕ, ◌+◌, ◌-◌, ◌^◌, ◌≤◌, ◌<◌, true, false, List, length, take, drop, sym, ◌∙◌, ap, subst, arith, length-take-le, length-drop, nat_le}
+use Rattle.std.specs.Prelude.{nat_lt}
 use Rattle.std.specs.Int.{w32, to_be_bytes}
 use Rattle.std.specs.Prelude.{Option, Some, None, IfSome, Result, Ok, Err, MatchResult}
 use Rattle.std.specs.Result.{result_ok}
 use Rattle.xa_disk.specs.declared.counts.Counts.{Counts}
 use Rattle.xa_log.specs.Calls.{FetchedNext, FetchedUpto}
 use Rattle.xa_log.specs.declared.found.Found.{Found}
-use Rattle.std.proofs.lemmas.Bool.{cases_Bool, and_parts, and_from}
+use Rattle.std.proofs.lemmas.Bool.{cases_Bool, and_left, and_right, and_parts, and_from}
 use Rattle.std.proofs.lemmas.Bool.Decides.{nat_tests}
 use Rattle.std.proofs.lemmas.List.{drop-drop}
 use Rattle.xa_log.specs.declared.format.Format.{Format}
+use Rattle.xa_log.specs.declared.format.Format.TheVariants.{One, Two}
+use Rattle.xa_log.specs.declared.window.Span.{Span}
 use Rattle.xa_log.specs.declared.found.Shown.{Shown}
-use Rattle.xa_log.specs.Chain.{most_body, digest, size_at, is_record}
-use Rattle.xa_log.specs.LeftOut.{shows_record}
+use Rattle.xa_log.specs.Believed.Chain.{most_body, digest, size_at, is_record}
+use Rattle.xa_log.specs.Believed.LeftOut.{shows_long, shows_record}
 use Rattle.xa_log.specs.Reading.{Finds, IfDigest}
 use Rattle.xa_log.specs.Shown.{IsShown, Shows}
 use Rattle.xa_log.specs.Window.{Caches, Covers}
@@ -126,3 +129,46 @@ found_read r o shown len most start now is kept f = subst (λ o. FetchedNext len
 pub found_some : (o : Option Found) (shown : Shown) (len most : ℕ) (start now : Counts) → IfSome o (λ f. (f.body ≡ shown.body) × (f.span ≡ shown.span)) → FetchedUpto len most start now shown.span → FetchedNext len most start now o
 found_some (Some found) shown len most start now k f = subst (λ s. FetchedUpto len most start now s) (sym k.1) f
 found_some None shown len most start now k f = record { upto = shown.span.from + shown.span.have; fetched = f.0; bounded = f.1 }
+
+-- ---- where a window has room for it
+
+-- what is spelled so is no more than that
+pub short_shown : (format : Format) (x : List ℕ) → size_at x ≤ 524288 → shows_long format x ≡ false
+unfolding shows_long
+short_shown format x le = let a : nat_lt 524288 (size_at x) ≡ false = grind (arith, nat_tests, le) in and_left (nat_lt 524288 (size_at x)) _ a
+
+pub unshown_short : (format : Format) (x : List ℕ) → shows_record format x ≡ false → shows_long format x ≡ false
+unfolding shows_long
+unshown_short format x none = and_right (nat_lt 524288 (size_at x)) _ none
+
+pub long_shown : (format : Format) (x : List ℕ) → 524288 < size_at x → shows_record format x ≡ true → shows_long format x ≡ true
+unfolding shows_long
+long_shown format x lt is = let a : nat_lt 524288 (size_at x) ≡ true = grind (arith, nat_tests, lt) in and_from _ _ a is
+
+most_one : (format : Format) → 524288 ≤ most_body format
+most_one One = omega arith
+most_one Two = omega arith
+
+-- by the body and the digest in the window it is told whether it chains
+pub window_says : (format : Format) (file window prev body tail : List ℕ) (span : Span) (at size begin end n m : ℕ) → 1 ≤ size → size ≤ 524288 → at + (36 + size) ≤ length file → take 4 (drop at file) ≡ to_be_bytes w32 size
+    → Caches file window span → Covers span at (36 + size) → begin ≡ at - span.from + 4 → end ≡ begin + size → n ≡ size → m ≡ 32 → body ≡ take n (drop begin window) → tail ≡ take m (drop end window)
+    → (o : Option (List ℕ)) → IfDigest (digest prev body) tail o → Says format prev (drop at file) body o
+window_says format file window prev body tail span at size begin end n m some small within spelled caches covers begin_is end_is n_is m_is body_is tail_is o it =
+    says format prev x body (record { some = omega (arith, long, some); small = omega (arith, long, small, most_one format) }) (spelled ∙ ap (λ (k : ℕ). to_be_bytes w32 k) (sym long))
+    (there ∙ ap (λ (k : ℕ). take k (drop 4 x)) (sym long)) (omega (arith, long, within, length-drop at file)) o (subst (λ t. IfDigest (digest prev body) t o) tail_there it)
+  where
+    x : List ℕ
+    x = drop at file
+
+    there : body ≡ take size (drop 4 x)
+    there =
+        body_is ∙ cached_slice file window span (at + 4) size begin n (omega (arith, begin_is, covers.begins)) n_is caches (record { begins = omega (arith, covers.begins); reaches = omega (arith, covers.begins, covers.reaches) })
+        ∙ ap (λ (l : List ℕ). take size l) (sym (drop-drop 4 at file))
+
+    long : length body ≡ size
+    long = ap length there ∙ length-take-le size (drop 4 x) (omega (arith, within, length-drop 4 x, length-drop at file))
+
+    tail_there : tail ≡ take 32 (drop (4 + length body) x)
+    tail_there =
+        tail_is ∙ cached_slice file window span (at + (4 + size)) 32 end m (omega (arith, begin_is, end_is, covers.begins)) m_is caches (record { begins = omega (arith, covers.begins); reaches = omega (arith, covers.begins, covers.reaches) })
+        ∙ ap (λ (l : List ℕ). take 32 l) (sym (drop-drop (4 + size) at file)) ∙ ap (λ (k : ℕ). take 32 (drop (4 + k) x)) (sym long)

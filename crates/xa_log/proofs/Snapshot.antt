@@ -4,9 +4,9 @@ use Rattle.std.specs.Prelude.{slice_index}
 use Rattle.std.proofs.lemmas.Bool.{and_left, and_right}
 use Rattle.std.proofs.lemmas.List.{at_drop_more}
 use Rattle.xa_log.specs.Behind.{IsBehind}
-use Rattle.xa_log.specs.Chain.{behind_text}
-use Rattle.xa_log.specs.Damage.{is_appended, is_snapshot, goes_on, is_cut}
-use Rattle.xa_log.specs.Generation.{generation}
+use Rattle.xa_log.specs.Believed.Chain.{behind_text}
+use Rattle.xa_log.specs.Believed.Damage.{is_appended, is_snapshot, goes_on, is_cut}
+use Rattle.xa_log.specs.Believed.Generation.{generation}
 use Rattle.xa_log.specs.Reading.{bodies_of}
 use Rattle.xa_log.specs.declared.behind.Behind.{Behind}
 use Rattle.xa_log.specs.declared.format.Format.{Format}

@@ -8,10 +8,10 @@ use Rattle.xa_log.specs.declared.fault.OpenFault.{OpenFault}
 use Rattle.xa_log.specs.declared.fault.OpenFault.TheVariants.{TooNew}
 use Rattle.xa_log.specs.declared.format.Format.{Format}
 use Rattle.xa_log.specs.declared.format.Format.TheVariants.{One, Two}
-use Rattle.xa_log.specs.Chain.{preamble, format_of}
-use Rattle.xa_log.specs.Pair.{has_log}
+use Rattle.xa_log.specs.Believed.Chain.{preamble, format_of}
+use Rattle.xa_log.specs.Believed.Pair.{has_log}
 use Rattle.xa_log.specs.Reading.{is_newer, front_fault}
-use Rattle.xa_log.specs.Standing.{is_part_of, is_remnant, standing}
+use Rattle.xa_log.specs.Believed.Standing.{is_part_of, is_remnant, standing}
 use Rattle.xa_log.specs.declared.standing.Standing.TheVariants.{Nothing, Log, Later, Stray}
 use Rattle.xa_log.proofs.Choosing.{fault_says}
 

@@ -5,14 +5,14 @@ use Rattle.xa_disk.specs.Disk.{Same}
 use Rattle.xa_disk.specs.Time.{TimePasses}
 use Rattle.xa_disk.specs.declared.disk.Disk.{Ghosts}
 use Rattle.xa_log.specs.declared.format.Format.{Format}
-use Rattle.xa_log.specs.LogView.{LogView}
-use Rattle.xa_log.specs.Group.{IsFirstPart}
-use Rattle.xa_log.specs.Pair.{generation, beats, CalmTears, IsCalm, fault_pair, logged_of, pair_fault, logged_pair}
-use Rattle.xa_log.specs.Checkpoint.{SealTears}
-use Rattle.xa_log.specs.Laws.{IsLogOf}
-use Rattle.xa_log.specs.Stands.{LeavesLog}
-use Rattle.xa_log.specs.TwoFiles.{Pair, MayStandPair, first_of, second_of}
-use Rattle.xa_log.specs.LogStates.{LogState, Whole, LostAppend, LostCheckpoint, IsIn, MayFind, beside, LostTears, BesideTears, IsCalmBeside, LeavesCurrent, LeavesBeside, IsWithoutChance, LeavesBoth, LooksTo, LeftByLook}
+use Rattle.xa_log.specs.Believed.LogView.{LogView}
+use Rattle.xa_log.specs.Believed.Group.{IsFirstPart}
+use Rattle.xa_log.specs.Believed.Pair.{generation, beats, CalmTears, IsCalm, fault_pair, logged_of, pair_fault, logged_pair}
+use Rattle.xa_log.specs.Believed.Checkpoint.{SealTears}
+use Rattle.xa_log.specs.Believed.Laws.{IsLogOf}
+use Rattle.xa_log.specs.Believed.Stands.{LeavesLog}
+use Rattle.xa_log.specs.Believed.TwoFiles.{Pair, MayStandPair, first_of, second_of}
+use Rattle.xa_log.specs.Believed.LogStates.{LogState, Whole, LostAppend, LostCheckpoint, IsIn, MayFind, beside, LostTears, BesideTears, IsCalmBeside, LeavesCurrent, LeavesBeside, IsWithoutChance, LeavesBoth, LooksTo, LeftByLook}
 use Rattle.xa_log.proofs.Again.{left_log}
 use Rattle.xa_log.proofs.Still.{left_other, left_sealed, fault_order, logged_order}
 use Rattle.xa_log.proofs.Which.{behind_law, pair_law, append_law, seal_law}

@@ -6,9 +6,9 @@ use Rattle.std.proofs.lemmas.List.{append-nil, drop-append-le, drop-drop, length
 use Rattle.xa_disk.specs.Disk.{put, Torn, Passes}
 use Rattle.xa_log.specs.declared.format.Format.{Format}
 use Rattle.xa_log.specs.Buffer.{EachFits}
-use Rattle.xa_log.specs.Chain.{start, last, text, records, record_of, digest, IsBody}
+use Rattle.xa_log.specs.Believed.Chain.{start, last, text, records, record_of, digest, IsBody}
 use Rattle.xa_log.specs.Reading.{bodies_of}
-use Rattle.xa_log.specs.Checkpoint.{records_bytes, tailed, first_length}
+use Rattle.xa_log.specs.Believed.Checkpoint.{records_bytes, tailed, first_length}
 use Rattle.xa_log.proofs.Records.{records_more, text_more, last_more, length-record_of, length-text}
 use Rattle.xa_log.proofs.Torn.{put_within, torn_then, then}
 

@@ -3,18 +3,18 @@ use Rattle.std.proofs.Common.{◌≡◌, ◌⊎◌, ⊎_elim, inl, inr, ℕ, ◌
 use Rattle.std.specs.Result.{IsErrAnd}
 use Rattle.xa_disk.specs.Disk.{Same, Passes}
 use Rattle.xa_disk.specs.declared.disk.Disk.{Ghosts}
-use Rattle.xa_log.specs.LogView.{LogView}
+use Rattle.xa_log.specs.Believed.LogView.{LogView}
 use Rattle.xa_log.specs.declared.fault.OpenFault.{OpenFault}
 use Rattle.xa_log.specs.declared.fault.OpenFault.TheVariants.{Device, Memory}
-use Rattle.xa_log.specs.Chain.{start, last, text, Rests}
-use Rattle.xa_log.specs.Damage.{breaks_off}
-use Rattle.xa_log.specs.Group.{IsFirstPart}
-use Rattle.xa_log.specs.Pair.{beats, Behind, IsCalm, pair_fault, fault_pair, logged_pair, logged_of}
-use Rattle.xa_log.specs.Checkpoint.{IsOther, IsQuiet, LeavesOf, LeavesSealed}
+use Rattle.xa_log.specs.Believed.Chain.{start, last, text, Rests}
+use Rattle.xa_log.specs.Believed.Damage.{breaks_off}
+use Rattle.xa_log.specs.Believed.Group.{IsFirstPart}
+use Rattle.xa_log.specs.Believed.Pair.{beats, Behind, IsCalm, pair_fault, fault_pair, logged_pair, logged_of}
+use Rattle.xa_log.specs.Believed.Checkpoint.{IsOther, IsQuiet, LeavesOf, LeavesSealed}
 use Rattle.xa_log.specs.Ahead.{IsKnown}
-use Rattle.xa_log.specs.Stands.{Stands, MayStand, Leaves, LeavesLog, Untouched}
-use Rattle.xa_log.specs.TwoFiles.{Pair, MayStandPair, MaySeal}
-use Rattle.xa_log.specs.LogStates.{LogState, Whole, LostAppend, LostCheckpoint, IsIn, KeepsAll}
+use Rattle.xa_log.specs.Believed.Stands.{Stands, MayStand, Leaves, LeavesLog, Untouched}
+use Rattle.xa_log.specs.Believed.TwoFiles.{Pair, MayStandPair, MaySeal}
+use Rattle.xa_log.specs.Believed.LogStates.{LogState, Whole, LostAppend, LostCheckpoint, IsIn, KeepsAll}
 use Rattle.xa_log.proofs.Again.{no_fault, rests_front}
 use Rattle.xa_log.proofs.Pair.{calm_logged}
 

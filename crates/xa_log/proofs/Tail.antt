@@ -1,8 +1,8 @@
 -- A record's bytes in the buffer, from one offset on.
 use Rattle.std.proofs.Common.{◌≡◌, ℕ, ◌+◌, List, [], ◌∷◌, ◌++◌, length, take, drop, replicate, sym, ◌∙◌, ap, arith}
 use Rattle.std.proofs.lemmas.List.{take-take, take_at, drop-take}
-use Rattle.xa_log.specs.Chain.{record_of}
-use Rattle.xa_log.specs.Checkpoint.{tailed}
+use Rattle.xa_log.specs.Believed.Chain.{record_of}
+use Rattle.xa_log.specs.Believed.Checkpoint.{tailed}
 use Rattle.xa_log.proofs.Records.{length-record_of}
 
 -- with so many zeros over what stood behind it

@@ -4,15 +4,16 @@ use Rattle.std.proofs.lemmas.List.{length-map}
 use Rattle.std.proofs.lemmas.Bool.{cases_Bool, or_left, or_right}
 use Rattle.std.specs.Prelude.{Vec, is_some, is_none}
 use Rattle.std.specs.declared.alloc.Global.{Global}
-use Rattle.xa_log.specs.Chain.{format_in, logged, text}
-use Rattle.xa_log.specs.Damage.{is_damaged, is_headless}
+use Rattle.xa_log.specs.Believed.Chain.{format_in, logged, text}
+use Rattle.xa_log.specs.Believed.Damage.{is_damaged, is_headless}
 use Rattle.xa_log.specs.Finding.{at_first, behind_last, damage_of, place_of}
 use Rattle.xa_log.specs.Looking.{IsCurrent}
-use Rattle.xa_log.specs.Pair.{on_first, current_of, is_broken}
+use Rattle.xa_log.specs.Believed.Pair.{on_first, current_of, is_broken, pair_fault}
+use Rattle.xa_log.specs.declared.fault.OpenFault.TheVariants.{Damaged}
 use Rattle.xa_log.specs.Reading.{IsScan, bodies_of}
 use Rattle.xa_log.specs.declared.finding.Damage.{Damage}
 use Rattle.xa_log.specs.declared.reading.Scan.{Scan}
-use Rattle.xa_log.proofs.Choosing.{scan_damaged}
+use Rattle.xa_log.proofs.Choosing.{by_both, scan_damaged}
 use Rattle.xa_log.proofs.Records.{format_text, rests_logged}
 use Rattle.xa_log.proofs.Whole.{damaged_headed}
 
@@ -67,3 +68,13 @@ current_read a b first scan damage one two it is =
     of_cond : (t : Bool) (x y : List ℕ) → is_headless x ≡ false → is_headless y ≡ false → is_headless (cond t x y) ≡ false
     of_cond true x y p q = p
     of_cond false x y p q = q
+
+-- an opening is refused as damaged where there is such a place, and else it isn't
+pub told_fault : (most : ℕ) (a b : List ℕ) (damage : Option Damage) → damage ≡ damage_of a b → pair_fault most a b ≡ by_both a b
+    → pair_fault most a b ≡ cond (is_some damage) (Some Damaged) None
+told_fault most a b damage is fault =
+    fault ∙ ap (λ (t : Bool). cond t (Some Damaged) None) (sym (ap (λ (o : Option Damage). is_some o) is ∙ there (is_broken a b) (place_of a b)))
+  where
+    there : (t : Bool) (d : Damage) → is_some (cond t (Some d) None) ≡ t
+    there true d = refl
+    there false d = refl

@@ -5,15 +5,15 @@ use Rattle.xa_disk.specs.Disk.{Only, Same}
 use Rattle.xa_disk.specs.Time.{LeavesOnly}
 use Rattle.xa_disk.specs.declared.disk.Disk.{Ghosts}
 use Rattle.xa_log.specs.declared.format.Format.{Format}
-use Rattle.xa_log.specs.Chain.{newest, start, last, text, Rests}
-use Rattle.xa_log.specs.Pair.{generation, beats, IsCalm}
-use Rattle.xa_log.specs.Checkpoint.{IsOther, IsQuiet, LeavesOf, LeavesSealed, LeavesAny, Checkpointed}
-use Rattle.xa_log.specs.Damage.{breaks_off}
-use Rattle.xa_log.specs.Stands.{Stands}
-use Rattle.xa_log.specs.TwoFiles.{Pair, Checkpoints, written}
+use Rattle.xa_log.specs.Believed.Chain.{newest, start, last, text, Rests}
+use Rattle.xa_log.specs.Believed.Pair.{generation, beats, IsCalm}
+use Rattle.xa_log.specs.Believed.Checkpoint.{IsOther, IsQuiet, LeavesOf, LeavesSealed, LeavesAny, Checkpointed}
+use Rattle.xa_log.specs.Believed.Damage.{breaks_off}
+use Rattle.xa_log.specs.Believed.Stands.{Stands}
+use Rattle.xa_log.specs.Believed.TwoFiles.{Pair, Checkpoints, written}
 use Rattle.xa_log.specs.declared.appending.Appended.{Appended}
 use Rattle.xa_log.specs.declared.appending.Appended.TheVariants.{Kept, Refused, Lost, Full}
-use Rattle.xa_log.specs.LogView.{LogView}
+use Rattle.xa_log.specs.Believed.LogView.{LogView}
 use Rattle.xa_log.proofs.Pair.{beats_nil, beats_above, calm_logged}
 use Rattle.xa_log.specs.Answers.{HasCause}
 use Rattle.xa_log.proofs.Append.{kept_if}

@@ -4,12 +4,12 @@ use Rattle.std.proofs.lemmas.Bool.{cases_Bool, and_left, and_from, or_left}
 use Rattle.xa_disk.specs.Disk.{Torn}
 use Rattle.xa_log.specs.declared.format.Format.{Format}
 use Rattle.xa_log.specs.declared.format.Format.TheVariants.{One, Two}
-use Rattle.xa_log.specs.Chain.{Rests, format_of, logged}
-use Rattle.xa_log.specs.Group.{IsFirstPart}
+use Rattle.xa_log.specs.Believed.Chain.{Rests, format_of, logged}
+use Rattle.xa_log.specs.Believed.Group.{IsFirstPart}
 use Rattle.xa_log.specs.Reading.{is_newer}
-use Rattle.xa_log.specs.Damage.{is_damaged}
-use Rattle.xa_log.specs.Pair.{beats, fault_pair, has_log, on_first, logged_of}
-use Rattle.xa_log.specs.Laws.{IsLogOf, BehindLaw, PairLaw, AppendLaw, HeaderLaw, SealLaw, StrayLaw}
+use Rattle.xa_log.specs.Believed.Damage.{is_damaged}
+use Rattle.xa_log.specs.Believed.Pair.{beats, fault_pair, has_log, on_first, logged_of}
+use Rattle.xa_log.specs.Believed.Laws.{IsLogOf, BehindLaw, PairLaw, AppendLaw, HeaderLaw, SealLaw, StrayLaw}
 use Rattle.xa_log.proofs.Records.{format_magic, rests_logged}
 use Rattle.xa_log.proofs.Header.{magic_known}
 use Rattle.xa_log.proofs.Pair.{calm_logged, wins_no_fault, alone_no_fault, pair_log, beats_read, beats_nil, beats_above}

@@ -5,11 +5,12 @@ use Rattle.std.proofs.lemmas.Bool.{cases_Bool, and_left, and_from, or_left, or_r
 use Rattle.std.proofs.lemmas.Bool.Decides.{nat_tests}
 use Rattle.std.proofs.lemmas.List.{drop_at, get_or-take, take-take, length-take, length-replicate}
 use Rattle.std.specs.Int.{w32, from_be_bytes}
-use Rattle.xa_log.specs.Chain.{start, last, begins, body_at, digest_at, rest_at, is_record, size_at, bodies_from, format_in, logged, text, behind_text, Rests}
-use Rattle.xa_log.specs.Damage.{is_appended, is_cut, is_snapshot, goes_on, shows_first, lost_first, breaks_behind, breaks_off, is_damaged, is_headless, AreAppended}
-use Rattle.xa_log.specs.Generation.{generation, number_in}
-use Rattle.xa_log.specs.LeftOut.{digest_left, has_own, left_out, stops_short}
-use Rattle.xa_log.specs.Pair.{has_log}
+use Rattle.xa_log.specs.Believed.Chain.{start, last, begins, body_at, digest_at, rest_at, is_record, size_at, bodies_from, format_in, logged, text, behind_text, Rests}
+use Rattle.xa_log.specs.Believed.Damage.{is_appended, is_cut, is_snapshot, goes_on, shows_first, lost_first, breaks_behind, breaks_off, is_damaged, is_headless, AreAppended}
+use Rattle.xa_log.specs.Believed.Generation.{generation, number_in}
+use Rattle.xa_log.specs.Believed.LeftOut.{digest_left, has_own, left_out, stops_short, bodies_left, written_behind}
+use Rattle.xa_log.proofs.Mend.{written_empty}
+use Rattle.xa_log.specs.Believed.Pair.{has_log}
 use Rattle.xa_log.specs.declared.format.Format.{Format}
 use Rattle.xa_log.specs.declared.format.Format.TheVariants.{One, Two}
 use Rattle.xa_log.proofs.Records.{bodies_closed, format_text, length-text, record_to, rests_logged}
@@ -102,12 +103,14 @@ pub none_left : (format : Format) (bodies : List (List ℕ)) (file : List ℕ) �
 none_left format [] file closed = refl
 none_left format (body ∷ bodies) file closed =
     let tail : List ℕ = behind_text format (body ∷ bodies) file in
+    let prev : List ℕ = last (start format) (body ∷ bodies) in
     let some : nat_le 1 (size_at tail) ≡ false = ap (λ (n : ℕ). nat_le 1 n) closed in
-    ap (λ (shown : Bool). cond shown (bodies_from format (length tail) (digest_left format (last (start format) (body ∷ bodies)) tail) (rest_at tail)) []) (and_left (nat_le 1 (size_at tail)) _ some)
+    ap (λ (x : List ℕ). bodies_left format prev x) (written_empty format prev tail closed)
+    ∙ ap (λ (shown : Bool). cond shown (bodies_from format (length tail) (digest_left format prev tail) (rest_at tail)) []) (and_left (nat_le 1 (size_at tail)) _ some)
 
 pub not_short : (format : Format) (bodies : List (List ℕ)) (file : List ℕ) → size_at (behind_text format bodies file) ≡ 0 → stops_short format bodies file ≡ false
 unfolding stops_short
-not_short format bodies file closed = ap (λ (left : List (List ℕ)). has_own (generation bodies) (36 + size_at (behind_text format bodies file)) left) (none_left format bodies file closed)
+not_short format bodies file closed = ap (λ (left : List (List ℕ)). has_own (generation bodies) (36 + size_at (written_behind format bodies file)) left) (none_left format bodies file closed)
 
 -- nor does a log break off there whose snapshot isn't cut
 behind_whole : (format : Format) (bodies : List (List ℕ)) (file : List ℕ) → size_at (behind_text format bodies file) ≡ 0 → is_cut format bodies file ≡ false → breaks_behind format bodies file ≡ false

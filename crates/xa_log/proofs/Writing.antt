@@ -8,11 +8,11 @@ use Rattle.xa_log.specs.Ahead.{ready, ready_for}
 use Rattle.xa_log.specs.Answers.{LeftWritten}
 use Rattle.xa_log.specs.Buffer.{Holds, KeepsRoom}
 use Rattle.xa_log.specs.Calls.{WritesAhead}
-use Rattle.xa_log.specs.Chain.{IsBody, last}
-use Rattle.xa_log.specs.Group.{as_one, closed, closed_by, first_of_group, group_bytes}
-use Rattle.xa_log.specs.Pair.{number_in}
+use Rattle.xa_log.specs.Believed.Chain.{IsBody, last}
+use Rattle.xa_log.specs.Believed.Group.{as_one, closed, closed_by, first_of_group, group_bytes}
+use Rattle.xa_log.specs.Believed.Pair.{number_in}
 use Rattle.xa_log.specs.Written.{HasWritten, range_of}
-use Rattle.xa_log.specs.LogView.{LogView}
+use Rattle.xa_log.specs.Believed.LogView.{LogView}
 use Rattle.xa_log.specs.declared.written.Written.{Written}
 use Rattle.xa_log.proofs.GroupSteps.{ready_same}
 use Rattle.xa_log.proofs.Grouped.{bytes_as_one, length-closed_by, range_moments}

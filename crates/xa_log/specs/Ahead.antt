@@ -3,11 +3,11 @@ use Rattle.std.specs.Prelude.{◌≡◌, ◌⊎◌, ℕ, ◌+◌, ◌-◌, ◌/�
 use Rattle.xa_disk.specs.declared.disk.Disk.{Ghosts}
 use Rattle.xa_log.specs.Answers.{Wrote}
 use Rattle.xa_log.specs.Calls.{AppendsAhead}
-use Rattle.xa_log.specs.Group.{as_one, closed, closed_by}
+use Rattle.xa_log.specs.Believed.Group.{as_one, closed, closed_by}
 use Rattle.xa_log.specs.declared.ahead.TheConstants.{READY_BYTES}
 use Rattle.xa_log.specs.declared.shortening.TheConstants.{SPARE_BYTES}
 use Rattle.xa_log.specs.declared.appending.Appended.{Appended}
-use Rattle.xa_log.specs.LogView.{LogView}
+use Rattle.xa_log.specs.Believed.LogView.{LogView}
 use Rattle.xa_limits.specs.declared.TheConstants.{AROUND_CLOSED}
 
 -- how many bytes there are from an offset up to the end of its piece, within the limit
@@ -25,17 +25,17 @@ ready from to most known =
 abbrev pub ready_for : {D : Type 0} → LogView D → ℕ → ℕ
 ready_for log n = ready log.end (log.end + AROUND_CLOSED + n) log.log_bytes log.known
 
--- where a file is cut whose log ends there, closing length included: at the end of that piece
+-- where a file is cut of which so much is to stay: at the end of that piece
 abbrev pub cut_behind : ℕ → ℕ
-cut_behind end = end + (READY_BYTES - end % READY_BYTES)
+cut_behind keep = keep + (READY_BYTES - keep % READY_BYTES)
 
--- How far a file is then known to reach: as before, or where that was far behind the log, up to the cut.
+-- How far a file is then known to reach: as before, or where that was far behind what is to stay, up to the cut.
 abbrev pub Shortens : ℕ → ℕ → ℕ → Type 0
-Shortens end was now = (now ≡ was) ⊎ ((end + SPARE_BYTES < was) × (now ≡ cut_behind end))
+Shortens keep was now = (now ≡ was) ⊎ ((keep + SPARE_BYTES < was) × (now ≡ cut_behind keep))
 
--- what was known to stand far behind the log is gone
+-- what was known to stand far behind it is gone
 abbrev pub IsCut : ℕ → ℕ → List ℕ → Type 0
-IsCut end known file = end + SPARE_BYTES < known → length file ≤ cut_behind end
+IsCut keep known file = keep + SPARE_BYTES < known → length file ≤ cut_behind keep
 
 -- A group that is kept has been written and nothing else, or where the write with zeros failed, over what it left, the
 -- records and the closing length.

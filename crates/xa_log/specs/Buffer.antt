@@ -4,7 +4,7 @@ use Rattle.std.specs.List.{AllByRecursion}
 use Rattle.xa_limits.specs.declared.TheConstants.{AROUND_BODY, AROUND_CLOSED, MOST_BODY_OF_ONE}
 use Rattle.xa_log.specs.declared.ahead.TheConstants.{READY_BYTES}
 use Rattle.xa_log.specs.declared.checkpointing.TheConstants.{CLEARED_BYTES}
-use Rattle.xa_log.specs.LogView.{LogView}
+use Rattle.xa_log.specs.Believed.LogView.{LogView}
 
 -- A record with a body of so many bytes, its closing length and the zeros that make a file ready: one that has no more
 -- than a body of format 1 always.

@@ -7,7 +7,7 @@ use Rattle.xa_disk.specs.declared.counts.Counts.{Counts}
 use Rattle.xa_disk.specs.declared.disk.Disk.{Ghosts}
 use Rattle.xa_limits.specs.declared.TheConstants.{AROUND_BODY, FIRST_OFFSET, FORMAT_BYTES, LENGTH_BYTES}
 use Rattle.xa_log.specs.Answers.{HasCause}
-use Rattle.xa_log.specs.Chain.{most_body, format_of, format_in, size_at}
+use Rattle.xa_log.specs.Believed.Chain.{most_body, format_of, format_in, size_at}
 use Rattle.xa_log.specs.declared.found.Found.{Found}
 use Rattle.xa_log.specs.declared.window.Span.{Span}
 use Rattle.xa_log.specs.declared.appending.Appended.{Appended}

@@ -1,10 +1,10 @@
 -- What stands in one of a log's two files, as it is told.
 use Rattle.std.specs.Prelude.{◌≡◌, ◌≢◌, ℕ, ◌&&◌, List, length, None, Some}
-use Rattle.xa_log.specs.Chain.{format_in, logged, text}
-use Rattle.xa_log.specs.Damage.{is_damaged, is_snapshot}
-use Rattle.xa_log.specs.LeftOut.{left_out}
+use Rattle.xa_log.specs.Believed.Chain.{Rests, format_in, logged, text}
+use Rattle.xa_log.specs.Believed.Damage.{is_damaged, is_snapshot}
+use Rattle.xa_log.specs.Believed.LeftOut.{left_out}
 use Rattle.xa_log.specs.Reading.{bodies_of, fault_of}
-use Rattle.xa_log.specs.Standing.{standing}
+use Rattle.xa_log.specs.Believed.Standing.{standing}
 use Rattle.xa_log.specs.declared.contents.Contents.{Contents}
 use Rattle.xa_log.specs.declared.contents.Contents.TheVariants.{Log, Nothing, Stray, Later, TooLong}
 use Rattle.xa_log.specs.declared.contents.LogContents.{LogContents}
@@ -19,6 +19,7 @@ left_in file = left_out (format_in file) (logged file) file
 pub record IsLogContents (file : List ℕ) (log : LogContents) : Type 0 where
   pub format : log.format ≡ format_in file
   pub bodies : bodies_of log.bodies.items ≡ logged file
+  pub rests : Rests (format_in file) (logged file) file
   pub end : log.end ≡ length (text (format_in file) (logged file))
   pub damaged : log.damaged ≡ is_damaged file
   pub cut : log.cut ≡ (is_damaged file && is_snapshot (logged file))

@@ -2,9 +2,11 @@
 use Rattle.std.specs.Prelude.{◌≡◌, ℕ, Bool, false, not, ◌&&◌, if◌then◌else◌, List, replicate, Option, Some, None}
 use Rattle.xa_disk.specs.Disk.{put}
 use Rattle.xa_limits.specs.declared.TheConstants.{FIRST_OFFSET}
+use Rattle.xa_log.specs.Believed.Chain.{logged}
 use Rattle.xa_log.specs.Contents.{IsContents}
+use Rattle.xa_log.specs.Believed.Damage.{is_damaged}
 use Rattle.xa_log.specs.Finding.{damage_of}
-use Rattle.xa_log.specs.Pair.{is_nil}
+use Rattle.xa_log.specs.Believed.Pair.{is_nil, logged_pair}
 use Rattle.xa_log.specs.Reading.{bodies_of}
 use Rattle.xa_log.specs.declared.checkpointing.TheConstants.{CLEARED_BYTES}
 use Rattle.xa_log.specs.declared.contents.Contents.{Contents}
@@ -53,3 +55,12 @@ HasEnded most first second first' second' (Some left) =
     × (left ≡ left_out left.damage a b))
     × (first' ≡ ended left.damage.on_first (end_byte left) first)
     × (second' ≡ ended (not left.damage.on_first) (end_byte left) second)
+
+-- What stands of two files, of which the damage of one was ended. That one isn't damaged any more, so what still is, is the
+-- other one. An opening takes the records that it had taken; where none of them is left, those of the other file.
+pub record IsEnded (left : LeftOut) (first second first' second' : List ℕ) : Type 0 where
+  pub sound : is_damaged (if left.damage.on_first then first' else second') ≡ false
+  pub beside : (damage : Damage) → damage_of first' second' ≡ Some damage → damage.on_first ≡ not left.damage.on_first
+  pub stands :
+      logged_pair first' second'
+      ≡ (if left.is_whole then logged (if left.damage.on_first then second else first) else logged_pair first second)

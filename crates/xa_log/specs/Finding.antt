@@ -1,9 +1,9 @@
 -- Where two files, of which one has the log, show that they were damaged.
 use Rattle.std.specs.Prelude.{ℕ, ◌+◌, Bool, true, false, if◌then◌else◌, List, length, Option, Some, None}
 use Rattle.xa_limits.specs.declared.TheConstants.{FIRST_OFFSET}
-use Rattle.xa_log.specs.Chain.{format_in, logged, text}
-use Rattle.xa_log.specs.Damage.{is_headless}
-use Rattle.xa_log.specs.Pair.{on_first, current_of, is_broken}
+use Rattle.xa_log.specs.Believed.Chain.{format_in, logged, text}
+use Rattle.xa_log.specs.Believed.Damage.{is_headless}
+use Rattle.xa_log.specs.Believed.Pair.{on_first, current_of, is_broken}
 use Rattle.xa_log.specs.declared.finding.Damage.{Damage}
 
 -- at a file's first record

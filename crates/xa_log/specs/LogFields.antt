@@ -1,7 +1,7 @@
 -- How a log's fields are what its contracts speak of.
 use Rattle.std.specs.Prelude.{◌+◌, ◌≤◌, length}
 use Rattle.xa_limits.specs.declared.TheConstants.{AROUND_CLOSED, MOST_BODY}
-use Rattle.xa_log.specs.LogView.{LogView}
+use Rattle.xa_log.specs.Believed.LogView.{LogView}
 use Rattle.xa_log.specs.declared.ahead.TheConstants.{READY_BYTES}
 use Rattle.xa_log.specs.declared.log.Log.TheInside.{Inside}
 use Rattle.xa_log.specs.declared.window.TheConstants.{WINDOW}

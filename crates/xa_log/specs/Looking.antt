@@ -6,11 +6,11 @@ use Rattle.xa_log.specs.declared.looking.Front.{Front}
 use Rattle.xa_log.specs.declared.heads.Head.{Head}
 use Rattle.xa_log.specs.declared.found.Found.{Found}
 use Rattle.xa_log.specs.declared.reading.Scan.{Scan}
-use Rattle.xa_log.specs.Chain.{start, format_of}
-use Rattle.xa_log.specs.Damage.{is_headless}
+use Rattle.xa_log.specs.Believed.Chain.{start, format_of}
+use Rattle.xa_log.specs.Believed.Damage.{is_headless}
 use Rattle.xa_log.specs.Calls.{FetchedWithin, FetchedNext}
 use Rattle.xa_log.specs.Reading.{is_newer, Finds, Fits, IsScan}
-use Rattle.xa_log.specs.Pair.{number_in, generation, is_nil, has_log, on_first}
+use Rattle.xa_log.specs.Believed.Pair.{number_in, generation, is_nil, has_log, on_first}
 use Rattle.xa_log.specs.Window.{Caches}
 use Rattle.xa_limits.specs.declared.TheConstants.{FIRST_OFFSET, FORMAT_BYTES}
 use Rattle.xa_log.specs.declared.window.TheConstants.{WINDOW}

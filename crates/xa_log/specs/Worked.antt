@@ -3,10 +3,10 @@
 use Rattle.std.specs.Prelude.{◌≡◌, List, [], ◌∷◌, ◌++◌, ℕ, true, false, Some, None, take, slice_set}
 use Rattle.xa_log.specs.declared.fault.OpenFault.TheVariants.{NotALog, TooNew, TooLong, Damaged}
 use Rattle.xa_log.specs.declared.format.Format.TheVariants.{One, Two}
-use Rattle.xa_log.specs.Chain.{magic, start, record_of, preamble, logged}
-use Rattle.xa_log.specs.LeftOut.{has_own, is_own, left_out}
-use Rattle.xa_log.specs.Pair.{beats, on_first, logged_pair, pair_fault}
-use Rattle.xa_log.specs.Unfit.{unfit_of}
+use Rattle.xa_log.specs.Believed.Chain.{magic, start, record_of, preamble, logged}
+use Rattle.xa_log.specs.Believed.LeftOut.{has_own, is_own, left_out}
+use Rattle.xa_log.specs.Believed.Pair.{beats, on_first, logged_pair, pair_fault}
+use Rattle.xa_log.specs.Believed.Unfit.{unfit_of}
 use Rattle.xa_log.specs.declared.unfit.Unfit.TheVariants.{Neither, MissingFirst, MissingSecond, StrayFirst, StraySecond}
 
 abbrev pub opened : List ℕ
@@ -163,13 +163,15 @@ LostFirst =
 abbrev pub three_records : List ℕ
 three_records = torn_behind known ++ 0 ∷ 0 ∷ 0 ∷ 0 ∷ []
 
--- Of the second record one byte changed: the third one is found, behind a body and behind a digest that isn't its own, but not
--- behind a length of 0, or of one byte less. The log of all three leaves nothing out.
+-- Of the second record one byte changed: the third one is found, behind a body and behind a digest that isn't its own, and
+-- behind a length of one byte less, which differs in a bit; not behind one that differs in two, or of 0. The log of all three
+-- leaves nothing out.
 abbrev pub LeftBehind : Type 0
 LeftBehind =
     (left_out Two (again ∷ []) (slice_set three_records 60 171) ≡ known ∷ [])
     × (left_out Two (again ∷ []) (slice_set three_records 78 197) ≡ known ∷ [])
-    × (left_out Two (again ∷ []) (slice_set three_records 52 0) ≡ []) × (left_out Two (again ∷ []) (slice_set three_records 52 24) ≡ [])
+    × (left_out Two (again ∷ []) (slice_set three_records 52 24) ≡ known ∷ [])
+    × (left_out Two (again ∷ []) (slice_set three_records 52 26) ≡ []) × (left_out Two (again ∷ []) (slice_set three_records 52 0) ≡ [])
     × (left_out Two (again ∷ held ∷ known ∷ []) three_records ≡ [])
 
 -- A branch prepared in the first boot is the own one of a log of the first generation, not of the second; a snapshot's record is

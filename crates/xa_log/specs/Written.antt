@@ -11,15 +11,15 @@ use Rattle.xa_log.specs.Ahead.{AppendsBy, IsKnown, Writes, ready_for}
 use Rattle.xa_log.specs.Answers.{LeftWritten}
 use Rattle.xa_log.specs.Buffer.{KeepsRoom}
 use Rattle.xa_log.specs.Calls.{WritesAhead}
-use Rattle.xa_log.specs.Chain.{IsBody, last}
-use Rattle.xa_log.specs.Damage.{AreAppended}
-use Rattle.xa_log.specs.Group.{as_one, closed, closed_by, first_of_group, group_bytes}
-use Rattle.xa_log.specs.Pair.{number_in}
-use Rattle.xa_log.specs.Stands.{Answers, Leaves, Moves, Renumbers, Stands}
-use Rattle.xa_log.specs.TwoFiles.{AppendsTo, Pair}
+use Rattle.xa_log.specs.Believed.Chain.{IsBody, last}
+use Rattle.xa_log.specs.Believed.Damage.{AreAppended}
+use Rattle.xa_log.specs.Believed.Group.{as_one, closed, closed_by, first_of_group, group_bytes}
+use Rattle.xa_log.specs.Believed.Pair.{number_in}
+use Rattle.xa_log.specs.Believed.Stands.{Answers, Leaves, Moves, Renumbers, Stands}
+use Rattle.xa_log.specs.Believed.TwoFiles.{AppendsTo, Pair}
 use Rattle.xa_log.specs.declared.appending.Appended.{Appended}
 use Rattle.xa_log.specs.declared.appending.Appended.TheVariants.{Full, Kept}
-use Rattle.xa_log.specs.LogView.{LogView}
+use Rattle.xa_log.specs.Believed.LogView.{LogView}
 use Rattle.xa_log.specs.declared.written.Written.{Written}
 
 -- what its write was answered

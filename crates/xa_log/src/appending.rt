@@ -4,8 +4,8 @@ ghost use Rattle.xa_disk.specs.Counts.{with_sync};
 ghost use Rattle.xa_disk.specs.Disk.{put, Torn, Same, Only, CountsFault};
 ghost use Rattle.xa_disk.specs.Time.{TimePasses};
 ghost use Rattle.std.specs.List.{AllByRecursion};
-ghost use Rattle.xa_log.specs.Chain.{last};
-ghost use Rattle.xa_log.specs.Group.{bodies_in, closed, closed_by, group_bytes};
+ghost use Rattle.xa_log.specs.Believed.Chain.{last};
+ghost use Rattle.xa_log.specs.Believed.Group.{bodies_in, closed, closed_by, group_bytes};
 ghost use Rattle.xa_log.specs.Answers.{PutBecame, Wrote, PutAheadBecame, FailedPut, FailedPutAhead, HasCause, LeftWritten};
 ghost use Rattle.xa_log.specs.Calls.{PutCalls, WritesAhead, AppendCalls, AppendsAhead, SettlesBy};
 

@@ -6,14 +6,15 @@ ghost use Rattle.std.specs.List.{AllByRecursion};
 ghost use Rattle.xa_disk.specs.Disk.{put, Torn, Only, CountsFault};
 ghost use Rattle.xa_disk.specs.{Time.TimePasses, Time.LeavesOnly, Counts.with_write};
 ghost use Rattle.xa_log.specs.declared.format.Format.{Format};
-ghost use Rattle.xa_log.specs.Chain.{start, preamble, last, digest, text, behind_text, IsBody};
+ghost use Rattle.xa_log.specs.Believed.Chain.{start, preamble, last, digest, text, behind_text, IsBody};
 ghost use Rattle.xa_log.specs.Answers.{PutBecame, FailedPut, HasCause};
 ghost use Rattle.xa_log.specs.Buffer.{EachFits};
 ghost use Rattle.xa_log.specs.Calls.{PutCalls, RecordsCalls, AppendCalls, CheckpointCalls};
 ghost use Rattle.xa_log.specs.{Ahead.IsCut, Ahead.Shortens};
-ghost use Rattle.xa_log.specs.Pair.{IsCalm, CalmTears};
-ghost use Rattle.xa_log.specs.Checkpoint.{behind_preamble, bytes_behind, tailed, records_bytes, behind_front, first_length, IsComplete, IsTailed};
-ghost use Rattle.xa_log.specs.Checkpoint.{IsOther, LeavesOf, LeavesNone, LeavesSealed, LeavesAny, Checkpointed};
+ghost use Rattle.xa_log.specs.Believed.Pair.{IsCalm, CalmTears};
+ghost use Rattle.xa_log.specs.Believed.Checkpoint.{behind_preamble, bytes_behind, tailed, records_bytes};
+ghost use Rattle.xa_log.specs.Believed.Checkpoint.{behind_front, first_length, IsComplete, IsTailed};
+ghost use Rattle.xa_log.specs.Believed.Checkpoint.{IsOther, LeavesOf, LeavesNone, LeavesSealed, LeavesAny, Checkpointed};
 
 use crate::appending::{Appended, put_or_clear, put_synced};
 use crate::format::{Format, PREAMBLE_BYTES};
@@ -165,16 +166,16 @@ pub(crate) fn put_seal<D: Disk>(disk: &mut D, size: u32) -> Appended
     put_or_clear(disk, FIRST_OFFSET, &mut bytes)
 }
 
-// The three parts, for a log that ends at `end`, closing length included. Gives the last record's digest, if the checkpoint
-// is kept. Between the first and the second one the file is cut if it is known to reach far behind that end: it has no record
-// then, whatever a crash leaves of the cut, and the second part's sync makes it last.
+// The three parts. Gives the last record's digest, if the checkpoint is kept. Between the first and the second one the file is
+// cut if it is known to reach far behind `keep` bytes, in which the log has room: it has no record then, whatever a crash leaves
+// of the cut, and the second part's sync makes it last.
 pub(crate) fn checkpoint_on<D: Disk>(
     disk: &mut D,
     format: Format,
     buffer: &mut [u8],
     bodies: &[SharedBytes],
     more: usize,
-    end: u64,
+    keep: u64,
     known: &mut u64,
 ) -> (Appended, [u8; DIGEST_BYTES])
     requires room { EachFits (length buffer.old) bodies.now }
@@ -182,7 +183,7 @@ pub(crate) fn checkpoint_on<D: Disk>(
     requires sizes { AllByRecursion (IsBody format) bodies.now }
     requires few { LENGTH_BYTES + more ≤ CLEARED_BYTES }
     requires fits { PREAMBLE_BYTES + (records_bytes format bodies.now + more) < 2 ^ 64 }
-    requires end { end ≡ PREAMBLE_BYTES + records_bytes format bodies.now }
+    requires keep { PREAMBLE_BYTES + records_bytes format bodies.now ≤ keep }
     ensures digest { result.0 ≡ Appended.Kept → result.1 ≡ last (start format) bodies.now }
     ensures answer { D.honest → (most : ℕ) (stood : List (List ℕ))
         → PREAMBLE_BYTES + (records_bytes format bodies.now + more) ≤ most → IsTailed more most format bodies.now
@@ -193,8 +194,8 @@ pub(crate) fn checkpoint_on<D: Disk>(
         → IsOther D.Disk most stood disk.old
         → LeavesOnly D.Disk disk.old disk.new (LeavesAny most format stood bodies.now) }
     ensures known { D.honest → known.old ≤ length (D.seen disk.old) → known.new ≤ length (D.seen disk.new) }
-    ensures shortens { Shortens end known.old known.new }
-    ensures cut { D.honest → D.shortens → result.0 ≡ Appended.Kept → IsCut end known.old (D.seen disk.new) }
+    ensures shortens { Shortens keep known.old known.new }
+    ensures cut { D.honest → D.shortens → result.0 ≡ Appended.Kept → IsCut keep known.old (D.seen disk.new) }
     ensures reaches { D.honest → result.0 ≡ Appended.Kept
         → PREAMBLE_BYTES + (records_bytes format bodies.now + more) ≤ length (D.seen disk.new) }
     ensures cleared { D.honest → result.0 ≡ Appended.Kept
@@ -208,7 +209,7 @@ pub(crate) fn checkpoint_on<D: Disk>(
         Ok(()) => {}
         Err(_) => return (Appended::Refused, [0; DIGEST_BYTES]),
     }
-    *known = shorten(disk, end, *known);
+    *known = shorten(disk, keep, *known);
     match put_records(disk, format, buffer, bodies, more) {
         Ok(digest) => {
             let outcome = put_seal(disk, bodies[0].len() as u32);

@@ -1,10 +1,10 @@
 //! What stands in one of a log's two files, read whole: a log, or what it is instead.
 ghost use Rattle.std.specs.Prelude.{◌≡◌, ◌⊎◌, ◌&&◌, List, ℕ, IfErr, IfOk};
 ghost use Rattle.xa_disk.specs.{Disk.Same, Time.TimePasses};
-ghost use Rattle.xa_log.specs.Chain.{logged};
+ghost use Rattle.xa_log.specs.Believed.Chain.{logged};
 ghost use Rattle.xa_log.specs.Contents.{IsContents, IsNoLog};
 ghost use Rattle.xa_log.specs.Reading.{Explains, IsScan, bodies_of, fault_of};
-ghost use Rattle.xa_log.specs.{Damage.is_damaged, Damage.is_snapshot, Contents.IsLogContents};
+ghost use Rattle.xa_log.specs.{Believed.Damage.is_damaged, Believed.Damage.is_snapshot, Contents.IsLogContents};
 
 use crate::OpenFault;
 use crate::damage::are_snapshot;

@@ -1,8 +1,9 @@
 //! Where a log's bytes show that they were damaged.
 ghost use Rattle.std.specs.Prelude.{◌≡◌, ◌⊎◌, ◌+◌, ◌≤◌, List, ℕ, [], length, slice_index};
-ghost use Rattle.xa_log.specs.Damage.{breaks_behind, goes_on, is_appended, is_cut, is_renamed, is_snapshot, lost_first, shows_first};
-ghost use Rattle.xa_log.specs.{Behind.IsBehind, Chain.behind_text, Reading.bodies_of, Shown.IsLeftOut};
-ghost use Rattle.xa_log.specs.{Generation.generation, LeftOut.has_own};
+ghost use Rattle.xa_log.specs.Believed.Damage.{breaks_behind, goes_on, is_appended, is_cut};
+ghost use Rattle.xa_log.specs.Believed.Damage.{is_renamed, is_snapshot, lost_first, shows_first};
+ghost use Rattle.xa_log.specs.{Behind.IsBehind, Believed.Chain.behind_text, Reading.bodies_of, Shown.IsLeftOut};
+ghost use Rattle.xa_log.specs.{Believed.Generation.generation, Believed.LeftOut.has_own};
 ghost use Rattle.xa_limits.specs.declared.TheConstants.{LENGTH_BYTES};
 ghost use Rattle.xa_log.specs.declared.format.Format.TheVariants.{Two};
 ghost use Rattle.xa_log.specs.declared.looking.TheConstants.{NUMBER_END};

@@ -1,8 +1,8 @@
 //! Ending a damaged log before what isn't as it was written, so that what stands is opened.
-ghost use Rattle.std.specs.Prelude.{◌≡◌, IfOk, OnErr, OnOk, not};
+ghost use Rattle.std.specs.Prelude.{◌≡◌, IfOk, IfSome, OnErr, OnOk, not};
 ghost use Rattle.xa_disk.specs.Disk.{CountsFault, Only, Torn, put};
 ghost use Rattle.xa_disk.specs.Time.{TimePasses};
-ghost use Rattle.xa_log.specs.Ending.{HasEnded, cleared, end_byte, ended, has_records, is_cut_in, left_out};
+ghost use Rattle.xa_log.specs.Ending.{HasEnded, IsEnded, cleared, end_byte, ended, has_records, is_cut_in, left_out};
 
 use crate::OpenFault;
 use crate::appending::put_synced;
@@ -24,7 +24,8 @@ pub struct LeftOut {
 }
 
 /// Ends a log that is damaged before what isn't as it was written, if it is: of what `find_damage` finds. Where that is
-/// in a snapshot, and the other file has records, no record of the snapshot is left. The other file isn't written to.
+/// in a snapshot, and the other file has records, no record of the snapshot is left. The other file isn't written to. The one
+/// that was damaged isn't any more.
 /// Where this fails, the file may still be damaged, and nothing before the damage has changed, or all of it is to be left
 /// out.
 pub fn end_damage<D: Disk>(
@@ -33,8 +34,10 @@ pub fn end_damage<D: Disk>(
     second: &mut D,
     log_bytes: u64,
 ) -> Result<Option<LeftOut>, OpenFault>
-    ensures { D.honest → IfOk result (HasEnded log_bytes (D.seen first.old) (D.seen second.old)
+    ensures ended { D.honest → IfOk result (HasEnded log_bytes (D.seen first.old) (D.seen second.old)
         (D.seen first.new) (D.seen second.new)) }
+    ensures whole { D.honest → IfOk result (λ left. IfSome left (λ left. IsEnded left (D.seen first.old) (D.seen second.old)
+        (D.seen first.new) (D.seen second.new))) }
 {
     let Some(damage) = find_damage(alloc, first, second, log_bytes)? else {
         return Ok(None);

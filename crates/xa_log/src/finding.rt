@@ -1,9 +1,10 @@
 //! Where a log's two files show that they were damaged.
-ghost use Rattle.std.specs.Prelude.{◌≡◌, false, List, ℕ, length, MatchResult, None, Some, if◌then◌else◌};
+ghost use Rattle.std.specs.Prelude.{◌≡◌, false, List, ℕ, length, IfOk, MatchResult, None, Some, is_some, if◌then◌else◌};
 ghost use Rattle.xa_disk.specs.{Disk.Same, Time.TimePasses};
 ghost use Rattle.xa_log.specs.Answers.{CountsDeviceOf};
-ghost use Rattle.xa_log.specs.{Damage.is_damaged, Damage.is_headless, Finding.at_first, Finding.behind_last, Finding.damage_of};
-ghost use Rattle.xa_log.specs.{Pair.pair_fault, Reading.Ends, Reading.Explains, Reading.IsScan};
+ghost use Rattle.xa_log.specs.{Believed.Damage.is_damaged, Believed.Damage.is_headless};
+ghost use Rattle.xa_log.specs.{Finding.at_first, Finding.behind_last, Finding.damage_of};
+ghost use Rattle.xa_log.specs.{Believed.Pair.pair_fault, Reading.Ends, Reading.Explains, Reading.IsScan};
 ghost use Rattle.xa_log.specs.declared.window.TheConstants.{WINDOW};
 
 use crate::OpenFault;
@@ -38,6 +39,9 @@ pub fn find_damage<D: Disk>(
     ensures value { D.honest
         → MatchResult result (λ damage. damage ≡ damage_of (D.seen first.old) (D.seen second.old))
         (λ e. Explains e (pair_fault log_bytes (D.seen first.old) (D.seen second.old))) }
+    ensures fault { D.honest
+        → IfOk result (λ damage. pair_fault log_bytes (D.seen first.old) (D.seen second.old)
+        ≡ (if is_some damage then Some OpenFault.Damaged else None)) }
     ensures same { D.honest → D.seen first.new ≡ D.seen first.old }
     ensures same_second { D.honest → D.seen second.new ≡ D.seen second.old }
     ensures time { D.honest → TimePasses D.Disk Same first.old first.new }
@@ -70,6 +74,9 @@ fn find_by<D: Disk>(
     ensures value { D.honest
         → MatchResult result (λ damage. damage ≡ damage_of (D.seen first.old) (D.seen second.old))
         (λ e. Explains e (pair_fault log_bytes (D.seen first.old) (D.seen second.old))) }
+    ensures fault { D.honest
+        → IfOk result (λ damage. pair_fault log_bytes (D.seen first.old) (D.seen second.old)
+        ≡ (if is_some damage then Some OpenFault.Damaged else None)) }
     ensures same { D.honest → D.seen first.new ≡ D.seen first.old }
     ensures same_second { D.honest → D.seen second.new ≡ D.seen second.old }
     ensures time { D.honest → TimePasses D.Disk Same first.old first.new }

@@ -1,6 +1,6 @@
 ghost use Rattle.std.specs.Prelude.{◌≡◌, ◌≤◌, length, MatchResult, Some};
-ghost use Rattle.xa_log.specs.Chain.{magic, newest, start, preamble, format_of, format_number, most_body};
-ghost use Rattle.xa_log.specs.{Damage.other_than, Reading.front_fault};
+ghost use Rattle.xa_log.specs.Believed.Chain.{magic, newest, start, preamble, format_of, format_number, most_body};
+ghost use Rattle.xa_log.specs.{Believed.Damage.other_than, Reading.front_fault};
 
 use crate::OpenFault;
 use sha2::{Digest, Sha256};

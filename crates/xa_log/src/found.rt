@@ -3,9 +3,10 @@ ghost use Rattle.std.specs.Prelude.{◌≡◌, ◌≢◌, ◌⊎◌, ◌+◌, �
 ghost use Rattle.std.specs.Int.{w32, to_be_bytes};
 ghost use Rattle.xa_disk.specs.{Disk.Same, Disk.CountsFault, Time.TimePasses, declared.counts.Counts.Counts};
 ghost use Rattle.xa_log.specs.Answers.{CountsDevice};
-ghost use Rattle.xa_log.specs.Calls.{Fetched, FetchedWithin, FetchedUpto, FetchedNext, Reaches, ReachesTo};
-ghost use Rattle.xa_log.specs.{Chain.is_record, Chain.most_body, Chain.size_at, Reading.Finds, Reading.Fits};
-ghost use Rattle.xa_log.specs.Shown.{IsShown, Shows, FetchedShown, as_found};
+ghost use Rattle.xa_log.specs.Calls.{Fetched, FetchedWithin, FetchedUpto, Reaches, ReachesTo};
+ghost use Rattle.xa_log.specs.{Believed.Chain.is_record, Believed.Chain.most_body};
+ghost use Rattle.xa_log.specs.{Believed.Chain.size_at, Reading.Finds, Reading.Fits};
+ghost use Rattle.xa_log.specs.Shown.{IsShown, IsShownSize, Shows, FetchedShown, FetchedSize, FitsSize, as_found};
 ghost use Rattle.xa_log.specs.Window.{Caches, Covers, Ahead};
 
 use crate::OpenFault;
@@ -243,7 +244,7 @@ fn read_body<D: Disk>(
 }
 
 // The record that is shown at an offset, with a body of this size. A window has its length.
-fn shown_at<D: Disk>(
+pub(crate) fn shown_at<D: Disk>(
     alloc: Global,
     disk: &mut D,
     window: &mut [u8],
@@ -263,6 +264,7 @@ fn shown_at<D: Disk>(
     ensures shown { D.honest → Caches (D.seen disk.old) window.old span
         → take LENGTH_BYTES (drop at (D.seen disk.old)) ≡ to_be_bytes w32 size
         → IfOk result (IsShown (D.seen disk.old) at window.new) }
+    ensures long { IfOk result (λ s. length s.body.items ≡ size) }
     ensures fits { (format : Format) → size ≤ most_body format
         → IfOk result (λ s. Fits format at len WINDOW (as_found s)) }
     ensures same { D.honest → D.seen disk.new ≡ D.seen disk.old }
@@ -279,6 +281,46 @@ fn shown_at<D: Disk>(
     let mut stored = [0; DIGEST_BYTES];
     stored.copy_from_slice(&window[tail..tail + DIGEST_BYTES]);
     Ok(Shown { body, stored, span })
+}
+
+// The size of the body of the record that is shown at an offset of a file of this format, 0 where none is, and what a window
+// has then.
+pub(crate) fn shown_size<D: Disk>(
+    disk: &mut D,
+    window: &mut [u8],
+    span: Span,
+    at: u64,
+    len: u64,
+    format: Format,
+) -> Result<(usize, Span), DiskFault>
+    requires room { length window.old ≡ WINDOW }
+    requires within { at ≤ len }
+    requires held { span.have ≤ WINDOW }
+    requires begins { span.from ≤ at }
+    requires reaches { at ≤ span.from + span.have }
+    requires inside { span.from + span.have ≤ len }
+    ensures size { D.honest → len ≡ length (D.seen disk.old) → Caches (D.seen disk.old) window.old span
+        → IfOk result (λ r. IsShownSize format (D.seen disk.old) at window.new r.0 r.1) }
+    ensures fits { IfOk result (λ r. FitsSize format at len r.0 r.1) }
+    ensures same { D.honest → D.seen disk.new ≡ D.seen disk.old }
+    ensures time { D.honest → TimePasses D.Disk Same disk.old disk.new }
+    ensures count { CountsFault result (D.failures disk.old) (D.failures disk.new) }
+    ensures fetched { (start : Counts) (most : ℕ) → Fetched len (span.from + span.have) start (D.counts disk.old)
+        → Reaches (λ size. D.honest → len ≡ length (D.seen disk.old) → Caches (D.seen disk.old) window.old span
+        → size ≡ size_at (drop at (D.seen disk.old))) (most_body format) len at (span.from + span.have) most
+        → MatchResult result (λ r. FetchedSize len most at r.0 start (D.counts disk.new) r.1)
+        (λ _. FetchedWithin len most start (D.counts disk.new)) }
+{
+    if len - at < AROUND_BODY as u64 {
+        return Ok((0, span));
+    }
+    let span = fill(disk, window, span, at, LENGTH_BYTES, len)?;
+    let begin = (at - span.from) as usize;
+    let size = size_of(&window[begin..begin + LENGTH_BYTES]);
+    if size > format.most_body() || len - at < AROUND_BODY as u64 + size as u64 {
+        return Ok((0, span));
+    }
+    Ok((size, span))
 }
 
 // The record that is shown at an offset of a file of this format, whether or not it chains, if one is.
@@ -311,13 +353,8 @@ pub(crate) fn next_shown<D: Disk>(
         → MatchResult result (FetchedShown len most start (D.counts disk.new))
         (λ _. FetchedWithin len most start (D.counts disk.new)) }
 {
-    if len - at < AROUND_BODY as u64 {
-        return Ok(None);
-    }
-    let span = fill(disk, window, span, at, LENGTH_BYTES, len)?;
-    let begin = (at - span.from) as usize;
-    let size = size_of(&window[begin..begin + LENGTH_BYTES]);
-    if size == 0 || size > format.most_body() || len - at < AROUND_BODY as u64 + size as u64 {
+    let (size, span) = shown_size(disk, window, span, at, len, format)?;
+    if size == 0 {
         return Ok(None);
     }
     let shown = shown_at(alloc, disk, window, span, at, size, len)?;
@@ -339,41 +376,5 @@ pub(crate) fn chain_on(shown: Shown, prev: &[u8; DIGEST_BYTES]) -> Result<Found,
             span: shown.span,
         }),
         None => Err(shown),
-    }
-}
-
-// The record that stands at an offset of a file of this format, if one does that chains.
-pub(crate) fn next_record<D: Disk>(
-    alloc: Global,
-    disk: &mut D,
-    window: &mut [u8],
-    span: Span,
-    at: u64,
-    len: u64,
-    format: Format,
-    prev: &[u8; DIGEST_BYTES],
-) -> Result<Option<Found>, OpenFault>
-    requires room { length window.old ≡ WINDOW }
-    requires within { at ≤ len }
-    requires held { span.have ≤ WINDOW }
-    requires begins { span.from ≤ at }
-    requires reaches { at ≤ span.from + span.have }
-    requires inside { span.from + span.have ≤ len }
-    ensures finds { D.honest → len ≡ length (D.seen disk.old) → Caches (D.seen disk.old) window.old span
-        → IfOk result (Finds format prev.now (D.seen disk.old) at window.new) }
-    ensures fits { IfOk result (λ o. IfSome o (Fits format at len WINDOW)) }
-    ensures same { D.honest → D.seen disk.new ≡ D.seen disk.old }
-    ensures time { D.honest → TimePasses D.Disk Same disk.old disk.new }
-    ensures count { CountsDevice result (D.failures disk.old) (D.failures disk.new) }
-    ensures kinds { IfErr result (λ e. (e ≡ OpenFault.Device) ⊎ (e ≡ OpenFault.Memory)) }
-    ensures fetched { (start : Counts) (most : ℕ) → Fetched len (span.from + span.have) start (D.counts disk.old)
-        → Reaches (λ size. D.honest → len ≡ length (D.seen disk.old) → Caches (D.seen disk.old) window.old span
-        → size ≡ size_at (drop at (D.seen disk.old))) (most_body format) len at (span.from + span.have) most
-        → MatchResult result (FetchedNext len most start (D.counts disk.new))
-        (λ _. FetchedWithin len most start (D.counts disk.new)) }
-{
-    match next_shown(alloc, disk, window, span, at, len, format)? {
-        None => Ok(None),
-        Some(shown) => Ok(chain_on(shown, prev).ok()),
     }
 }

@@ -1,6 +1,6 @@
 //! A log's generation: the number in its first body.
 ghost use Rattle.std.specs.Prelude.{◌≡◌, ◌==◌, if◌then◌else◌};
-ghost use Rattle.xa_log.specs.{Pair.number_in, Pair.generation, Reading.bodies_of};
+ghost use Rattle.xa_log.specs.{Believed.Pair.number_in, Believed.Pair.generation, Reading.bodies_of};
 
 use crate::looking::number_of;
 use xa_limits::FIRST_OFFSET;

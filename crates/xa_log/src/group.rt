@@ -1,8 +1,8 @@
 //! What is appended together: the bodies of a group, of one or more.
 ghost use Rattle.std.specs.Prelude.{◌≡◌, ◌+◌, ◌≤◌, ◌<◌, ◌++◌, length, take, IfSome, IfNone};
 ghost use Rattle.std.specs.List.{AllByRecursion};
-ghost use Rattle.xa_log.specs.Chain.{closing, digest, last, record_of};
-ghost use Rattle.xa_log.specs.Group.{bodies_in, closed, first_of_group, group_bytes};
+ghost use Rattle.xa_log.specs.Believed.Chain.{closing, digest, last, record_of};
+ghost use Rattle.xa_log.specs.Believed.Group.{bodies_in, closed, first_of_group, group_bytes};
 ghost use Rattle.xa_log.specs.Reading.{bodies_of};
 
 use crate::record::{encode, overlay};

@@ -3,14 +3,15 @@ ghost use Rattle.std.specs.Prelude.{◌≡◌, ◌⊎◌, ◌||◌, ◌+◌, Lis
 ghost use Rattle.xa_disk.specs.{Disk.Same, Time.TimePasses, declared.counts.Counts.Counts};
 ghost use Rattle.xa_log.specs.Answers.{CountsDevice, CountsDeviceOf};
 ghost use Rattle.xa_log.specs.Calls.{Fetched, FetchedWithin, MOST_BRIEF, brief};
-ghost use Rattle.xa_log.specs.{Damage.is_headless, Pair.generation};
+ghost use Rattle.xa_log.specs.{Believed.Damage.is_headless, Believed.Pair.generation};
 ghost use Rattle.xa_log.specs.Looking.{IsFront, HasFront, Tells, IsHead, HasHead, FetchedHead};
 ghost use Rattle.xa_log.specs.declared.window.TheConstants.{WINDOW};
 
 use crate::OpenFault;
+use crate::chaining::next_record;
 use crate::damage::{BOOT_RECORD, is_lost_first};
 use crate::format::Format;
-use crate::found::{Found, next_record};
+use crate::found::Found;
 use crate::looking::{Front, number_of};
 use std::alloc::Global;
 use xa_disk::Disk;

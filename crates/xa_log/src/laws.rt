@@ -1,7 +1,9 @@
 //! What can be said of every log, and of logs on disks in memory.
 ghost use Rattle.std.specs.Prelude.{List, ℕ};
-ghost use Rattle.xa_log.specs.{Group.NoChance, Group.PlainByBody, Pair.CalmTears, Checkpoint.SealTears};
-ghost use Rattle.xa_log.specs.Laws.{BehindLaw, PairLaw, AppendLaw, HeaderLaw, SealLaw, OpenedLaw, StrayLaw, StaleLaw, MixedLaw, TailLaw};
+ghost use Rattle.xa_log.specs.{Believed.Group.NoChance, Believed.Group.PlainByBody};
+ghost use Rattle.xa_log.specs.{Believed.Pair.CalmTears, Believed.Checkpoint.SealTears};
+ghost use Rattle.xa_log.specs.Believed.Laws.{BehindLaw, PairLaw, AppendLaw, HeaderLaw, SealLaw};
+ghost use Rattle.xa_log.specs.Believed.Laws.{OpenedLaw, StrayLaw, StaleLaw, MixedLaw, TailLaw};
 
 use xa_disk::{Disk, MemDisk};
 

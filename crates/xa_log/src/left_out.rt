@@ -3,19 +3,21 @@ ghost use Rattle.std.specs.Prelude.{◌≡◌, ◌⊎◌, ◌+◌, ◌≤◌, Li
 ghost use Rattle.xa_disk.specs.{Disk.Same, Time.TimePasses, declared.counts.Counts.Counts};
 ghost use Rattle.xa_log.specs.{Answers.CountsDevice, Window.Caches};
 ghost use Rattle.xa_log.specs.Calls.{Fetched, FetchedNext, FetchedSome};
-ghost use Rattle.xa_log.specs.Chain.{bodies_from, is_record};
-ghost use Rattle.xa_log.specs.LeftOut.{has_own, is_own};
+ghost use Rattle.xa_log.specs.Believed.Chain.{bodies_from, is_record};
+ghost use Rattle.xa_log.specs.Believed.LeftOut.{as_written, has_own, is_own, shows_long, with_size};
 ghost use Rattle.xa_log.specs.Reading.{Finds, Fits, bodies_of};
-ghost use Rattle.xa_log.specs.Shown.{IsLeft, Shows, as_found};
+ghost use Rattle.xa_log.specs.Shown.{IsLeft, IsMended, Shows, as_found};
 
 use crate::OpenFault;
+use crate::chaining::{Next, next_at, next_record};
 use crate::format::Format;
-use crate::found::{Found, Shown, chain_on, next_record, next_shown};
+use crate::found::{Found, Shown, chain_on, next_shown};
+use crate::mending::{Mended, find_mended};
 use crate::record::{digest_of, size_of};
 use crate::window::{Span, WINDOW};
 use std::alloc::Global;
 use xa_disk::Disk;
-use xa_limits::{AROUND_BODY, DIGEST_BYTES, MOST_BODY};
+use xa_limits::{AROUND_BODY, DIGEST_BYTES, MOST_BODY, MOST_BODY_OF_ONE};
 
 /// The most bytes of a group of two records or more, with its closing length. What stands farther behind a record was
 /// appended after the sync of its group.
@@ -185,8 +187,110 @@ pub(crate) fn read_left<D: Disk>(
     Ok(Left { distance, bodies })
 }
 
+// What chains behind the record at an offset, if with this length it is one.
+fn read_mended<D: Disk>(
+    alloc: Global,
+    disk: &mut D,
+    window: &mut [u8],
+    span: Span,
+    at: u64,
+    len: u64,
+    format: Format,
+    mended: &Mended,
+) -> Result<Left, OpenFault>
+    requires room { length window.old ≡ WINDOW }
+    requires small { mended.now.size ≤ MOST_BODY_OF_ONE }
+    requires within { at + (AROUND_BODY + mended.now.size) ≤ len }
+    requires held { span.have ≤ WINDOW }
+    requires begins { span.from ≤ at }
+    requires reaches { at + (AROUND_BODY + mended.now.size) ≤ span.from + span.have }
+    requires inside { span.from + span.have ≤ len }
+    ensures left { (prev : List ℕ) → D.honest → len ≡ length (D.seen disk.old)
+        → Caches (D.seen disk.old) window.old span → IsMended format prev (drop at (D.seen disk.old)) mended.now
+        → IfOk result (IsLeft format prev (with_size mended.now.size (drop at (D.seen disk.old)))) }
+    ensures same { D.honest → D.seen disk.new ≡ D.seen disk.old }
+    ensures time { D.honest → TimePasses D.Disk Same disk.old disk.new }
+    ensures count { CountsDevice result (D.failures disk.old) (D.failures disk.new) }
+    ensures kinds { IfErr result (λ e. (e ≡ OpenFault.Device) ⊎ (e ≡ OpenFault.Memory)) }
+    ensures fetched { (begin : Counts) → Fetched len (span.from + span.have) begin (D.counts disk.old)
+        → FetchedSome len begin (D.counts disk.new) }
+{
+    let distance = AROUND_BODY + mended.size;
+    let end = at + distance as u64;
+    let first = next_record(alloc, disk, window, span, end, len, format, &mended.digest)?;
+    let bodies = read_chain(alloc, disk, window, format, first, end, len)?;
+    Ok(Left { distance, bodies })
+}
+
+// What chains behind the record that is shown at an offset and doesn't chain behind one of this digest, if one is.
+fn read_shown<D: Disk>(
+    alloc: Global,
+    disk: &mut D,
+    window: &mut [u8],
+    span: Span,
+    at: u64,
+    len: u64,
+    format: Format,
+    prev: &[u8; DIGEST_BYTES],
+) -> Result<Left, OpenFault>
+    requires room { length window.old ≡ WINDOW }
+    requires within { at ≤ len }
+    requires held { span.have ≤ WINDOW }
+    requires begins { span.from ≤ at }
+    requires reaches { at ≤ span.from + span.have }
+    requires inside { span.from + span.have ≤ len }
+    ensures left { D.honest → len ≡ length (D.seen disk.old) → Caches (D.seen disk.old) window.old span
+        → IfOk result (IsLeft format prev.now (drop at (D.seen disk.old))) }
+    ensures same { D.honest → D.seen disk.new ≡ D.seen disk.old }
+    ensures time { D.honest → TimePasses D.Disk Same disk.old disk.new }
+    ensures count { CountsDevice result (D.failures disk.old) (D.failures disk.new) }
+    ensures kinds { IfErr result (λ e. (e ≡ OpenFault.Device) ⊎ (e ≡ OpenFault.Memory)) }
+    ensures fetched { (begin : Counts) → Fetched len (span.from + span.have) begin (D.counts disk.old)
+        → FetchedSome len begin (D.counts disk.new) }
+{
+    match next_shown(alloc, disk, window, span, at, len, format)? {
+        None => Ok(none_left(alloc)),
+        Some(shown) => read_left(alloc, disk, window, shown, at, len, format, prev),
+    }
+}
+
+// What chains behind an offset at which none does behind one of this digest, and which a window has: behind the record there
+// with the length with which it was written.
+fn read_written<D: Disk>(
+    alloc: Global,
+    disk: &mut D,
+    window: &mut [u8],
+    span: Span,
+    at: u64,
+    len: u64,
+    format: Format,
+    prev: &[u8; DIGEST_BYTES],
+) -> Result<Left, OpenFault>
+    requires room { length window.old ≡ WINDOW }
+    requires within { at ≤ len }
+    requires held { span.have ≤ WINDOW }
+    requires begins { span.from ≤ at }
+    requires reaches { at ≤ span.from + span.have }
+    requires inside { span.from + span.have ≤ len }
+    ensures left { D.honest → len ≡ length (D.seen disk.old) → Caches (D.seen disk.old) window.old span
+        → shows_long format (drop at (D.seen disk.old)) ≡ false
+        → IfOk result (IsLeft format prev.now (as_written format prev.now (drop at (D.seen disk.old)))) }
+    ensures same { D.honest → D.seen disk.new ≡ D.seen disk.old }
+    ensures time { D.honest → TimePasses D.Disk Same disk.old disk.new }
+    ensures count { CountsDevice result (D.failures disk.old) (D.failures disk.new) }
+    ensures kinds { IfErr result (λ e. (e ≡ OpenFault.Device) ⊎ (e ≡ OpenFault.Memory)) }
+    ensures fetched { (begin : Counts) → Fetched len (span.from + span.have) begin (D.counts disk.old)
+        → FetchedSome len begin (D.counts disk.new) }
+{
+    let (mended, span) = find_mended(disk, window, span, at, len, prev)?;
+    match mended {
+        Some(mended) => read_mended(alloc, disk, window, span, at, len, format, &mended),
+        None => read_shown(alloc, disk, window, span, at, len, format, prev),
+    }
+}
+
 // The record that stands at an offset, if one does that chains behind one of this digest; where one is shown that doesn't,
-// what chains behind it.
+// what chains behind it, also with the length with which it was written.
 pub(crate) fn next_or_left<D: Disk>(
     alloc: Global,
     disk: &mut D,
@@ -207,7 +311,7 @@ pub(crate) fn next_or_left<D: Disk>(
         → IfOk result (λ r. Finds format prev.now (D.seen disk.old) at window.new r.0) }
     ensures left { D.honest → len ≡ length (D.seen disk.old) → Caches (D.seen disk.old) window.old span
         → IfOk result (λ r. is_record format prev.now (drop at (D.seen disk.old)) ≡ false
-        → IsLeft format prev.now (drop at (D.seen disk.old)) r.1) }
+        → IsLeft format prev.now (as_written format prev.now (drop at (D.seen disk.old))) r.1) }
     ensures fits { IfOk result (λ r. IfSome r.0 (Fits format at len WINDOW)) }
     ensures same { D.honest → D.seen disk.new ≡ D.seen disk.old }
     ensures time { D.honest → TimePasses D.Disk Same disk.old disk.new }
@@ -217,15 +321,16 @@ pub(crate) fn next_or_left<D: Disk>(
         → MatchResult result (λ r. FetchedNext len (len + WINDOW) begin (D.counts disk.new) r.0)
         (λ _. FetchedSome len begin (D.counts disk.new)) }
 {
-    match next_shown(alloc, disk, window, span, at, len, format)? {
-        None => Ok((None, none_left(alloc))),
-        Some(shown) => match chain_on(shown, prev) {
-            Ok(found) => Ok((Some(found), none_left(alloc))),
-            Err(shown) => {
-                let left = read_left(alloc, disk, window, shown, at, len, format, prev)?;
-                Ok((None, left))
-            }
-        },
+    match next_at(alloc, disk, window, span, at, len, format, prev)? {
+        Next::Chains(found) => Ok((Some(found), none_left(alloc))),
+        Next::Short(span) => {
+            let left = read_written(alloc, disk, window, span, at, len, format, prev)?;
+            Ok((None, left))
+        }
+        Next::Long(shown) => {
+            let left = read_left(alloc, disk, window, shown, at, len, format, prev)?;
+            Ok((None, left))
+        }
     }
 }
 

@@ -19,10 +19,11 @@
 //! - `standing`: what stands in a file, by its beginning; `unfit`: `unfit_file`, which of two files is missing or is no
 //!   log's, with what a crash makes of two that fit, `fit_has_no_stray`, `interrupted_stays_fit`, `interrupted_is_no_stray`
 //! - `reading`, `window`: reading a file record by record, and in pieces; `found`: one record, by way of a window or
-//!   straight into its body; `behind`: what stands behind the last one
+//!   straight into its body; `chaining`: whether it chains; `behind`: what stands behind the last one
 //! - `contents`: `read_contents`, what stands in one of the files, whichever is the current one
 //! - `damage`: whether a log breaks off, in the records that a checkpoint wrote (`LEAST_APPENDED`, `MOST_APPENDED`) or behind
-//!   them; `left_out`: what chains behind a record that doesn't, and the bound of groups, `MOST_GROUP`
+//!   them; `left_out`: what chains behind a record that doesn't, and the bound of groups, `MOST_GROUP`; `mending`: the length
+//!   with which that was written
 //! - `format`: `Format`, a file's first bytes and its limit of bodies; `record`: the bytes of a record
 //! - `fault`: `OpenFault`, why a file's bytes aren't taken as a log
 //! - `laws`: `pair_is_current`, `pair_is_current_or_new` and `opened_is_pair`, which log two files have;
@@ -37,6 +38,7 @@
 mod ahead;
 mod appending;
 mod behind;
+mod chaining;
 mod checkpointing;
 mod contents;
 mod damage;
@@ -55,6 +57,7 @@ mod log;
 mod log_group;
 mod looking;
 mod making;
+mod mending;
 mod opened;
 mod opening;
 mod planning;

@@ -3,9 +3,9 @@ ghost use Rattle.std.specs.Prelude.{◌≡◌, ◌+◌, ◌-◌, ◌≤◌, ◌<
 ghost use Rattle.xa_disk.specs.{Counts.top, Time.LeavesOnly};
 ghost use Rattle.std.specs.List.{AllByRecursion};
 ghost use Rattle.xa_log.specs.Calls.{CheckpointCalls};
-ghost use Rattle.xa_log.specs.Chain.{newest, format_number, most_body, text, IsBody};
-ghost use Rattle.xa_log.specs.Checkpoint.{IsOther, IsQuiet, IsCleared, LeavesAny};
-ghost use Rattle.xa_log.specs.{Pair.generation, Answers.HasCause, Damage.AreAppended};
+ghost use Rattle.xa_log.specs.Believed.Chain.{newest, format_number, most_body, text, IsBody};
+ghost use Rattle.xa_log.specs.Believed.Checkpoint.{IsOther, IsQuiet, IsCleared, LeavesAny};
+ghost use Rattle.xa_log.specs.{Believed.Pair.generation, Answers.HasCause, Believed.Damage.AreAppended};
 ghost use Rattle.xa_limits.specs.declared.TheConstants.{AROUND_CLOSED, MOST_BODY};
 
 use crate::appending::Appended;
@@ -47,7 +47,7 @@ pub struct Log<D> {
 }
 
 impl<D> Model for Log<D> {
-    ghost use Rattle.xa_log.specs.LogView.{LogView};
+    ghost use Rattle.xa_log.specs.Believed.LogView.{LogView};
 
     ghost Value = { LogView D };
 
@@ -61,8 +61,8 @@ impl<D> Model for Log<D> {
 impl<D: Disk> Log<D> {
     ghost use Rattle.xa_log.specs.Ahead.{Writes, AppendsBy, IsCut, IsKnown};
     ghost use Rattle.xa_log.specs.Buffer.{Holds, HoldsEach, KeepsRoom};
-    ghost use Rattle.xa_log.specs.Stands.{Stands, Leaves, Moves, Renumbers, Answers};
-    ghost use Rattle.xa_log.specs.TwoFiles.{Pair, AppendsTo, Checkpoints, Swaps, closed_end, written};
+    ghost use Rattle.xa_log.specs.Believed.Stands.{Stands, Leaves, Moves, Renumbers, Answers};
+    ghost use Rattle.xa_log.specs.Believed.TwoFiles.{Pair, AppendsTo, Checkpoints, Swaps, kept_end, written};
 
     /// Adds a record of a body that the current file's format takes: the group of one (`append_group`), so one write and
     /// one sync where nothing fails. Takes no memory: there is room for a body of up to `MOST_BODY_OF_ONE` bytes, and for
@@ -138,9 +138,9 @@ impl<D: Disk> Log<D> {
     /// Writes a log of these bodies, each of which the newest format takes, to the other file, in that format. Their
     /// generation is above the log's: an opening takes the file with the greater one, nothing else is written to say
     /// which is current, and the old log stays where it is. Behind the last record go `CLEARED_BYTES` zeros, or as many
-    /// as the limit leaves room for. A file that is known to reach more than `SPARE_BYTES` behind its new log is cut, if its
-    /// disk does that. `Kept`: that file is the current one from then on. `Refused`: the current file
-    /// stays in use. `Full`: they don't fit, with a closing length. Where nothing fails: a
+    /// as the limit leaves room for. A file that is known to reach more than `SPARE_BYTES` behind what they take, and behind the
+    /// end of the log that they replace, is cut, if its disk does that. `Kept`: that file is the current one from then on.
+    /// `Refused`: the current file stays in use. `Full`: they don't fit, with a closing length. Where nothing fails: a
     /// write and a sync, a write a record and a sync, a write and a sync. Takes no memory, as an append does. After
     /// `Lost`, its own or an append's, every checkpoint answers so, and asks nothing of the disks, until a rescan
     /// succeeds.
@@ -163,7 +163,7 @@ impl<D: Disk> Log<D> {
         ensures cleared { D.honest → result ≡ Appended.Kept → self.old.lost ≡ false
             → IsCleared self.new.log_bytes newest bodies.now (D.seen self.new.disk) }
         ensures cut { D.honest → D.shortens → result ≡ Appended.Kept → self.old.lost ≡ false
-            → IsCut (closed_end bodies.now) self.old.other_known (D.seen self.new.disk) }
+            → IsCut (kept_end bodies.now self.old) self.old.other_known (D.seen self.new.disk) }
         ensures swaps { self.old.lost ≡ false → Swaps result bodies.now self.old self.new }
         ensures lost { self.old.lost ≡ true → (result ≡ Appended.Lost) × (self.new ≡ self.old) }
         ensures full { self.old.lost ≡ false
@@ -191,13 +191,14 @@ impl<D: Disk> Log<D> {
             None => return Appended::Full,
         };
         let more = zeros_behind(end, self.log_bytes);
+        let keep = (end + LENGTH_BYTES as u64).max(self.end);
         let (outcome, digest) = checkpoint_on(
             &mut self.other,
             format,
             &mut self.buffer,
             bodies,
             more,
-            end + LENGTH_BYTES as u64,
+            keep,
             &mut self.other_known,
         );
         match outcome {

@@ -6,11 +6,11 @@ ghost use Rattle.xa_disk.specs.{Counts.top, Time.LeavesOnly};
 ghost use Rattle.xa_limits.specs.declared.TheConstants.{AROUND_CLOSED, MOST_BODY};
 ghost use Rattle.xa_log.specs.Calls.{SettlesBy};
 ghost use Rattle.xa_log.specs.Ahead.{AppendsBy, IsKnown, Writes};
-ghost use Rattle.xa_log.specs.{Buffer.Holds, Buffer.KeepsRoom, Chain.IsBody, Damage.AreAppended};
-ghost use Rattle.xa_log.specs.Group.{as_one, bodies_in, first_of_group};
-ghost use Rattle.xa_log.specs.{LogStates.KeepsAll, LogView.LogView};
-ghost use Rattle.xa_log.specs.Stands.{Answers, Leaves, Moves, Renumbers, Stands, Untouched};
-ghost use Rattle.xa_log.specs.TwoFiles.{AppendsTo, Pair};
+ghost use Rattle.xa_log.specs.{Buffer.Holds, Buffer.KeepsRoom, Believed.Chain.IsBody, Believed.Damage.AreAppended};
+ghost use Rattle.xa_log.specs.Believed.Group.{as_one, bodies_in, first_of_group};
+ghost use Rattle.xa_log.specs.{Believed.LogStates.KeepsAll, Believed.LogView.LogView};
+ghost use Rattle.xa_log.specs.Believed.Stands.{Answers, Leaves, Moves, Renumbers, Stands, Untouched};
+ghost use Rattle.xa_log.specs.Believed.TwoFiles.{AppendsTo, Pair};
 ghost use Rattle.xa_log.specs.Written.{AppendsGroup, HasWritten, IsRange, write_of};
 
 use crate::Log;

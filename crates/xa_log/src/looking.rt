@@ -6,7 +6,7 @@ ghost use Rattle.xa_disk.specs.{Time.TimePasses, declared.counts.Counts.Counts};
 ghost use Rattle.xa_log.specs.Answers.{CountsDeviceOf};
 ghost use Rattle.xa_log.specs.Calls.{Fetched, FetchedSome, Looks, LooksSecond, LooksAt, LooksSecondAt, ReadsLittle, asked};
 ghost use Rattle.xa_log.specs.Reading.{Ends, Explains};
-ghost use Rattle.xa_log.specs.Pair.{number_in, beats, pair_fault, fault_pair};
+ghost use Rattle.xa_log.specs.Believed.Pair.{number_in, beats, pair_fault, fault_pair};
 ghost use Rattle.xa_log.specs.Looking.{AreShort, IsFront, HasFront, either_newer, either_log, Tells};
 ghost use Rattle.xa_log.specs.Looking.{IsHead, HasHead, FetchedHead, Chooses, IsCurrent};
 

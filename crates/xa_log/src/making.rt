@@ -5,12 +5,12 @@ ghost use Rattle.xa_disk.specs.{Disk.Same, Time.TimePasses};
 ghost use Rattle.xa_disk.specs.Counts.{with_length, with_write, with_sync};
 ghost use Rattle.xa_log.specs.Ahead.{IsMeasured};
 ghost use Rattle.xa_log.specs.Calls.{OnlyReads, ReadsLittle, asked};
-ghost use Rattle.xa_log.specs.{Chain.logged, Checkpoint.IsQuiet};
+ghost use Rattle.xa_log.specs.{Believed.Chain.logged, Believed.Checkpoint.IsQuiet};
 ghost use Rattle.xa_log.specs.Opened.{IsOpened, found_in, found_in_first, limit_of};
-ghost use Rattle.xa_log.specs.Pair.{generation, pair_fault, logged_pair};
+ghost use Rattle.xa_log.specs.Believed.Pair.{generation, pair_fault, logged_pair};
 ghost use Rattle.xa_log.specs.Reading.{Ends, bodies_of, TellsFault, ExplainsNew};
-ghost use Rattle.xa_log.specs.Stands.{EndsBehind};
-ghost use Rattle.xa_log.specs.TwoFiles.{Pair, IsOpenPair, first_of, second_of};
+ghost use Rattle.xa_log.specs.Believed.Stands.{EndsBehind};
+ghost use Rattle.xa_log.specs.Believed.TwoFiles.{Pair, IsOpenPair, first_of, second_of};
 ghost use Rattle.xa_log.specs.declared.format.TheConstants.{PREAMBLE_BYTES};
 
 use crate::generation::generation_of_bodies;

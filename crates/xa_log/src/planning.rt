@@ -8,7 +8,7 @@ use xa_disk::{Disk, Effect, MemDisk};
 impl Log<MemDisk> {
     ghost use Rattle.xa_log.specs.Buffer.{KeepsRoom};
     ghost use Rattle.xa_log.specs.Planned.{CrashesBoth, Plans, PlansStop};
-    ghost use Rattle.xa_log.specs.{Stands.Untouched, LogStates.KeepsAll};
+    ghost use Rattle.xa_log.specs.{Believed.Stands.Untouched, Believed.LogStates.KeepsAll};
 
     /// Plans that the k-th device call of the current file's disk from now fails, as `MemDisk::fail` does. Nothing else
     /// changes.

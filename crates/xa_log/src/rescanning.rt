@@ -2,11 +2,12 @@
 ghost use Rattle.std.specs.Prelude.{◌≡◌, ◌⊎◌, List, ℕ, length, OnOk, OnErr, IfOk, IfErr};
 ghost use Rattle.xa_log.specs.{Ahead.IsMeasured, Answers.CountsDeviceOf, Buffer.KeepsRoom};
 ghost use Rattle.xa_log.specs.Calls.{Looks, LooksSecond, ReadsLittle};
-ghost use Rattle.xa_log.specs.Chain.{logged};
-ghost use Rattle.xa_log.specs.LogStates.{LogState, IsIn, MayFind, LostTears, IsCalmBeside, LeavesBoth, LooksTo, LeftByLook, KeepsAll};
-ghost use Rattle.xa_log.specs.Pair.{generation, fault_pair, logged_of};
-ghost use Rattle.xa_log.specs.{Reading.bodies_of, Reading.TellsFault, Stands.EndsBehind, Stands.Untouched};
-ghost use Rattle.xa_log.specs.TwoFiles.{IsOpenPair, IsReadPair, first_of, second_of};
+ghost use Rattle.xa_log.specs.Believed.Chain.{logged};
+ghost use Rattle.xa_log.specs.Believed.LogStates.{LogState, IsIn, MayFind, LostTears};
+ghost use Rattle.xa_log.specs.Believed.LogStates.{IsCalmBeside, LeavesBoth, LooksTo, LeftByLook, KeepsAll};
+ghost use Rattle.xa_log.specs.Believed.Pair.{generation, fault_pair, logged_of};
+ghost use Rattle.xa_log.specs.{Reading.bodies_of, Reading.TellsFault, Believed.Stands.EndsBehind, Believed.Stands.Untouched};
+ghost use Rattle.xa_log.specs.Believed.TwoFiles.{IsOpenPair, IsReadPair, first_of, second_of};
 
 use crate::generation::generation_of_bodies;
 use crate::looking::{arrange, in_order, read_again};

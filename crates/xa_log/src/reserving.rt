@@ -1,6 +1,6 @@
 //! Making room for a long record, so that its append or its checkpoint takes no memory.
 ghost use Rattle.std.specs.Prelude.{◌≡◌, ◌≤◌, OnOk, OnErr};
-ghost use Rattle.xa_log.specs.{Buffer.Holds, Buffer.KeepsRoom, LogStates.KeepsAll, Stands.Untouched};
+ghost use Rattle.xa_log.specs.{Buffer.Holds, Buffer.KeepsRoom, Believed.LogStates.KeepsAll, Believed.Stands.Untouched};
 
 use crate::Log;
 use crate::ahead::READY_BYTES;

@@ -1,7 +1,7 @@
 //! What stands in one of a log's two files, by its first bytes.
 ghost use Rattle.std.specs.Prelude.{◌≡◌, ◌≤◌, List, ℕ, length, min, take, IfOk, MatchOption, if◌then◌else◌};
 ghost use Rattle.xa_disk.specs.{Disk.Same, Time.TimePasses};
-ghost use Rattle.xa_log.specs.Standing.{InterruptedLaw, is_part_of, is_remnant, standing};
+ghost use Rattle.xa_log.specs.Believed.Standing.{InterruptedLaw, is_part_of, is_remnant, standing};
 ghost use Rattle.xa_log.specs.declared.standing.Standing.TheVariants.{Nothing, Stray};
 
 use crate::OpenFault;

@@ -1,7 +1,7 @@
 //! Whether two files may be one log's.
 ghost use Rattle.std.specs.Prelude.{◌≡◌, ◌⊎◌, List, ℕ, length, IfErr, IfOk};
 ghost use Rattle.xa_disk.specs.{Disk.Same, Time.TimePasses};
-ghost use Rattle.xa_log.specs.Unfit.{FitLaw, StaysFitLaw, generation_in, unfit_of};
+ghost use Rattle.xa_log.specs.Believed.Unfit.{FitLaw, StaysFitLaw, generation_in, unfit_of};
 
 use crate::OpenFault;
 use crate::heads::{head_of, number_in_first};

@@ -1,6 +1,6 @@
 ghost use Rattle.std.specs.Prelude.{◌≡◌, true};
 ghost use Rattle.std.specs.List.{AllByRecursion};
-ghost use Rattle.xa_log.specs.{Buffer.HoldsEach, Chain.IsBody, Chain.newest};
+ghost use Rattle.xa_log.specs.{Buffer.HoldsEach, Believed.Chain.IsBody, Believed.Chain.newest};
 
 use std::alloc::Global;
 use xa_disk::{Disk, MemDisk};

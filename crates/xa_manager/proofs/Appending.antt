@@ -3,15 +3,15 @@ use Rattle.std.proofs.Common.{◌≡◌, ◌≢◌, ◌≤◌, ◌<◌, ◌+◌,
 use Rattle.xa_disk.specs.Time.{LeavesOnly}
 use Rattle.xa_disk.specs.declared.disk.Disk.{Ghosts}
 use Rattle.xa_log.specs.Ahead.{AppendsBy}
-use Rattle.xa_log.specs.Damage.{AreAppended}
-use Rattle.xa_log.specs.Group.{as_one, first_of_group}
-use Rattle.xa_log.specs.Stands.{Stands, Leaves, Moves, Renumbers}
-use Rattle.xa_log.specs.TwoFiles.{Pair, AppendsTo}
+use Rattle.xa_log.specs.Believed.Damage.{AreAppended}
+use Rattle.xa_log.specs.Believed.Group.{as_one, first_of_group}
+use Rattle.xa_log.specs.Believed.Stands.{Stands, Leaves, Moves, Renumbers}
+use Rattle.xa_log.specs.Believed.TwoFiles.{Pair, AppendsTo}
 use Rattle.xa_log.specs.declared.appending.Appended.{Appended}
 use Rattle.xa_log.specs.declared.appending.Appended.TheVariants as appended
-use Rattle.xa_log.specs.LogView.{LogView}
+use Rattle.xa_log.specs.Believed.LogView.{LogView}
 use Rattle.xa_model.specs.declared.outcome.Appending.{Appending}
-use Rattle.xa_manager.specs.Answered.{as_appended}
+use Rattle.xa_manager.specs.Believed.Answered.{as_appended}
 use Rattle.xa_manager.specs.Turns.{HasAppended}
 
 pub has_appended : {D : Type 0} (disks : Ghosts D) (group : List (List ℕ)) (a : Appending) (r : Appended) (old new : LogView D)

@@ -20,7 +20,7 @@ use Rattle.xa_manager.specs.Managed.{view}
 use Rattle.xa_manager.specs.Plans.{bytes_of, IsPlan}
 use Rattle.xa_manager.specs.Rows.{asked_row, row_turn}
 use Rattle.xa_manager.specs.Stands.{StandsFor}
-use Rattle.xa_manager.specs.Together.{AppendsAlone}
+use Rattle.xa_manager.specs.Believed.Together.{AppendsAlone}
 use Rattle.xa_manager.specs.View.{context_at}
 use Rattle.xa_manager.proofs.Calling.{passed_row, up_by}
 use Rattle.xa_manager.proofs.Plans.{commits_by}

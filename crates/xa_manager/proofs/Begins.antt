@@ -6,10 +6,10 @@ use Rattle.std.proofs.lemmas.List.{length-map}
 use Rattle.xa_disk.specs.declared.disk.Disk.{Ghosts}
 use Rattle.xa_record.specs.Limits.{IsRecord}
 use Rattle.xa_record.specs.Spelling.{spelled}
-use Rattle.xa_log.specs.Chain.{IsBody, newest, text}
-use Rattle.xa_log.specs.Pair.{generation}
+use Rattle.xa_log.specs.Believed.Chain.{IsBody, newest, text}
+use Rattle.xa_log.specs.Believed.Pair.{generation}
 use Rattle.xa_log.specs.declared.appending.Appended.{Appended}
-use Rattle.xa_log.specs.LogView.{LogView}
+use Rattle.xa_log.specs.Believed.LogView.{LogView}
 use Rattle.xa_model.specs.Durable.{Durable, IsDurable}
 use Rattle.xa_model.specs.Fold.{snapshot, sizes}
 use Rattle.xa_model.specs.Logging.{log_room}
@@ -18,8 +18,8 @@ use Rattle.xa_model.proofs.Readings.{fold_is_durable}
 use Rattle.xa_recovery.specs.Log.{LogRebuilt}
 use Rattle.xa_manager.specs.declared.boots.NextBoot.{NextBoot}
 use Rattle.xa_manager.specs.declared.boots.Planned.{Planned}
-use Rattle.xa_manager.specs.Opening.{ComeTo, has_boot_room}
-use Rattle.xa_manager.specs.Refused.{LogsFirst, LogsBoot}
+use Rattle.xa_manager.specs.Believed.Opening.{ComeTo, has_boot_room}
+use Rattle.xa_manager.specs.Believed.Refused.{LogsFirst, LogsBoot}
 use Rattle.xa_manager.specs.Rereading.{IsReady, IsNext}
 use Rattle.xa_manager.proofs.Generations.{first_number, newer}
 use Rattle.xa_manager.proofs.LogLengths.{text_size}

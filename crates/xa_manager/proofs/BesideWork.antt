@@ -9,7 +9,7 @@ use Rattle.xa_frame.specs.declared.request.Request.{Request}
 use Rattle.xa_frame.specs.declared.request.Request.TheVariants as kind
 use Rattle.xa_log.specs.Reading.{bodies_of}
 use Rattle.xa_log.specs.Written.{HasWritten}
-use Rattle.xa_log.specs.LogView.{LogView}
+use Rattle.xa_log.specs.Believed.LogView.{LogView}
 use Rattle.xa_record.specs.Spelling.{spelled}
 use Rattle.xa_xid.specs.Triple.{Triple, xid_eq}
 use Rattle.xa_xid.proofs.Same.{xid_eq_itself, xid_same}
@@ -28,14 +28,14 @@ use Rattle.xa_manager.specs.declared.manager.Manager.{Manager}
 use Rattle.xa_manager.specs.declared.together.Asked as asked
 use Rattle.xa_manager.specs.declared.together.Joining.{Joining}
 use Rattle.xa_branch.specs.Room.{AreRooms, rooms_of}
-use Rattle.xa_manager.specs.Answered.{may_want, memory_code}
-use Rattle.xa_manager.specs.Parts.{with_log}
-use Rattle.xa_manager.specs.Pending.{IsPendingFrom, IsGroupOf, WorksApartFrom, WorksBeside, pending_members, work_by}
+use Rattle.xa_manager.specs.Believed.Answered.{may_want, memory_code}
+use Rattle.xa_manager.specs.Believed.Parts.{with_log}
+use Rattle.xa_manager.specs.Believed.Pending.{IsPendingFrom, IsGroupOf, WorksApartFrom, WorksBeside, pending_members, work_by}
 use Rattle.xa_manager.specs.GroupAnswers.{AreTogether}
 use Rattle.xa_manager.specs.Managed.{ManagerStandsFor, view}
 use Rattle.xa_manager.specs.Stands.{Follows, Stays}
 use Rattle.xa_manager.specs.View.{context_at}
-use Rattle.xa_manager.specs.Together.{Member, member_of, members_of, part_of, parts_of}
+use Rattle.xa_manager.specs.Believed.Together.{Member, member_of, members_of, part_of, parts_of}
 use Rattle.xa_manager.specs.Turns.{HasDone}
 use Rattle.xa_assoc.specs.Refusals.{is_memory}
 use Rattle.xa_manager.proofs.Calling.{follows_done, refused_done, served_not}

@@ -11,7 +11,7 @@ use Rattle.xa_frame.specs.declared.reply.Reply.{Reply}
 use Rattle.xa_frame.specs.declared.request.Request.{Request}
 use Rattle.xa_frame.specs.declared.request.Request.TheVariants as request
 use Rattle.xa_frame.specs.declared.request.Request.TheVariants.{Restart, Trim}
-use Rattle.xa_log.specs.LogView.{LogView}
+use Rattle.xa_log.specs.Believed.LogView.{LogView}
 use Rattle.xa_model.specs.declared.event.Event.{Event}
 use Rattle.xa_model.specs.declared.event.Event.TheVariants.{Connect, Call}
 use Rattle.xa_model.specs.declared.outcome.Outcome.{Outcome}
@@ -33,9 +33,9 @@ use Rattle.xa_assoc.specs.Refusals.{is_memory, IsBare}
 use Rattle.xa_assoc.specs.declared.fault.ConnectFault.TheVariants.{Memory}
 use Rattle.xa_manager.specs.declared.manager.Manager.{Manager}
 use Rattle.xa_manager.specs.declared.done.Done.{Done}
-use Rattle.xa_manager.specs.Crash.{LeavesBy, LeavesLook, LeavesWanting}
-use Rattle.xa_manager.specs.LogStands.{Trusts}
-use Rattle.xa_manager.specs.Answered.{FullyAnswered, HasCalledFor, StaysFor, connect_reply, may_want, memory_code}
+use Rattle.xa_manager.specs.Believed.Crash.{LeavesBy, LeavesLook, LeavesWanting}
+use Rattle.xa_manager.specs.Believed.LogStands.{Trusts}
+use Rattle.xa_manager.specs.Believed.Answered.{FullyAnswered, HasCalledFor, StaysFor, connect_reply, may_want, memory_code}
 use Rattle.xa_manager.specs.View.{View, context_at}
 use Rattle.xa_manager.specs.Managed.{view, ManagerStandsFor, AnswersAs}
 use Rattle.xa_manager.specs.Stands.{TablesStandFor, Follows, FollowsDown, Stays, StaysDown}

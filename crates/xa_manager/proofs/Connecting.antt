@@ -15,7 +15,7 @@ use Rattle.xa_model.specs.State.{State}
 use Rattle.xa_model.specs.Answer.{Answer, carrying, detailed, unless}
 use Rattle.xa_model.specs.Associations.{connected, connect_refusal, connect_by}
 use Rattle.xa_model.specs.Invariants.Loggable.{IsRecoverable}
-use Rattle.xa_manager.specs.Answered.{connect_reply}
+use Rattle.xa_manager.specs.Believed.Answered.{connect_reply}
 use Rattle.xa_manager.specs.Stands.{StandsFor, Follows}
 use Rattle.xa_manager.specs.View.{View}
 

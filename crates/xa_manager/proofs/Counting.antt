@@ -8,8 +8,8 @@ use Rattle.xa_frame.specs.declared.reply.Reply.{Reply}
 use Rattle.xa_disk.specs.Counts.{plus}
 use Rattle.xa_log.specs.Ahead.{AppendsBy}
 use Rattle.xa_log.specs.Answers.{HasRisen}
-use Rattle.xa_log.specs.TwoFiles.{first_of, second_of}
-use Rattle.xa_log.specs.LogView.{LogView}
+use Rattle.xa_log.specs.Believed.TwoFiles.{first_of, second_of}
+use Rattle.xa_log.specs.Believed.LogView.{LogView}
 use Rattle.xa_model.specs.declared.event.Event.{Event}
 use Rattle.xa_model.specs.declared.outcome.Outcome.{Outcome}
 use Rattle.xa_model.specs.declared.outcome.Outcome.TheVariants as outcome
@@ -22,10 +22,10 @@ use Rattle.xa_model.specs.History.{Entry, Leads, HasGroups, JoinAfter, append_in
 use Rattle.xa_model.specs.Events.{is_trim}
 use Rattle.xa_assoc.specs.Refusals.{is_memory}
 use Rattle.xa_manager.specs.declared.manager.Manager.{Manager}
-use Rattle.xa_manager.specs.LogStands.{Trusts}
+use Rattle.xa_manager.specs.Believed.LogStands.{Trusts}
 use Rattle.xa_manager.specs.Managed.{ManagerStandsFor}
-use Rattle.xa_manager.specs.Answered.{FullyAnswered, HasCalled, HasCalledFor, NoneRises, OneRises, StaysFor, StepsAs, as_appended, recorded}
-use Rattle.xa_manager.specs.Counted.{CountsAll, RiseBy, counted_by, failures_in, failures_of, failures_of_append}
+use Rattle.xa_manager.specs.Believed.Answered.{FullyAnswered, HasCalled, HasCalledFor, NoneRises, OneRises, StaysFor, StepsAs, as_appended, recorded}
+use Rattle.xa_manager.specs.Believed.Counted.{CountsAll, RiseBy, counted_by, failures_in, failures_of, failures_of_append}
 use Rattle.xa_manager.proofs.Driving.{added, leads_more, recorded_more, stepped, told_more, trusted_before, trusted_last}
 
 -- of two numbers

@@ -6,12 +6,12 @@ use Rattle.xa_disk.specs.declared.disk.Disk.{Ghosts}
 use Rattle.xa_record.specs.Spelling.{spelled}
 use Rattle.xa_record.specs.declared.record.Record.{Record}
 use Rattle.xa_record.specs.declared.record.Record.TheVariants as logged
-use Rattle.xa_log.specs.Chain.{newest}
-use Rattle.xa_log.specs.Checkpoint.{LeavesAny}
-use Rattle.xa_log.specs.Pair.{generation}
-use Rattle.xa_log.specs.TwoFiles.{Swaps, written}
+use Rattle.xa_log.specs.Believed.Chain.{newest}
+use Rattle.xa_log.specs.Believed.Checkpoint.{LeavesAny}
+use Rattle.xa_log.specs.Believed.Pair.{generation}
+use Rattle.xa_log.specs.Believed.TwoFiles.{Swaps, written}
 use Rattle.xa_log.specs.declared.appending.Appended.{Appended as Told}
-use Rattle.xa_log.specs.LogView.{LogView}
+use Rattle.xa_log.specs.Believed.LogView.{LogView}
 use Rattle.xa_log.proofs.Parts.{leaves_more}
 use Rattle.xa_limits.specs.declared.TheConstants.{MOST_BOOTS}
 use Rattle.xa_model.specs.declared.outcome.Appending.{Appending}
@@ -26,9 +26,9 @@ use Rattle.xa_model.specs.Invariants.Loggable.{IsRecoverable}
 use Rattle.xa_model.specs.Restarting.{boot_became, restart_turn}
 use Rattle.xa_model.specs.State.{State}
 use Rattle.xa_manager.specs.declared.manager.Manager.{Manager}
-use Rattle.xa_manager.specs.Answered.{as_appended}
-use Rattle.xa_manager.specs.Crash.{LeavesLook, LeavesCurrent, LeavesCheckpoint, LeavesBoot, LeavesBy, wrote}
-use Rattle.xa_manager.specs.LogStands.{HasRecords, snapshot_bodies}
+use Rattle.xa_manager.specs.Believed.Answered.{as_appended}
+use Rattle.xa_manager.specs.Believed.Crash.{LeavesLook, LeavesCurrent, LeavesCheckpoint, LeavesBoot, LeavesBy, wrote}
+use Rattle.xa_manager.specs.Believed.LogStands.{HasRecords, snapshot_bodies}
 use Rattle.xa_manager.specs.Managed.{ManagerStandsFor}
 use Rattle.xa_manager.specs.Rereading.{IsFate}
 use Rattle.xa_manager.proofs.CrashFiles.{checkpoint_files}

@@ -7,25 +7,25 @@ use Rattle.xa_disk.specs.declared.disk.Disk.{Ghosts}
 use Rattle.xa_record.specs.Spelling.{spelled}
 use Rattle.xa_record.specs.declared.record.Record.{Record}
 use Rattle.xa_record.specs.declared.record.Record.TheVariants as logged
-use Rattle.xa_log.specs.Chain.{newest}
-use Rattle.xa_log.specs.Group.{IsPlain}
-use Rattle.xa_log.specs.Pair.{generation, IsCalm, logged_pair, pair_fault}
-use Rattle.xa_log.specs.Checkpoint.{LeavesAny}
-use Rattle.xa_log.specs.Laws.{IsLogOf}
-use Rattle.xa_log.specs.LogStates.{LogState, IsIn, MayFind, LeavesBoth, LooksTo, LeftByLook}
-use Rattle.xa_log.specs.Stands.{Leaves}
-use Rattle.xa_log.specs.TwoFiles.{Pair, first_of, second_of}
-use Rattle.xa_log.specs.LogView.{LogView}
+use Rattle.xa_log.specs.Believed.Chain.{newest}
+use Rattle.xa_log.specs.Believed.Group.{IsPlain}
+use Rattle.xa_log.specs.Believed.Pair.{generation, IsCalm, logged_pair, pair_fault}
+use Rattle.xa_log.specs.Believed.Checkpoint.{LeavesAny}
+use Rattle.xa_log.specs.Believed.Laws.{IsLogOf}
+use Rattle.xa_log.specs.Believed.LogStates.{LogState, IsIn, MayFind, LeavesBoth, LooksTo, LeftByLook}
+use Rattle.xa_log.specs.Believed.Stands.{Leaves}
+use Rattle.xa_log.specs.Believed.TwoFiles.{Pair, first_of, second_of}
+use Rattle.xa_log.specs.Believed.LogView.{LogView}
 use Rattle.xa_log.proofs.States.{left_both, reads_both}
 use Rattle.xa_model.specs.State.{State}
 use Rattle.xa_model.specs.Invariants.Loggable.{IsRecoverable, is_boot}
 use Rattle.xa_model.specs.Invariants.Backing.{Backs, settled_first}
 use Rattle.xa_model.proofs.AppliedAll.{finds_first}
 use Rattle.xa_model.proofs.Booted.{backs_found, settles_group}
-use Rattle.xa_manager.specs.Crash.{StandFor, LeavesLook}
-use Rattle.xa_manager.specs.LogStands.{IsSettled, LogStandsFor, snapshot_bodies}
-use Rattle.xa_manager.specs.Files.{Settles, FilesStandFor}
-use Rattle.xa_manager.specs.CrashLaws.{ReadLeaves, CrashLeaves}
+use Rattle.xa_manager.specs.Believed.Crash.{StandFor, LeavesLook}
+use Rattle.xa_manager.specs.Believed.LogStands.{IsSettled, LogStandsFor, snapshot_bodies}
+use Rattle.xa_manager.specs.Believed.Files.{Settles, FilesStandFor}
+use Rattle.xa_manager.specs.Believed.CrashLaws.{ReadLeaves, CrashLeaves}
 use Rattle.xa_manager.proofs.CrashImages.{AreFilesOf, files_of_other, files_of_none, files_of_group, files_of_seal}
 use Rattle.xa_manager.proofs.LogsBehind.{lost_trusted, calm_trusted}
 

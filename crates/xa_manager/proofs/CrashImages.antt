@@ -1,10 +1,10 @@
 -- Which log two images have.
 use Rattle.std.proofs.Common.{◌≡◌, ◌⊎◌, inl, inr, ⊎_elim, ℕ, ◌≤◌, ◌<◌, Bool, true, List, [], ◌++◌, length, take, sym, ◌∙◌, cond, None}
 use Rattle.xa_log.specs.declared.format.Format.{Format}
-use Rattle.xa_log.specs.Checkpoint.{LeavesOf, LeavesNone, LeavesSealed}
-use Rattle.xa_log.specs.Group.{IsFirstPart}
-use Rattle.xa_log.specs.Laws.{IsLogOf}
-use Rattle.xa_log.specs.Pair.{generation, beats, logged_pair, pair_fault, Behind, IsCalm}
+use Rattle.xa_log.specs.Believed.Checkpoint.{LeavesOf, LeavesNone, LeavesSealed}
+use Rattle.xa_log.specs.Believed.Group.{IsFirstPart}
+use Rattle.xa_log.specs.Believed.Laws.{IsLogOf}
+use Rattle.xa_log.specs.Believed.Pair.{generation, beats, logged_pair, pair_fault, Behind, IsCalm}
 use Rattle.xa_log.proofs.Grouped.{beats_group}
 use Rattle.xa_log.proofs.Pair.{beats_nil}
 use Rattle.xa_log.proofs.Parts.{none_calm, none_of}

@@ -6,14 +6,14 @@ use Rattle.xa_disk.specs.declared.disk.Disk.{Ghosts}
 use Rattle.xa_record.specs.Spelling.{spelled}
 use Rattle.xa_record.specs.declared.record.Record.TheVariants as logged_as
 use Rattle.xa_log.proofs.States.{same_left}
-use Rattle.xa_log.specs.Chain.{newest, logged}
-use Rattle.xa_log.specs.Checkpoint.{LeavesAny}
-use Rattle.xa_log.specs.Pair.{pair_fault}
-use Rattle.xa_log.specs.TwoFiles.{Pair, NoStray, first_of, second_of, written}
+use Rattle.xa_log.specs.Believed.Chain.{newest, logged}
+use Rattle.xa_log.specs.Believed.Checkpoint.{LeavesAny}
+use Rattle.xa_log.specs.Believed.Pair.{pair_fault}
+use Rattle.xa_log.specs.Believed.TwoFiles.{Pair, NoStray, first_of, second_of, written}
 use Rattle.xa_log.specs.declared.appending.Appended.{Appended}
 use Rattle.xa_log.specs.declared.appending.Appended.TheVariants as appended
 use Rattle.xa_log.specs.declared.fault.OpenFault.TheVariants.{TooLong, NotALog}
-use Rattle.xa_log.specs.LogView.{LogView}
+use Rattle.xa_log.specs.Believed.LogView.{LogView}
 use Rattle.xa_log.proofs.Opens.{opened_law}
 use Rattle.xa_limits.specs.declared.TheConstants.{MOST_BOOTS}
 use Rattle.xa_model.specs.declared.outcome.Appending.{Appending}
@@ -33,12 +33,12 @@ use Rattle.xa_manager.specs.declared.fault.ManagerFault.{ManagerFault}
 use Rattle.xa_manager.specs.declared.fault.ManagerFault.TheVariants as fault
 use Rattle.xa_manager.specs.declared.manager.Manager.{Manager}
 use Rattle.xa_manager.specs.declared.refused.RefusedOpening.{RefusedOpening}
-use Rattle.xa_manager.specs.Crash.{LeavesCurrent, LeavesCheckpoint, wrote}
-use Rattle.xa_manager.specs.CrashOpening.{LooksOver, LeavesReopening, LeavesUnopened, CrashesOpening}
-use Rattle.xa_manager.specs.Files.{FilesStandFor}
-use Rattle.xa_manager.specs.LogStands.{Trusts, HasRecords}
-use Rattle.xa_manager.specs.Opening.{IsFound, has_boot_room}
-use Rattle.xa_manager.specs.Refused.{LeavesFinding, KeepsCurrent, SnapshotsFirst, LogsFirst, LeavesLogging, LeavesRefused}
+use Rattle.xa_manager.specs.Believed.Crash.{LeavesCurrent, LeavesCheckpoint, wrote}
+use Rattle.xa_manager.specs.Believed.CrashOpening.{LooksOver, LeavesReopening, LeavesUnopened, CrashesOpening}
+use Rattle.xa_manager.specs.Believed.Files.{FilesStandFor}
+use Rattle.xa_manager.specs.Believed.LogStands.{Trusts, HasRecords}
+use Rattle.xa_manager.specs.Believed.Opening.{IsFound, has_boot_room}
+use Rattle.xa_manager.specs.Believed.Refused.{LeavesFinding, KeepsCurrent, SnapshotsFirst, LogsFirst, LeavesLogging, LeavesRefused}
 use Rattle.xa_manager.specs.Rereading.{IsFate}
 use Rattle.xa_manager.proofs.CrashBoots.{snapshot_leaves}
 use Rattle.xa_manager.proofs.Generations.{newer, rebuilt_is}

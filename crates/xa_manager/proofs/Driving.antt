@@ -16,9 +16,9 @@ use Rattle.xa_model.specs.History.{Entry, Leads, Steps}
 use Rattle.xa_model.specs.Events.{is_restart}
 use Rattle.xa_assoc.specs.Refusals.{is_memory}
 use Rattle.xa_manager.specs.declared.manager.Manager.{Manager}
-use Rattle.xa_manager.specs.LogStands.{Trusts}
+use Rattle.xa_manager.specs.Believed.LogStands.{Trusts}
 use Rattle.xa_manager.specs.Managed.{ManagerStandsFor}
-use Rattle.xa_manager.specs.Answered.{Answered, AnswersAll, ArePinned, FullyAnswered, IsPinned, RunsAll, StaysFor, StepsAs, recorded, no_restart}
+use Rattle.xa_manager.specs.Believed.Answered.{Answered, AnswersAll, ArePinned, FullyAnswered, IsPinned, RunsAll, StaysFor, StepsAs, recorded, no_restart}
 
 -- a legal history goes on by one entry
 pub leads_more : (s : State) (es : List Entry) (mid : State) (e : Entry) (s' : State) → Leads s es mid → Steps mid e s' → Leads s (es ++ e ∷ []) s'

@@ -7,8 +7,8 @@ use Rattle.xa_model.specs.Durable.{Durable, durable}
 use Rattle.xa_model.specs.Fold.{fold}
 use Rattle.xa_model.specs.Restarting.{fates}
 use Rattle.xa_model.proofs.LeftMeanwhile.{leaves_found}
-use Rattle.xa_manager.specs.Files.{Settles}
-use Rattle.xa_manager.specs.CrashLaws.{FilesLast, FilesLastAsFated}
+use Rattle.xa_manager.specs.Believed.Files.{Settles}
+use Rattle.xa_manager.specs.Believed.CrashLaws.{FilesLast, FilesLastAsFated}
 use Rattle.xa_manager.proofs.Survivors.{none_found}
 
 fated : (rs : List Record) (s : State) → Settles rs s → (d : Durable) × (fold rs ≡ Ok d) × Contains (fates s) d

@@ -6,13 +6,13 @@ use Rattle.xa_disk.specs.Disk.{Torn, Same, Only}
 use Rattle.xa_disk.specs.Images.{torn_same}
 use Rattle.xa_disk.specs.Time.{TimePasses}
 use Rattle.xa_disk.specs.declared.disk.Disk.{Ghosts}
-use Rattle.xa_log.specs.Pair.{pair_fault}
+use Rattle.xa_log.specs.Believed.Pair.{pair_fault}
 use Rattle.xa_log.specs.Reading.{Explains}
 use Rattle.xa_log.specs.declared.fault.OpenFault.{OpenFault}
 use Rattle.xa_log.specs.declared.fault.OpenFault.TheVariants.{NotALog, TooNew, TooLong, Damaged, Device, Memory}
 use Rattle.xa_log.proofs.Torn.{then, stays, torn_then}
-use Rattle.xa_manager.specs.Opening.{LogRefused}
-use Rattle.xa_manager.specs.Refused.{IsUnwritten, LeavesFinding}
+use Rattle.xa_manager.specs.Believed.Opening.{LogRefused}
+use Rattle.xa_manager.specs.Believed.Refused.{IsUnwritten, LeavesFinding}
 
 module _ {D : Type 0} (disks : Ghosts D) where
   -- one look behind another

@@ -5,7 +5,7 @@ use Rattle.xa_frame.specs.declared.reply.Reply.{Reply}
 use Rattle.xa_log.specs.Calls.{SettlesBy}
 use Rattle.xa_log.specs.Reading.{bodies_of}
 use Rattle.xa_log.specs.Written.{HasWritten}
-use Rattle.xa_log.specs.LogView.{LogView}
+use Rattle.xa_log.specs.Believed.LogView.{LogView}
 use Rattle.xa_model.specs.declared.outcome.Appending.{Appending}
 use Rattle.xa_model.specs.declared.outcome.Appending.TheVariants.{Lost}
 use Rattle.xa_model.specs.declared.outcome.Outcome.TheVariants.{Appended}
@@ -16,14 +16,14 @@ use Rattle.xa_manager.specs.declared.tables.Tables.{Tables}
 use Rattle.xa_manager.specs.declared.together.Joining.{Joining}
 use Rattle.xa_branch.specs.Room.{AreRooms, rooms_of}
 use Rattle.xa_manager.specs.Acts.{AreDistinct, GiveRoomsBack}
-use Rattle.xa_manager.specs.Answered.{HasCalled, StaysFor, as_appended}
-use Rattle.xa_manager.specs.Crash.{LeavesAppend}
-use Rattle.xa_manager.specs.Parts.{with_log}
-use Rattle.xa_manager.specs.Pending.{IsPendingFrom, HasFinished, IsGroupOf, FinishesFrom, pending_members}
+use Rattle.xa_manager.specs.Believed.Answered.{HasCalled, StaysFor, as_appended}
+use Rattle.xa_manager.specs.Believed.Crash.{LeavesAppend}
+use Rattle.xa_manager.specs.Believed.Parts.{with_log}
+use Rattle.xa_manager.specs.Believed.Pending.{IsPendingFrom, HasFinished, IsGroupOf, FinishesFrom, pending_members}
 use Rattle.xa_manager.specs.GroupAnswers.{AreReplies, TakeAnswers, told}
 use Rattle.xa_manager.specs.Managed.{view}
 use Rattle.xa_manager.specs.Stands.{Stays, StandsWithRooms}
-use Rattle.xa_manager.specs.Together.{Member, member_of, members_of}
+use Rattle.xa_manager.specs.Believed.Together.{Member, member_of, members_of}
 use Rattle.xa_manager.specs.Turns.{HasAppended, HasSettled, doubt_after}
 use Rattle.xa_manager.specs.View.{view_of}
 use Rattle.xa_manager.proofs.CarriedOut.{finishes, tables_by}

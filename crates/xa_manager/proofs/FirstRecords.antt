@@ -5,16 +5,16 @@ use Rattle.std.specs.Prelude.{slice_index_or}
 use Rattle.std.proofs.lemmas.Bool.{cases_Bool}
 use Rattle.xa_disk.specs.Time.{LeavesOnly}
 use Rattle.xa_disk.specs.declared.disk.Disk.{Ghosts}
-use Rattle.xa_log.specs.Checkpoint.{LeavesAny}
-use Rattle.xa_log.specs.Chain.{newest, text}
-use Rattle.xa_log.specs.Damage.{AreAppended}
-use Rattle.xa_log.specs.Pair.{generation}
-use Rattle.xa_log.specs.LogView.{LogView}
-use Rattle.xa_log.specs.Stands.{Stands, EndsBehind, Leaves}
-use Rattle.xa_log.specs.TwoFiles.{Pair, AppendsTo, Checkpoints, Swaps, written}
+use Rattle.xa_log.specs.Believed.Checkpoint.{LeavesAny}
+use Rattle.xa_log.specs.Believed.Chain.{newest, text}
+use Rattle.xa_log.specs.Believed.Damage.{AreAppended}
+use Rattle.xa_log.specs.Believed.Pair.{generation}
+use Rattle.xa_log.specs.Believed.LogView.{LogView}
+use Rattle.xa_log.specs.Believed.Stands.{Stands, EndsBehind, Leaves}
+use Rattle.xa_log.specs.Believed.TwoFiles.{Pair, AppendsTo, Checkpoints, Swaps, written}
 use Rattle.xa_log.specs.declared.appending.Appended.{Appended}
 use Rattle.xa_log.specs.declared.appending.Appended.TheVariants.{Kept, Refused, Lost, Full}
-use Rattle.xa_manager.specs.Refused.{LogsFirst, KeepsCurrent}
+use Rattle.xa_manager.specs.Believed.Refused.{LogsFirst, KeepsCurrent}
 use Rattle.xa_manager.proofs.LogLengths.{one_size, none_size}
 
 pub first_full : {D : Type 0} (log : LogView D) (bodies : List (List ℕ)) (body : List ℕ)

@@ -5,14 +5,14 @@ use Rattle.std.proofs.lemmas.Bool.Decides.{nat_tests}
 use Rattle.xa_disk.specs.declared.disk.Disk.{Ghosts}
 use Rattle.xa_record.specs.Spelling.{spelled}
 use Rattle.xa_record.specs.declared.record.Record.{Record}
-use Rattle.xa_log.specs.Chain.{format_number, newest, start, format_in, body_at, bodies_from, digest_at, rest_at, is_record, logged, Rests}
-use Rattle.xa_log.specs.Pair.{number_in, generation, is_nil, beats, IsCalm, CalmTears}
-use Rattle.xa_log.specs.TwoFiles.{Pair, first_of, second_of}
+use Rattle.xa_log.specs.Believed.Chain.{format_number, newest, start, format_in, body_at, bodies_from, digest_at, rest_at, is_record, logged, Rests}
+use Rattle.xa_log.specs.Believed.Pair.{number_in, generation, is_nil, beats, IsCalm, CalmTears}
+use Rattle.xa_log.specs.Believed.TwoFiles.{Pair, first_of, second_of}
 use Rattle.xa_log.specs.declared.format.Format.{Format}
 use Rattle.xa_log.specs.declared.format.Format.TheVariants.{One, Two}
-use Rattle.xa_log.specs.LogView.{LogView}
+use Rattle.xa_log.specs.Believed.LogView.{LogView}
 use Rattle.xa_log.proofs.Records.{rests_logged}
-use Rattle.xa_log.specs.LogStates.{LogState, Whole, LostAppend, LostCheckpoint, IsIn, MayFind}
+use Rattle.xa_log.specs.Believed.LogStates.{LogState, Whole, LostAppend, LostCheckpoint, IsIn, MayFind}
 use Rattle.xa_model.specs.Invariants.Backing.{Backs}
 use Rattle.xa_model.specs.Durable.{Durable}
 use Rattle.xa_model.specs.Invariants.Loggable.{IsRecoverable}

@@ -2,17 +2,17 @@
 use Rattle.std.proofs.Common.{◌≡◌, ℕ, Bool, true, false, List, [], ◌∷◌, length, cond, refl, sym, ◌∙◌, ap, subst, arith}
 use Rattle.std.proofs.lemmas.Bool.{eq-eqb}
 use Rattle.xa_disk.specs.declared.disk.Disk.{Ghosts}
-use Rattle.xa_log.specs.Chain.{text, logged}
-use Rattle.xa_log.specs.Checkpoint.{IsOther}
-use Rattle.xa_log.specs.Pair.{generation, number_in}
-use Rattle.xa_log.specs.Stands.{Stands, EndsBehind, Moves, Renumbers}
-use Rattle.xa_log.specs.TwoFiles.{Pair, IsOpenPair, AppendsTo, Swaps, second_of}
+use Rattle.xa_log.specs.Believed.Chain.{text, logged}
+use Rattle.xa_log.specs.Believed.Checkpoint.{IsOther}
+use Rattle.xa_log.specs.Believed.Pair.{generation, number_in}
+use Rattle.xa_log.specs.Believed.Stands.{Stands, EndsBehind, Moves, Renumbers}
+use Rattle.xa_log.specs.Believed.TwoFiles.{Pair, IsOpenPair, AppendsTo, Swaps, second_of}
 use Rattle.xa_log.specs.declared.appending.Appended.{Appended}
 use Rattle.xa_log.specs.declared.appending.Appended.TheVariants.{Kept}
 use Rattle.xa_log.specs.declared.format.Format.{Format}
-use Rattle.xa_log.specs.LogView.{LogView}
+use Rattle.xa_log.specs.Believed.LogView.{LogView}
 use Rattle.xa_log.proofs.Opens.{made_pair}
-use Rattle.xa_manager.specs.Opening.{HasBodies, IsFound}
+use Rattle.xa_manager.specs.Believed.Opening.{HasBodies, IsFound}
 use Rattle.xa_manager.proofs.LogLengths.{one_size, none_size}
 
 -- it stands, whatever stands in the other file

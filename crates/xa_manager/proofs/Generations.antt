@@ -7,7 +7,7 @@ use Rattle.xa_record.specs.Spelling.{spelled}
 use Rattle.xa_record.specs.declared.record.Record.{Record}
 use Rattle.xa_record.specs.declared.record.Record.TheVariants as logged
 use Rattle.xa_record.proofs.Bodies.{one_body}
-use Rattle.xa_log.specs.Pair.{number_in, generation}
+use Rattle.xa_log.specs.Believed.Pair.{number_in, generation}
 use Rattle.xa_model.specs.Durable.{Durable}
 use Rattle.xa_model.specs.Fold.{fold, snapshot, unread}
 use Rattle.xa_limits.specs.declared.TheConstants.{MOST_BOOTS}

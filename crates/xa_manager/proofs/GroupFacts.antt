@@ -9,7 +9,7 @@ use Rattle.xa_frame.specs.declared.request.Request.{Request}
 use Rattle.xa_frame.specs.declared.request.Request.TheVariants as request
 use Rattle.xa_xid.specs.Triple.{Triple, xid_eq}
 use Rattle.xa_record.specs.Spelling.{spelled}
-use Rattle.xa_log.specs.Chain.{IsBody}
+use Rattle.xa_log.specs.Believed.Chain.{IsBody}
 use Rattle.xa_branch.specs.Room.{IsApart}
 use Rattle.xa_assoc.proofs.Follows.{unmoved}
 use Rattle.xa_model.specs.declared.outcome.Appending.{Appending}
@@ -31,7 +31,7 @@ use Rattle.xa_manager.specs.Rows.{asked_row}
 use Rattle.xa_manager.specs.Rows as rows
 use Rattle.xa_manager.specs.Stands.{StandsFor, StandsDown}
 use Rattle.xa_manager.specs.GroupAnswers.{AreTogether, group_after}
-use Rattle.xa_manager.specs.Together.{AppendAlone, IsGroup, Member, is_prepare, members_of, parts_of, prepares_of}
+use Rattle.xa_manager.specs.Believed.Together.{AppendAlone, IsGroup, Member, is_prepare, members_of, parts_of, prepares_of}
 use Rattle.xa_log.specs.Reading.{bodies_of}
 use Rattle.xa_manager.specs.Turns.{reply_to}
 use Rattle.xa_manager.specs.View.{View}

@@ -7,10 +7,10 @@ use Rattle.xa_disk.specs.Time.{LeavesOnly}
 use Rattle.xa_disk.specs.declared.disk.Disk.{Ghosts}
 use Rattle.xa_record.specs.Spelling.{spelled}
 use Rattle.xa_record.specs.declared.record.Record.{Record}
-use Rattle.xa_log.specs.Damage.{is_appended}
-use Rattle.xa_log.specs.Group.{as_one, group_bytes}
-use Rattle.xa_log.specs.Stands.{Leaves, Stands}
-use Rattle.xa_log.specs.LogView.{LogView}
+use Rattle.xa_log.specs.Believed.Damage.{is_appended}
+use Rattle.xa_log.specs.Believed.Group.{as_one, group_bytes}
+use Rattle.xa_log.specs.Believed.Stands.{Leaves, Stands}
+use Rattle.xa_log.specs.Believed.LogView.{LogView}
 use Rattle.xa_model.specs.declared.outcome.Outcome.{Outcome}
 use Rattle.xa_model.specs.declared.outcome.Outcome.TheVariants.{Appended, Joined}
 use Rattle.xa_model.specs.declared.outcome.Appending.{Appending}
@@ -33,8 +33,8 @@ use Rattle.xa_model.proofs.RefusedSteps as refusing
 use Rattle.xa_model.proofs.RoomyTurns.{keeps_room}
 use Rattle.xa_model.proofs.Trims.{restarts_none}
 use Rattle.xa_manager.specs.declared.manager.Manager.{Manager}
-use Rattle.xa_manager.specs.Crash.{LeavesAppend}
-use Rattle.xa_manager.specs.LogStands.{Trusts}
+use Rattle.xa_manager.specs.Believed.Crash.{LeavesAppend}
+use Rattle.xa_manager.specs.Believed.LogStands.{Trusts}
 use Rattle.xa_manager.specs.Managed.{view, ManagerStandsFor}
 use Rattle.xa_manager.specs.Stands.{TablesStandFor}
 use Rattle.xa_manager.specs.GroupAnswers.{group_after}
@@ -134,19 +134,6 @@ module _ {D : Type 0} (disks : Ghosts D) where
   bytes_together Kept s p ps h up may = kept_bytes (records_of (p ∷ ps)) s
   bytes_together Refused s p ps h up may = (all_refused s (p ∷ ps) h up may).log_bytes
   bytes_together Lost s p ps h up may = refl
-
-  -- The log has room for all of them.
-  pub group_fits : (m : Manager D) (s : State) (p : Part) (ps : List Part) → ManagerStandsFor disks m s → s.standing ≡ Up → MayStandTogether s (p ∷ ps)
-      → s.end + 40 + as_one (map spelled (records_of (p ∷ ps))) ≤ s.log_bytes
-  group_fits m s p ps st up may =
-      let h : IsRecoverable s = recoverable_by m.up (view m) s st.tables in
-      let last = group_after Kept s (p ∷ ps) in
-      let sane : Sane last = all_sane s last Kept p ps may.appends (record { recovers = h; roomy = st.roomy }) (leads_to Kept s p ps h up may) in
-      let walk = all_kept s (p ∷ ps) h up may in
-      let room = (sane.roomy (λ e. cc (e, walk.up))).room in
-      let ends = end_together s p ps h up may in
-      let bytes = bytes_together Kept s p ps h up may in
-      room_left last.log_bytes last.end (prepared_count last) (length last.decided) s.end (as_one (map spelled (records_of (p ∷ ps)))) s.log_bytes room ends bytes
 
   -- the manager after an append of a group
   pub stands_together : (m m' : Manager D) (s : State) (p : Part) (ps : List Part) (a : Appending) → ManagerStandsFor disks m s → m.up ≡ true → s.standing ≡ Up → MayStandTogether s (p ∷ ps)

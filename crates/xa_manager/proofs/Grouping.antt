@@ -9,7 +9,7 @@ use Rattle.xa_codes.specs.declared.flags.TheConstants.{TMONEPHASE}
 use Rattle.xa_disk.specs.declared.disk.Disk.{Ghosts}
 use Rattle.xa_frame.specs.declared.request.Request.{Request}
 use Rattle.xa_frame.specs.declared.request.Request.TheVariants as request
-use Rattle.xa_log.specs.Group.{group_bytes}
+use Rattle.xa_log.specs.Believed.Group.{group_bytes}
 use Rattle.xa_log.specs.Reading.{bodies_of}
 use Rattle.xa_record.specs.Spelling.{spelled}
 use Rattle.xa_record.specs.declared.record.Record.{Record}
@@ -30,13 +30,13 @@ use Rattle.xa_manager.specs.declared.together.Joining.{Joining}
 use Rattle.xa_manager.specs.declared.tables.Tables.{Tables}
 use Rattle.xa_manager.specs.declared.together.Together.{Together}
 use Rattle.xa_manager.specs.Acts.{AreDistinct, GiveRoomsBack, StaysIfDistinct}
-use Rattle.xa_manager.specs.Answered.{StaysFor}
+use Rattle.xa_manager.specs.Believed.Answered.{StaysFor}
 use Rattle.xa_manager.specs.Managed.{ManagerStandsFor}
 use Rattle.xa_manager.specs.Stands.{StandsFor, TablesStandFor}
 use Rattle.xa_manager.specs.View.{view_of}
 use Rattle.xa_manager.specs.Rows.{asked_row, more_of, record_of, takes_memory}
-use Rattle.xa_manager.specs.Together.{Member, part_of, parts_of, asked_at, member_of, members_of, is_prepare, prepares_of, PreparesFirst}
-use Rattle.xa_manager.specs.Together.{AppendsAlone, AppendAlone, AreReady, IsBounded, IsGroup, asks_prepare, has_room_behind, HasJoined}
+use Rattle.xa_manager.specs.Believed.Together.{Member, part_of, parts_of, asked_at, member_of, members_of, is_prepare, prepares_of, PreparesFirst}
+use Rattle.xa_manager.specs.Believed.Together.{AppendsAlone, AppendAlone, AreReady, IsBounded, IsGroup, asks_prepare, has_room_behind, HasJoined}
 use Rattle.xa_log.specs.declared.left_out.TheConstants.{MOST_GROUP}
 use Rattle.xa_manager.proofs.GroupFacts.{prepares_distinct}
 use Rattle.xa_manager.proofs.Taking.{stays_up, tables_up}

@@ -4,7 +4,7 @@ use Rattle.std.proofs.lemmas.List.{length-append}
 use Rattle.xa_record.specs.Spelling.{spelled}
 use Rattle.xa_record.specs.declared.record.Record.{Record}
 use Rattle.xa_log.specs.declared.format.Format.{Format}
-use Rattle.xa_log.specs.Chain.{digest, record_of, records, start, text}
+use Rattle.xa_log.specs.Believed.Chain.{digest, record_of, records, start, text}
 use Rattle.xa_log.proofs.Records.{length-text, length-record_of}
 use Rattle.xa_model.specs.Fold.{sizes}
 

@@ -6,10 +6,10 @@ use Rattle.xa_disk.specs.declared.disk.Disk.{Ghosts}
 use Rattle.xa_record.specs.Spelling.{spelled}
 use Rattle.xa_record.specs.declared.record.Record.{Record}
 use Rattle.xa_record.specs.declared.record.Record.TheVariants as logged
-use Rattle.xa_log.specs.LogStates.{LogState, Whole, LostAppend, LostCheckpoint, IsIn, LostTears, IsCalmBeside}
-use Rattle.xa_log.specs.TwoFiles.{MayStandPair, MaySeal}
-use Rattle.xa_log.specs.LogView.{LogView}
-use Rattle.xa_log.specs.Group.{HasFirstPart}
+use Rattle.xa_log.specs.Believed.LogStates.{LogState, Whole, LostAppend, LostCheckpoint, IsIn, LostTears, IsCalmBeside}
+use Rattle.xa_log.specs.Believed.TwoFiles.{MayStandPair, MaySeal}
+use Rattle.xa_log.specs.Believed.LogView.{LogView}
+use Rattle.xa_log.specs.Believed.Group.{HasFirstPart}
 use Rattle.xa_log.proofs.States.{whole_of, beside_by}
 use Rattle.xa_model.specs.State.{State}
 use Rattle.xa_model.specs.Durable.{Durable, durable}
@@ -18,7 +18,7 @@ use Rattle.xa_model.specs.Logging.{applied}
 use Rattle.xa_model.specs.Invariants.Backing.{Backs, settled, settled_first}
 use Rattle.xa_model.proofs.Booted.{settles_group}
 use Rattle.xa_model.specs.Invariants.Loggable.{is_boot, AreOneGroup}
-use Rattle.xa_manager.specs.LogStands.{Trusts, HasRecords, LogBacks, IsSettled, AreLostAs, LogStandsFor, snapshot_bodies}
+use Rattle.xa_manager.specs.Believed.LogStands.{Trusts, HasRecords, LogBacks, IsSettled, AreLostAs, LogStandsFor, snapshot_bodies}
 
 -- ---- the records that settle the fates
 

@@ -18,12 +18,12 @@ use Rattle.xa_assoc.specs.Sessions.{SessionsStandFor}
 use Rattle.xa_branch.specs.Branches.{BranchesStandFor}
 use Rattle.mv_rules.specs.Records.{StandsFor as RecordsStandFor}
 use Rattle.mv_rules.specs.Ties.{history_of}
-use Rattle.xa_log.specs.Chain.{newest}
-use Rattle.xa_log.specs.Pair.{generation}
-use Rattle.xa_log.specs.Stands.{EndsBehind}
+use Rattle.xa_log.specs.Believed.Chain.{newest}
+use Rattle.xa_log.specs.Believed.Pair.{generation}
+use Rattle.xa_log.specs.Believed.Stands.{EndsBehind}
 use Rattle.xa_manager.specs.declared.manager.Manager.{Manager}
 use Rattle.xa_manager.specs.Managed.{view, ManagerStandsFor}
-use Rattle.xa_manager.specs.Opening.{HasBodies, has_boot_room}
+use Rattle.xa_manager.specs.Believed.Opening.{HasBodies, has_boot_room}
 use Rattle.xa_manager.specs.Stands.{TablesStandFor}
 use Rattle.xa_manager.proofs.LogsBehind.{stands_whole}
 use Rattle.xa_manager.proofs.LogLengths.{text_size}

@@ -9,7 +9,7 @@ use Rattle.xa_record.specs.Limits.{IsRecord}
 use Rattle.xa_record.specs.Spelling.{spelled}
 use Rattle.xa_record.proofs.Sizes.{any}
 use Rattle.mv_rules.specs.Within.{IsWithin, HasKeys}
-use Rattle.xa_log.specs.Chain.{IsBody, newest}
+use Rattle.xa_log.specs.Believed.Chain.{IsBody, newest}
 use Rattle.xa_model.specs.Durable.{Durable, IsDurable}
 use Rattle.xa_model.specs.Fold.{snapshot}
 use Rattle.xa_model.proofs.Readings.{fold_is_durable}

@@ -9,7 +9,7 @@ use Rattle.xa_model.specs.declared.outcome.Appending.{Appending}
 use Rattle.xa_manager.specs.declared.together.Asked.{Asked}
 use Rattle.xa_manager.specs.Once.{AreOnce}
 use Rattle.xa_manager.specs.GroupAnswers.{AreReplies}
-use Rattle.xa_manager.specs.Together.{Member, asked_at}
+use Rattle.xa_manager.specs.Believed.Together.{Member, asked_at}
 
 abbrev pub AreNamedApart : List Triple → Type 0
 AreNamedApart [] = Unit {0}

@@ -5,7 +5,7 @@ use Rattle.std.specs.Prelude.{Result, Ok, Err, IfOk, nat_lt, ◌&&◌, option_ma
 use Rattle.xa_disk.specs.declared.disk.Disk.{Ghosts}
 use Rattle.xa_record.specs.Spelling.{spelled}
 use Rattle.xa_record.specs.declared.record.Record.{Record}
-use Rattle.xa_log.specs.Pair.{logged_pair}
+use Rattle.xa_log.specs.Believed.Pair.{logged_pair}
 use Rattle.xa_model.specs.declared.outcome.Outcome.TheVariants.{Reread}
 use Rattle.xa_model.specs.declared.outcome.Appending.TheVariants.{Kept}
 use Rattle.xa_model.specs.State.{State}
@@ -25,8 +25,8 @@ use Rattle.xa_model.proofs.Restores.{reopens_restored}
 use Rattle.xa_model.proofs.Rooms.{prepared_lasting, decided_lasting}
 use Rattle.xa_manager.specs.declared.manager.Manager.{Manager}
 use Rattle.xa_manager.specs.Managed.{ManagerStandsFor}
-use Rattle.xa_manager.specs.Opening.{HasBegun, HasBegunOn, has_boot_room}
-use Rattle.xa_manager.specs.Files.{FilesStandFor, Settles}
+use Rattle.xa_manager.specs.Believed.Opening.{HasBegun, HasBegunOn, has_boot_room}
+use Rattle.xa_manager.specs.Believed.Files.{FilesStandFor, Settles}
 use Rattle.xa_manager.specs.Rereading.{IsFate}
 use Rattle.xa_manager.proofs.Fates.{fate_recoverable, fate_settled}
 use Rattle.xa_manager.proofs.Generations.{same_records}

@@ -2,8 +2,8 @@
 use Rattle.std.proofs.Common.{◌≡◌, ℕ, List, [], ◌∷◌, map, length, refl, ap, sym, ◌∙◌, subst, arith}
 use Rattle.xa_disk.specs.Time.{LeavesOnly}
 use Rattle.xa_disk.specs.declared.disk.Disk.{Ghosts}
-use Rattle.xa_log.specs.Stands.{Leaves, Stands}
-use Rattle.xa_log.specs.LogView.{LogView}
+use Rattle.xa_log.specs.Believed.Stands.{Leaves, Stands}
+use Rattle.xa_log.specs.Believed.LogView.{LogView}
 use Rattle.xa_record.specs.Spelling.{spelled}
 use Rattle.xa_model.specs.declared.outcome.Appending.TheVariants.{Lost}
 use Rattle.xa_model.specs.History.{Leads}
@@ -12,11 +12,11 @@ use Rattle.xa_model.specs.State.{State}
 use Rattle.xa_manager.specs.declared.manager.Manager.{Manager}
 use Rattle.xa_manager.specs.declared.pending.PendingGroup.{PendingGroup}
 use Rattle.xa_manager.specs.declared.together.Joining.{Joining}
-use Rattle.xa_manager.specs.Crash.{LeavesAppend}
+use Rattle.xa_manager.specs.Believed.Crash.{LeavesAppend}
 use Rattle.xa_manager.specs.GroupAnswers.{group_after}
-use Rattle.xa_manager.specs.Parts.{with_log}
-use Rattle.xa_manager.specs.Pending.{IsGroupOf, IsPendingFrom, LeavesPending, lost_group, pending_members}
-use Rattle.xa_manager.specs.Together.{Member, member_of, members_of, part_of, parts_of}
+use Rattle.xa_manager.specs.Believed.Parts.{with_log}
+use Rattle.xa_manager.specs.Believed.Pending.{IsGroupOf, IsPendingFrom, LeavesPending, lost_group, pending_members}
+use Rattle.xa_manager.specs.Believed.Together.{Member, member_of, members_of, part_of, parts_of}
 use Rattle.xa_manager.proofs.GroupStepping.{crash_together, leads_to}
 use Rattle.xa_manager.proofs.Taking.{tables_up}
 

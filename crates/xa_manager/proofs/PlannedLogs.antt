@@ -1,17 +1,17 @@
 -- What a manager stands for, by its tables and its log, and that planned faults change none of it.
 use Rattle.std.proofs.Common.{Bool, true, false, ◌∙◌}
 use Rattle.xa_disk.specs.declared.disk.Disk.{Ghosts}
-use Rattle.xa_log.specs.LogStates.{KeepsAll}
-use Rattle.xa_log.specs.Stands.{Untouched}
-use Rattle.xa_log.specs.LogView.{LogView}
+use Rattle.xa_log.specs.Believed.LogStates.{KeepsAll}
+use Rattle.xa_log.specs.Believed.Stands.{Untouched}
+use Rattle.xa_log.specs.Believed.LogView.{LogView}
 use Rattle.xa_model.specs.State.{State}
 use Rattle.xa_model.specs.Invariants.Loggable.{IsRecoverable}
 use Rattle.xa_manager.specs.declared.manager.Manager.{Manager}
 use Rattle.xa_manager.specs.View.{View}
 use Rattle.xa_manager.specs.Stands.{TablesStandFor}
 use Rattle.xa_manager.specs.Managed.{view}
-use Rattle.xa_manager.specs.Answered.{StaysFor}
-use Rattle.xa_manager.specs.CrashLaws.{ReadStands}
+use Rattle.xa_manager.specs.Believed.Answered.{StaysFor}
+use Rattle.xa_manager.specs.Believed.CrashLaws.{ReadStands}
 use Rattle.xa_manager.proofs.CrashFiles.{read_leaves}
 use Rattle.xa_manager.proofs.LogsBehind.{stands_kept, still_backed}
 

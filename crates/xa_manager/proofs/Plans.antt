@@ -13,7 +13,7 @@ use Rattle.xa_codes.specs.declared.write.Write.{Write}
 use Rattle.xa_record.specs.Limits.{IsBranch, IsRecord}
 use Rattle.xa_record.specs.Spelling.{spelled}
 use Rattle.xa_record.specs.declared.record.Record.{Record}
-use Rattle.xa_log.specs.Chain.{IsBody, most_body}
+use Rattle.xa_log.specs.Believed.Chain.{IsBody, most_body}
 use Rattle.xa_log.specs.declared.format.Format.{Format}
 use Rattle.xa_log.specs.declared.format.Format.TheVariants as format
 use Rattle.xa_model.specs.declared.outcome.Appending.{Appending}

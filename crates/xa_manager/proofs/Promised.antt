@@ -25,10 +25,10 @@ use Rattle.xa_model.proofs.Unasked.{restart_leads, restart_happens}
 use Rattle.xa_model.proofs.Unlisted.{unlisted_since_boot}
 use Rattle.xa_assoc.specs.Refusals.{is_memory}
 use Rattle.xa_manager.specs.declared.manager.Manager.{Manager}
-use Rattle.xa_manager.specs.Answered.{AnswersAll, recorded}
-use Rattle.xa_manager.specs.LogStands.{Trusts}
+use Rattle.xa_manager.specs.Believed.Answered.{AnswersAll, recorded}
+use Rattle.xa_manager.specs.Believed.LogStands.{Trusts}
 use Rattle.xa_manager.specs.Managed.{view, ManagerStandsFor, AnswersAs}
-use Rattle.xa_manager.specs.Promises.{IsOpening, IsReached, ListsPrepared, ListsNoCompleted, PromisesAll, RestartPromises, ReachedPromises, OnePromises, BegunIsReached}
+use Rattle.xa_manager.specs.Believed.Promises.{IsOpening, IsReached, ListsPrepared, ListsNoCompleted, PromisesAll, RestartPromises, ReachedPromises, OnePromises, BegunIsReached}
 use Rattle.xa_manager.proofs.Driving.{answers_more, stepped}
 use Rattle.xa_manager.proofs.Standing.{outside}
 

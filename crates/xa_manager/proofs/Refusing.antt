@@ -2,17 +2,17 @@
 use Rattle.std.proofs.Common.{◌≡◌, ◌⊎◌, ℕ, Bool, true, List, [], sym, subst}
 use Rattle.std.specs.Prelude.{Result, Ok, Err, IfOk, IfErr, IsErrAnd, None}
 use Rattle.xa_disk.specs.declared.disk.Disk.{Ghosts}
-use Rattle.xa_log.specs.Pair.{pair_fault, logged_pair}
-use Rattle.xa_log.specs.TwoFiles.{first_of, second_of}
+use Rattle.xa_log.specs.Believed.Pair.{pair_fault, logged_pair}
+use Rattle.xa_log.specs.Believed.TwoFiles.{first_of, second_of}
 use Rattle.xa_log.specs.declared.appending.Appended.{Appended}
 use Rattle.xa_log.specs.declared.appending.Appended.TheVariants.{Kept}
-use Rattle.xa_log.specs.LogView.{LogView}
+use Rattle.xa_log.specs.Believed.LogView.{LogView}
 use Rattle.xa_manager.specs.declared.fault.ManagerFault.{ManagerFault}
 use Rattle.xa_manager.specs.declared.fault.ManagerFault.TheVariants as fault
 use Rattle.xa_manager.specs.declared.manager.Manager.{Manager}
 use Rattle.xa_manager.specs.declared.refused.RefusedOpening.{RefusedOpening}
-use Rattle.xa_manager.specs.Opening.{IsFound, BootRefused, OpenRefused}
-use Rattle.xa_manager.specs.Refused.{LeavesFinding, LogsBoot, LeavesBegin, LeavesLogging, LeavesRefused}
+use Rattle.xa_manager.specs.Believed.Opening.{IsFound, BootRefused, OpenRefused}
+use Rattle.xa_manager.specs.Believed.Refused.{LeavesFinding, LogsBoot, LeavesBegin, LeavesLogging, LeavesRefused}
 
 -- ---- what it tells
 

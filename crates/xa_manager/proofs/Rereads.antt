@@ -7,7 +7,7 @@ use Rattle.xa_frame.specs.declared.reply.Reply.{Reply}
 use Rattle.xa_frame.specs.declared.request.Request.TheVariants.{Restart}
 use Rattle.xa_log.specs.Answers.{CountsFailureOfOne, HasRisen}
 use Rattle.xa_log.specs.declared.fault.OpenFault.TheVariants.{Device}
-use Rattle.xa_log.specs.TwoFiles.{first_of, second_of}
+use Rattle.xa_log.specs.Believed.TwoFiles.{first_of, second_of}
 use Rattle.xa_model.specs.declared.outcome.Outcome.{Outcome}
 use Rattle.xa_model.specs.declared.outcome.Outcome.TheVariants.{Failed, Reread}
 use Rattle.xa_model.specs.Answer.{answer, detailed}
@@ -21,9 +21,9 @@ use Rattle.xa_recovery.specs.Log.{LogRebuilt}
 use Rattle.xa_recovery.specs.declared.log_fault.LogFault.{LogFault}
 use Rattle.xa_recovery.specs.declared.log_fault.LogFault.TheVariants.{Memory}
 use Rattle.xa_manager.specs.declared.manager.Manager.{Manager}
-use Rattle.xa_manager.specs.Answered.{HasCalled, NoneRises, OneRises, StaysFor}
-use Rattle.xa_manager.specs.Crash.{LeavesLook}
-use Rattle.xa_manager.specs.LogStands.{Trusts}
+use Rattle.xa_manager.specs.Believed.Answered.{HasCalled, NoneRises, OneRises, StaysFor}
+use Rattle.xa_manager.specs.Believed.Crash.{LeavesLook}
+use Rattle.xa_manager.specs.Believed.LogStands.{Trusts}
 use Rattle.xa_manager.specs.Managed.{ManagerStandsFor}
 use Rattle.xa_manager.specs.Rereading.{Found}
 use Rattle.xa_manager.specs.Turns.{HasRestarted, HasWanted}

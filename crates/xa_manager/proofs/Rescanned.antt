@@ -5,10 +5,10 @@ use Rattle.xa_disk.specs.declared.disk.Disk.{Ghosts}
 use Rattle.xa_record.specs.Spelling.{spelled}
 use Rattle.xa_record.specs.declared.record.Record.{Record}
 use Rattle.xa_log.specs.declared.format.Format.{Format}
-use Rattle.xa_log.specs.LogView.{LogView}
-use Rattle.xa_log.specs.Chain.{start, text, records, digest, record_of}
-use Rattle.xa_log.specs.LogStates.{LogState, Whole, IsIn, MayFind}
-use Rattle.xa_log.specs.TwoFiles.{Pair}
+use Rattle.xa_log.specs.Believed.LogView.{LogView}
+use Rattle.xa_log.specs.Believed.Chain.{start, text, records, digest, record_of}
+use Rattle.xa_log.specs.Believed.LogStates.{LogState, Whole, IsIn, MayFind}
+use Rattle.xa_log.specs.Believed.TwoFiles.{Pair}
 use Rattle.xa_log.proofs.Records.{length-record_of, length-text}
 use Rattle.xa_model.specs.State.{State}
 use Rattle.xa_model.specs.Fold.{sizes}
@@ -16,7 +16,7 @@ use Rattle.xa_model.specs.Invariants.Backing.{Backs, settled_first}
 use Rattle.xa_model.specs.Invariants.Loggable.{IsRecoverable}
 use Rattle.xa_model.proofs.AppliedAll.{finds_first}
 use Rattle.xa_model.proofs.Booted.{backs_found}
-use Rattle.xa_manager.specs.LogStands.{HasRecords, IsSettled, LogStandsFor}
+use Rattle.xa_manager.specs.Believed.LogStands.{HasRecords, IsSettled, LogStandsFor}
 use Rattle.xa_manager.specs.Rereading.{Found}
 
 -- how long a log of records is

@@ -6,25 +6,25 @@ use Rattle.xa_disk.specs.Disk.{Same}
 use Rattle.xa_disk.specs.Time.{TimePasses}
 use Rattle.xa_disk.specs.declared.disk.Disk.{Ghosts}
 use Rattle.xa_log.specs.Buffer.{Holds, HoldsEach}
-use Rattle.xa_log.specs.Chain.{IsBody, logged, most_body, newest, text}
-use Rattle.xa_log.specs.Checkpoint.{IsOther}
-use Rattle.xa_log.specs.Group.{as_one, first_of_group}
-use Rattle.xa_log.specs.LogStates.{Whole}
-use Rattle.xa_log.specs.Pair.{beats, has_log, number_in}
-use Rattle.xa_log.specs.Stands.{EndsBehind, Moves, Renumbers}
-use Rattle.xa_log.specs.TwoFiles.{Pair, IsOpenPair, first_of, second_of}
+use Rattle.xa_log.specs.Believed.Chain.{IsBody, logged, most_body, newest, text}
+use Rattle.xa_log.specs.Believed.Checkpoint.{IsOther}
+use Rattle.xa_log.specs.Believed.Group.{as_one, first_of_group}
+use Rattle.xa_log.specs.Believed.LogStates.{Whole}
+use Rattle.xa_log.specs.Believed.Pair.{beats, has_log, number_in}
+use Rattle.xa_log.specs.Believed.Stands.{EndsBehind, Moves, Renumbers}
+use Rattle.xa_log.specs.Believed.TwoFiles.{Pair, IsOpenPair, first_of, second_of}
 use Rattle.xa_log.specs.declared.appending.Appended.{Appended}
 use Rattle.xa_log.specs.declared.appending.Appended.TheVariants as appended
 use Rattle.xa_log.specs.declared.format.Format.{Format}
-use Rattle.xa_log.specs.LogView.{LogView}
+use Rattle.xa_log.specs.Believed.LogView.{LogView}
 use Rattle.xa_model.specs.declared.outcome.Appending.{Appending}
 use Rattle.xa_model.specs.declared.outcome.Appending.TheVariants.{Kept, Refused, Lost}
 use Rattle.xa_model.specs.State.{State}
 use Rattle.xa_manager.specs.declared.manager.Manager.{Manager}
-use Rattle.xa_manager.specs.Answered.{as_appended, NoneRises}
-use Rattle.xa_manager.specs.Crash.{LeavesLook}
-use Rattle.xa_manager.specs.Opening.{IsFound}
-use Rattle.xa_manager.specs.Refused.{KeepsCurrent, LogsFirst, LogsBoot}
+use Rattle.xa_manager.specs.Believed.Answered.{as_appended, NoneRises}
+use Rattle.xa_manager.specs.Believed.Crash.{LeavesLook}
+use Rattle.xa_manager.specs.Believed.Opening.{IsFound}
+use Rattle.xa_manager.specs.Believed.Refused.{KeepsCurrent, LogsFirst, LogsBoot}
 use Rattle.xa_manager.specs.Rereading.{Found}
 use Rattle.xa_manager.specs.Reserving.{HasReserved}
 use Rattle.xa_manager.specs.Managed.{ManagerStandsFor}

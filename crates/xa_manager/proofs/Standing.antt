@@ -5,12 +5,12 @@ use Rattle.xa_disk.specs.declared.disk.Disk.{Ghosts}
 use Rattle.xa_record.specs.Spelling.{spelled}
 use Rattle.xa_record.specs.declared.record.Record.{Record}
 use Rattle.xa_record.specs.declared.record.Record.TheVariants as logged
-use Rattle.xa_log.specs.Chain.{newest, text}
+use Rattle.xa_log.specs.Believed.Chain.{newest, text}
 use Rattle.xa_limits.specs.declared.TheConstants.{LENGTH_BYTES}
-use Rattle.xa_log.specs.LogView.{LogView}
-use Rattle.xa_log.specs.Pair.{generation}
-use Rattle.xa_log.specs.Checkpoint.{IsQuiet}
-use Rattle.xa_log.specs.TwoFiles.{Pair, MaySeal}
+use Rattle.xa_log.specs.Believed.LogView.{LogView}
+use Rattle.xa_log.specs.Believed.Pair.{generation}
+use Rattle.xa_log.specs.Believed.Checkpoint.{IsQuiet}
+use Rattle.xa_log.specs.Believed.TwoFiles.{Pair, MaySeal}
 use Rattle.xa_model.specs.State.{State, Up, Down, Ended}
 use Rattle.xa_model.specs.Durable.{durable}
 use Rattle.xa_model.specs.Fold.{snapshot}
@@ -39,7 +39,7 @@ use Rattle.xa_manager.specs.declared.tables.Tables.{Tables}
 use Rattle.xa_manager.specs.View.{View, view_of}
 use Rattle.xa_manager.proofs.LogLengths.{text_size}
 use Rattle.xa_manager.specs.Stands.{StandsFor, StandsDown, TablesStandFor}
-use Rattle.xa_manager.specs.LogStands.{Trusts, HasRecords, LogStandsFor}
+use Rattle.xa_manager.specs.Believed.LogStands.{Trusts, HasRecords, LogStandsFor}
 use Rattle.xa_manager.specs.Managed.{view, Doubts, ManagerStandsFor}
 use Rattle.xa_manager.specs.Rereading.{IsFate, Found}
 use Rattle.xa_manager.proofs.LogsBehind.{stands_whole, stands_seal, stands_alike, still_backed}

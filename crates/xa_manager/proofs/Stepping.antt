@@ -8,13 +8,13 @@ use Rattle.xa_frame.specs.declared.reply.Reply.{Reply}
 use Rattle.xa_record.specs.Spelling.{spelled}
 use Rattle.xa_record.specs.declared.record.Record.{Record}
 use Rattle.xa_record.specs.declared.record.Record.TheVariants as logged
-use Rattle.xa_log.specs.Damage.{is_appended}
-use Rattle.xa_log.specs.Group.{as_one, first_of_group, IsPlain}
-use Rattle.xa_log.specs.Pair.{generation, number_in}
-use Rattle.xa_log.specs.Stands.{Renumbers}
+use Rattle.xa_log.specs.Believed.Damage.{is_appended}
+use Rattle.xa_log.specs.Believed.Group.{as_one, first_of_group, IsPlain}
+use Rattle.xa_log.specs.Believed.Pair.{generation, number_in}
+use Rattle.xa_log.specs.Believed.Stands.{Renumbers}
 use Rattle.xa_log.specs.declared.appending.Appended.TheVariants as told
-use Rattle.xa_log.specs.TwoFiles.{Pair}
-use Rattle.xa_log.specs.LogView.{LogView}
+use Rattle.xa_log.specs.Believed.TwoFiles.{Pair}
+use Rattle.xa_log.specs.Believed.LogView.{LogView}
 use Rattle.xa_model.specs.declared.event.Event.{Event}
 use Rattle.xa_model.specs.declared.outcome.Outcome.{Outcome}
 use Rattle.xa_model.specs.declared.outcome.Outcome.TheVariants.{Quiet, Appended}
@@ -47,10 +47,10 @@ use Rattle.xa_assoc.specs.Refusals.{is_memory}
 use Rattle.xa_manager.specs.declared.doubt.Doubt.{Doubt}
 use Rattle.xa_manager.specs.declared.doubt.Doubt.TheVariants as doubt
 use Rattle.xa_manager.specs.declared.manager.Manager.{Manager}
-use Rattle.xa_manager.specs.Answered.{HasCalled, HasCalledFor}
+use Rattle.xa_manager.specs.Believed.Answered.{HasCalled, HasCalledFor}
 use Rattle.xa_manager.specs.View.{View as Tables}
-use Rattle.xa_manager.specs.Crash.{LeavesBy, LeavesNow, LeavesWritten, checkpoints}
-use Rattle.xa_manager.specs.LogStands.{Trusts, HasRecords, LogBacks, LogStandsFor}
+use Rattle.xa_manager.specs.Believed.Crash.{LeavesBy, LeavesNow, LeavesWritten, checkpoints}
+use Rattle.xa_manager.specs.Believed.LogStands.{Trusts, HasRecords, LogBacks, LogStandsFor}
 use Rattle.xa_manager.specs.Managed.{view, Doubts, ManagerStandsFor}
 use Rattle.xa_manager.specs.Stands.{StandsFor, TablesStandFor}
 use Rattle.xa_manager.proofs.Appending.{alone}

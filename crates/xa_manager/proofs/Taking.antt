@@ -4,7 +4,7 @@ use Rattle.std.specs.Prelude.{Result, Ok, Err, OnErr}
 use Rattle.xa_disk.specs.declared.disk.Disk.{Ghosts}
 use Rattle.xa_frame.specs.declared.reply.Reply.{Reply}
 use Rattle.xa_record.specs.declared.record.Record.{Record}
-use Rattle.xa_log.specs.LogView.{LogView}
+use Rattle.xa_log.specs.Believed.LogView.{LogView}
 use Rattle.xa_model.specs.declared.outcome.Outcome.{Outcome}
 use Rattle.xa_model.specs.declared.outcome.Outcome.TheVariants.{Quiet, Appended}
 use Rattle.xa_model.specs.declared.outcome.Appending.{Appending}
@@ -18,7 +18,7 @@ use Rattle.xa_assoc.specs.Refusals.{is_memory, IsBare}
 use Rattle.xa_assoc.proofs.Follows.{unmoved}
 use Rattle.xa_manager.specs.declared.done.Done.{Done}
 use Rattle.xa_manager.specs.declared.manager.Manager.{Manager}
-use Rattle.xa_manager.specs.Answered.{StaysFor}
+use Rattle.xa_manager.specs.Believed.Answered.{StaysFor}
 use Rattle.xa_manager.specs.View.{View}
 use Rattle.xa_manager.specs.Stands.{StandsFor, StandsDown, TablesStandFor, Follows, Stays}
 use Rattle.xa_manager.specs.Managed.{view, ManagerStandsFor}

@@ -33,7 +33,7 @@ use Rattle.xa_manager.specs.Rows.{asked_row, record_of, written_record}
 use Rattle.xa_manager.specs.Rows as rows
 use Rattle.xa_manager.specs.Stands.{StandsFor, StandsWithRooms}
 use Rattle.xa_manager.specs.GroupAnswers.{AreTogether, TakesFirst, group_after}
-use Rattle.xa_manager.specs.Together.{Member, PreparesFirst, is_prepare, part_of, parts_of, prepares_of}
+use Rattle.xa_manager.specs.Believed.Together.{Member, PreparesFirst, is_prepare, part_of, parts_of, prepares_of}
 use Rattle.xa_manager.specs.View.{View, view_of}
 use Rattle.xa_manager.proofs.Finishing.{without_rooms}
 

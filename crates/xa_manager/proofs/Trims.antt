@@ -11,12 +11,12 @@ use Rattle.xa_record.specs.Spelling.{spelled}
 use Rattle.xa_record.specs.declared.record.Record.{Record}
 use Rattle.xa_record.specs.declared.record.Record.TheVariants as logged
 use Rattle.xa_log.specs.Answers.{HasCause, HasRisen}
-use Rattle.xa_log.specs.Chain.{IsBody, newest, text}
-use Rattle.xa_log.specs.Pair.{generation}
+use Rattle.xa_log.specs.Believed.Chain.{IsBody, newest, text}
+use Rattle.xa_log.specs.Believed.Pair.{generation}
 use Rattle.xa_log.specs.declared.appending.Appended.{Appended as Told}
 use Rattle.xa_log.specs.declared.appending.Appended.TheVariants as told
-use Rattle.xa_log.specs.TwoFiles.{MaySeal, Swaps, written}
-use Rattle.xa_log.specs.LogView.{LogView}
+use Rattle.xa_log.specs.Believed.TwoFiles.{MaySeal, Swaps, written}
+use Rattle.xa_log.specs.Believed.LogView.{LogView}
 use Rattle.xa_limits.specs.declared.TheConstants.{LENGTH_BYTES}
 use Rattle.xa_model.specs.declared.outcome.Outcome.{Outcome}
 use Rattle.xa_model.specs.declared.outcome.Outcome.TheVariants.{Quiet, Appended}
@@ -40,9 +40,9 @@ use Rattle.xa_model.proofs.Written.{snapshot_is_written}
 use Rattle.xa_assoc.specs.Refusals.{is_memory}
 use Rattle.xa_manager.specs.declared.doubt.Doubt.TheVariants.{Boot}
 use Rattle.xa_manager.specs.declared.manager.Manager.{Manager}
-use Rattle.xa_manager.specs.Answered.{as_appended, HasCalledToTrim, NoneRises, OneRises}
-use Rattle.xa_manager.specs.Crash.{LeavesBy, LeavesCurrent, LeavesWritten, checkpoints}
-use Rattle.xa_manager.specs.LogStands.{HasRecords, LogBacks, LogStandsFor, Trusts, snapshot_bodies}
+use Rattle.xa_manager.specs.Believed.Answered.{as_appended, HasCalledToTrim, NoneRises, OneRises}
+use Rattle.xa_manager.specs.Believed.Crash.{LeavesBy, LeavesCurrent, LeavesWritten, checkpoints}
+use Rattle.xa_manager.specs.Believed.LogStands.{HasRecords, LogBacks, LogStandsFor, Trusts, snapshot_bodies}
 use Rattle.xa_manager.specs.Managed.{view, AnswersAs, ManagerStandsFor}
 use Rattle.xa_manager.specs.Reserving.{HasReserved}
 use Rattle.xa_manager.specs.Stands.{StandsFor, TablesStandFor}

@@ -7,7 +7,7 @@ use Rattle.xa_model.specs.Invariants.LowWater.{low_water}
 use Rattle.xa_model.specs.Invariants.Sound.{IsSound}
 use Rattle.xa_model.specs.State.{State}
 use Rattle.xa_manager.specs.declared.manager.Manager.{Manager}
-use Rattle.xa_manager.specs.Parts.{branches_of, records_of}
+use Rattle.xa_manager.specs.Believed.Parts.{branches_of, records_of}
 
 -- whatever state the branches stand for, nothing that is noted in the records is due at its low water
 abbrev pub GivesBack : Branches → Records → Type 0

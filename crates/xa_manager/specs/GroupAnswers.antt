@@ -1,7 +1,6 @@
 -- What becomes of a group by the device's answer, and what its calls are replied.
 use Rattle.std.specs.Prelude.{ℕ, ◌≡◌, ◌≢◌, ◌<◌, Some, List, [], ◌∷◌, length}
 use Rattle.std.specs.List.{AllByRecursion}
-use Rattle.xa_disk.specs.declared.disk.Disk.{Ghosts}
 use Rattle.xa_frame.specs.declared.reply.Reply.{Reply}
 use Rattle.xa_xid.specs.Triple.{Triple}
 use Rattle.xa_model.specs.declared.outcome.Appending.{Appending}
@@ -9,7 +8,6 @@ use Rattle.xa_model.specs.declared.outcome.Appending.TheVariants.{Kept, Refused,
 use Rattle.xa_model.specs.State.{State}
 use Rattle.xa_model.specs.Logging.{applied_all, down}
 use Rattle.xa_model.specs.Laws.Together.{Part, MayStandTogether, left_by_all, records_of, replied}
-use Rattle.xa_manager.specs.declared.manager.Manager.{Manager}
 use Rattle.xa_manager.specs.declared.row.Row.{Row}
 use Rattle.xa_manager.specs.declared.row.Row.TheVariants.{Writes}
 use Rattle.xa_manager.specs.declared.row.Writing.TheVariants.{Prepare}
@@ -17,11 +15,9 @@ use Rattle.xa_manager.specs.declared.tables.Tables.{Tables}
 use Rattle.xa_manager.specs.declared.together.Asked.{Asked}
 use Rattle.xa_manager.specs.declared.together.Joining.{Joining}
 use Rattle.xa_manager.specs.Acts.{GivesFirstRoomBack, TakesFirstPrepared}
-use Rattle.xa_manager.specs.Answered.{StaysFor}
-use Rattle.xa_manager.specs.Parts.{log_of}
 use Rattle.xa_manager.specs.Rows.{asked_row, refused_code}
 use Rattle.xa_manager.specs.Stands.{StandsFor, StandsWithRooms}
-use Rattle.xa_manager.specs.Together.{Member, PreparesFirst, TakesTogether, asked_at, members_of, parts_of, prepares_of}
+use Rattle.xa_manager.specs.Believed.Together.{Member, PreparesFirst, asked_at, members_of, parts_of, prepares_of}
 use Rattle.xa_manager.specs.Turns.{reply_to}
 use Rattle.xa_manager.specs.View.{view_of}
 
@@ -51,11 +47,6 @@ TakeAnswers t js a t' =
     → StandsWithRooms (prepares_of (members_of calls js)) (view_of t) s
     → StandsFor (view_of t') (group_after a s (parts_of s (members_of calls js)))
 
--- a group was answered, of some calls
-abbrev pub TakesGroup : {D : Type 0} → Ghosts D → Manager D → List Member → Appending → Manager D → Type 0
-TakesGroup disks m [] a m' = ⊥
-TakesGroup disks m (c ∷ cs) a m' = TakesTogether disks m c cs a m'
-
 -- what a call of a group is told, by its place among those that were asked
 abbrev pub told : Appending → Joining → ℕ × Reply
 told a j = (j.at, reply_to (refused_code j.row) a)
@@ -71,10 +62,3 @@ abbrev pub AreReplies : List Asked → Appending → List Member → List (ℕ �
 AreReplies calls a [] [] = Unit {0}
 AreReplies calls a (c ∷ cs) (r ∷ rs) = IsReplyTo calls a c r × AreReplies calls a cs rs
 AreReplies calls a _ _ = ⊥
-
--- No call was answered, and nothing changed; or those of a group were, in its order.
-abbrev pub AnswersTogether : {D : Type 0} → Ghosts D → Manager D → List Asked → List (ℕ × Reply) → Manager D → Type 0
-AnswersTogether disks m calls [] m' = StaysFor disks m m' × (log_of m' ≡ log_of m)
-AnswersTogether disks m calls (r ∷ rs) m' =
-    (first : Member) × (rest : List Member) × (a : Appending) × AreReplies calls a (first ∷ rest) (r ∷ rs)
-    × TakesTogether disks m first rest a m'

@@ -2,7 +2,7 @@
 use Rattle.std.specs.Prelude.{◌≡◌, ◌≤◌, true, false, Option, Some, None, IsSomeAnd, [], ◌∷◌, length}
 use Rattle.std.specs.List.{AllByRecursion}
 use Rattle.xa_disk.specs.declared.disk.Disk.{Ghosts}
-use Rattle.xa_log.specs.Chain.{newest}
+use Rattle.xa_log.specs.Believed.Chain.{newest}
 use Rattle.xa_record.specs.declared.record.Record.TheVariants as logged
 use Rattle.xa_frame.specs.declared.reply.Reply.{Reply}
 use Rattle.xa_model.specs.Answer.{Answer}
@@ -12,10 +12,10 @@ use Rattle.xa_model.specs.Invariants.Room.{IsRoomy}
 use Rattle.xa_manager.specs.declared.doubt.Doubt.{Doubt}
 use Rattle.xa_manager.specs.declared.doubt.Doubt.TheVariants.{Boot, Record as LastRecord}
 use Rattle.xa_manager.specs.declared.manager.Manager.{Manager}
-use Rattle.xa_manager.specs.Parts.{doubt_of, is_up, log_of, tables_of}
+use Rattle.xa_manager.specs.Believed.Parts.{doubt_of, is_up, log_of, tables_of}
 use Rattle.xa_manager.specs.View.{View, view_of}
 use Rattle.xa_manager.specs.Stands.{TablesStandFor}
-use Rattle.xa_manager.specs.LogStands.{Trusts, LogBacks, LogStandsFor}
+use Rattle.xa_manager.specs.Believed.LogStands.{Trusts, LogBacks, LogStandsFor}
 
 abbrev pub view : {D : Type 0} → Manager D → View
 view m = view_of (tables_of m)

@@ -7,7 +7,7 @@ use Rattle.xa_xid.specs.Triple.{Triple}
 use Rattle.xa_frame.specs.declared.reply.Reply.{Reply}
 use Rattle.xa_record.specs.Spelling.{spelled}
 use Rattle.xa_log.specs.Buffer.{Holds}
-use Rattle.xa_log.specs.Chain.{IsBody}
+use Rattle.xa_log.specs.Believed.Chain.{IsBody}
 use Rattle.xa_model.specs.declared.outcome.Appending.{Appending}
 use Rattle.xa_model.specs.State.{State}
 use Rattle.xa_model.specs.Answer.{answer}

@@ -6,8 +6,8 @@ use Rattle.xa_record.specs.Limits.{IsRecord}
 use Rattle.xa_record.specs.Spelling.{spelled}
 use Rattle.xa_record.specs.declared.record.Record.{Record}
 use Rattle.xa_log.specs.Buffer.{HoldsEach}
-use Rattle.xa_log.specs.Chain.{newest}
-use Rattle.xa_log.specs.LogView.{LogView}
+use Rattle.xa_log.specs.Believed.Chain.{newest}
+use Rattle.xa_log.specs.Believed.LogView.{LogView}
 use Rattle.xa_model.specs.State.{State}
 use Rattle.xa_model.specs.Durable.{Durable}
 use Rattle.xa_model.specs.Fold.{snapshot}
@@ -25,7 +25,7 @@ use Rattle.xa_manager.specs.declared.boots.NextBoot.{NextBoot}
 use Rattle.xa_manager.specs.declared.boots.Planned.{Planned}
 use Rattle.xa_manager.specs.declared.doubt.Doubt.{Doubt}
 use Rattle.xa_manager.specs.declared.doubt.Doubt.TheVariants.{Boot, Record as LastRecord}
-use Rattle.xa_manager.specs.LogStands.{HasRecords}
+use Rattle.xa_manager.specs.Believed.LogStands.{HasRecords}
 
 -- what a state is once its last records' fates are known: the first so many survived
 abbrev pub IsFate : ℕ → State → State → Type 0

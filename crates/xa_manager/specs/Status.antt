@@ -4,7 +4,7 @@ use Rattle.mv_rules.specs.Records.{versions_in}
 use Rattle.xa_assoc.specs.Seats.{connected_in}
 use Rattle.xa_frame.specs.declared.status.Status.{Status}
 use Rattle.xa_manager.specs.declared.manager.Manager.{Manager}
-use Rattle.xa_manager.specs.Parts.{records_of}
+use Rattle.xa_manager.specs.Believed.Parts.{records_of}
 use Rattle.xa_manager.specs.View.{View}
 use Rattle.xa_model.specs.Logging.{prepared_count}
 use Rattle.xa_model.specs.State.{State, Standing, Up, Down, Ended, known_in}

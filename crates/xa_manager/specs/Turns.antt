@@ -10,12 +10,12 @@ use Rattle.xa_record.specs.Spelling.{spelled}
 use Rattle.xa_record.specs.declared.record.Record.{Record}
 use Rattle.xa_log.specs.Calls.{SettlesBy}
 use Rattle.xa_log.specs.Ahead.{AppendsBy}
-use Rattle.xa_log.specs.Damage.{AreAppended}
-use Rattle.xa_log.specs.Group.{as_one, first_of_group}
-use Rattle.xa_log.specs.Stands.{Stands, Leaves, Moves, Renumbers}
-use Rattle.xa_log.specs.TwoFiles.{Pair, AppendsTo}
+use Rattle.xa_log.specs.Believed.Damage.{AreAppended}
+use Rattle.xa_log.specs.Believed.Group.{as_one, first_of_group}
+use Rattle.xa_log.specs.Believed.Stands.{Stands, Leaves, Moves, Renumbers}
+use Rattle.xa_log.specs.Believed.TwoFiles.{Pair, AppendsTo}
 use Rattle.xa_log.specs.Written.{HasWritten, write_of}
-use Rattle.xa_log.specs.LogView.{LogView}
+use Rattle.xa_log.specs.Believed.LogView.{LogView}
 use Rattle.xa_log.specs.declared.written.Written.{Written}
 use Rattle.xa_limits.specs.declared.TheConstants.{AROUND_CLOSED}
 use Rattle.xa_model.specs.declared.outcome.Outcome.{Outcome}
@@ -35,9 +35,10 @@ use Rattle.xa_assoc.specs.Refusals.{is_memory}
 use Rattle.xa_manager.specs.declared.doubt.Doubt.{Doubt}
 use Rattle.xa_manager.specs.declared.doubt.Doubt.TheVariants as doubt
 use Rattle.xa_manager.specs.declared.manager.Manager.{Manager}
-use Rattle.xa_manager.specs.Answered.{as_appended, may_want, CallsAs, HasCalled, HasCalledToTrim, NoneRises, StaysFor}
-use Rattle.xa_manager.specs.Crash.{CrashesAs, LeavesBy, LeavesLook}
-use Rattle.xa_manager.specs.LogStands.{Trusts}
+use Rattle.xa_manager.specs.Believed.Answered.{as_appended, may_want, CallsAs}
+use Rattle.xa_manager.specs.Believed.Answered.{HasCalled, HasCalledToTrim, NoneRises, StaysFor}
+use Rattle.xa_manager.specs.Believed.Crash.{CrashesAs, LeavesBy, LeavesLook}
+use Rattle.xa_manager.specs.Believed.LogStands.{Trusts}
 use Rattle.xa_manager.specs.Managed.{view, ManagerStandsFor, AnswersAs}
 use Rattle.xa_manager.specs.Stands.{TablesStandFor}
 

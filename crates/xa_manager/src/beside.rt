@@ -4,7 +4,7 @@ ghost use Rattle.std.specs.List.{AllByRecursion};
 ghost use Rattle.xa_frame.specs.declared.request.Request.TheVariants as request;
 ghost use Rattle.xa_model.specs.{Events.IsAsked, Laws.Together.is_work, declared.event.Event.Event};
 ghost use Rattle.xa_manager.specs.Connected.{connected_to};
-ghost use Rattle.xa_manager.specs.Pending.{IsGroupOf, WorksApartFrom, WorksBeside};
+ghost use Rattle.xa_manager.specs.Believed.Pending.{IsGroupOf, WorksApartFrom, WorksBeside};
 ghost use Rattle.xa_manager.specs.Replies.{IsFresh};
 
 use crate::manager::Manager;

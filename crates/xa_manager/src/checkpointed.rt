@@ -3,7 +3,7 @@ ghost use Rattle.mv_rules.specs.Committed.{branches_in};
 ghost use Rattle.xa_model.specs.Durable.{durable};
 ghost use Rattle.xa_recovery.specs.Durable.{committed_of, prepared_of};
 ghost use Rattle.xa_limits.specs.declared.TheConstants.{MOST_BOOTS};
-ghost use Rattle.xa_manager.specs.{LogStands.snapshot_bodies, Tables.TablesSay};
+ghost use Rattle.xa_manager.specs.{Believed.LogStands.snapshot_bodies, Tables.TablesSay};
 
 use crate::tables::Tables;
 use std::alloc::{AllocError, Global};

@@ -1,7 +1,7 @@
 ghost use Rattle.std.specs.Prelude.{◌≡◌, ◌≢◌, Result, Err, ℕ, pos, IfOk, OnErr};
 ghost use Rattle.xa_model.specs.Answer.{plain};
 ghost use Rattle.xa_model.specs.Associations.{connect_by, open_by, close_by, hang_up_by};
-ghost use Rattle.xa_manager.specs.Answered.{connect_reply};
+ghost use Rattle.xa_manager.specs.Believed.Answered.{connect_reply};
 ghost use Rattle.xa_assoc.specs.Company.{company_of, Gains, Loses};
 ghost use Rattle.xa_assoc.specs.Refusals.{IsBare};
 ghost use Rattle.xa_manager.specs.Tables.{TablesFollow, TablesFollowDown, TablesStay, TablesStayDown};

@@ -1,7 +1,7 @@
 //! How a pending group is finished: its calls are answered by the sync's answer.
 ghost use Rattle.std.specs.Prelude.{◌≡◌};
-ghost use Rattle.xa_manager.specs.{Connected.connected_to, Parts.outcome_of};
-ghost use Rattle.xa_manager.specs.Pending.{HasFinished, IsGroupOf, calls_of};
+ghost use Rattle.xa_manager.specs.{Connected.connected_to, Believed.Parts.outcome_of};
+ghost use Rattle.xa_manager.specs.Believed.Pending.{HasFinished, IsGroupOf, calls_of};
 ghost use Rattle.xa_manager.specs.Once.{AreOnce};
 
 use crate::manager::Manager;
@@ -11,8 +11,10 @@ use xa_disk::{Disk, SyncAnswer};
 use xa_frame::Reply;
 
 impl<D: Disk> Manager<D> {
-    /// Answers the calls of a pending group, by the answer of its sync, as `call_together`. Gives their replies, and the calls
-    /// back. Takes no memory.
+    /// Answers the calls of a pending group, by the answer of its sync: each acts as one step at its place in the group.
+    /// Gives their replies in the order of the group, each with the place of its call among those that were asked, and the
+    /// calls back. Of a call that has no reply nothing has been done: it logs nothing, or may not stand in the group. It is
+    /// to be called by itself afterwards. Takes no memory.
     pub fn finish_group(
         &mut self,
         group: PendingGroup,

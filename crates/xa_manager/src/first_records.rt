@@ -1,10 +1,11 @@
 ghost use Rattle.std.specs.Prelude.{◌≡◌, ◌≤◌, ◌<◌, ◌+◌, List, ℕ, [], false, true, length, fold, max, OnOk, OnErr};
 ghost use Rattle.std.specs.List.{AllByRecursion};
 ghost use Rattle.xa_log.specs.Buffer.{HoldsEach};
-ghost use Rattle.xa_log.specs.Chain.{IsBody, newest, text};
-ghost use Rattle.xa_log.specs.{Pair.generation, Stands.EndsBehind};
+ghost use Rattle.xa_log.specs.Believed.Chain.{IsBody, newest, text};
+ghost use Rattle.xa_log.specs.{Believed.Pair.generation, Believed.Stands.EndsBehind};
 ghost use Rattle.xa_limits.specs.declared.TheConstants.{LENGTH_BYTES};
-ghost use Rattle.xa_manager.specs.{Opening.HasBodies, Opening.IsFound, Refused.LogsFirst, Reserving.HasReserved};
+ghost use Rattle.xa_manager.specs.{Believed.Opening.HasBodies, Believed.Opening.IsFound};
+ghost use Rattle.xa_manager.specs.{Believed.Refused.LogsFirst, Reserving.HasReserved};
 
 use std::alloc::AllocError;
 use xa_disk::Disk;

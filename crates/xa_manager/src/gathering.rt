@@ -5,10 +5,11 @@ ghost use Rattle.xa_limits.specs.declared.TheConstants.{AROUND_CLOSED, MOST_BODY
 ghost use Rattle.xa_log.specs.declared.left_out.TheConstants.{MOST_GROUP};
 ghost use Rattle.xa_xid.specs.Triple.{xid_eq};
 ghost use Rattle.xa_model.specs.Events.{IsAsked};
-ghost use Rattle.xa_manager.specs.{Answered.StaysFor, Connected.connected_to, Plans.bytes_of, Reserving.HasReserved};
-ghost use Rattle.xa_log.specs.{Buffer.Holds, Group.as_one, Reading.bodies_of};
-ghost use Rattle.xa_manager.specs.Together.{AppendsAlone, AreReady, asks_prepare, HasJoined, IsGroup, MayJoin};
-ghost use Rattle.xa_manager.specs.Together.{StandsLast};
+ghost use Rattle.xa_manager.specs.{Believed.Answered.StaysFor, Connected.connected_to};
+ghost use Rattle.xa_manager.specs.{Plans.bytes_of, Reserving.HasReserved};
+ghost use Rattle.xa_log.specs.{Buffer.Holds, Believed.Group.as_one, Reading.bodies_of};
+ghost use Rattle.xa_manager.specs.Believed.Together.{AppendsAlone, AreReady, asks_prepare, HasJoined, IsGroup, MayJoin};
+ghost use Rattle.xa_manager.specs.Believed.Together.{StandsLast};
 
 use crate::manager::Manager;
 use crate::plan::{Logging, Plan};

@@ -2,9 +2,10 @@ ghost use Rattle.std.specs.Prelude.{◌≡◌, ◌≢◌, ◌≤◌, ◌+◌, le
 ghost use Rattle.xa_limits.specs.declared.TheConstants.{AROUND_BODY, MOST_BODY};
 ghost use Rattle.xa_log.specs.Buffer.{Holds};
 ghost use Rattle.std.specs.List.{AllByRecursion};
-ghost use Rattle.xa_log.specs.{Chain.IsBody, Chain.newest, Group.as_one, Group.bodies_in, Written.IsRange};
+ghost use Rattle.xa_log.specs.{Believed.Chain.IsBody, Believed.Chain.newest};
+ghost use Rattle.xa_log.specs.{Believed.Group.as_one, Believed.Group.bodies_in, Written.IsRange};
 ghost use Rattle.xa_model.specs.{State.State, Logging.log_room, Logging.prepared_count};
-ghost use Rattle.xa_manager.specs.{Managed.ManagerStandsFor, Answered.as_appended};
+ghost use Rattle.xa_manager.specs.{Managed.ManagerStandsFor, Believed.Answered.as_appended};
 ghost use Rattle.xa_manager.specs.Turns.{HasJournaled, HasSettled, doubt_after, up_after};
 
 use crate::doubt::Doubt;

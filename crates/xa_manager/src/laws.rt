@@ -1,7 +1,7 @@
 //! What can be said of a manager's two files, and of managers on disks in memory.
-ghost use Rattle.xa_manager.specs.CrashLaws.{ReadLeaves, ReadStands, CrashLeaves, FilesLast, FilesLastAsFated};
-ghost use Rattle.xa_manager.specs.{LogStands.Trusts, Pending.PendingLeaves};
-ghost use Rattle.xa_manager.specs.Promises.{ReachedPromises, OnePromises, BegunIsReached};
+ghost use Rattle.xa_manager.specs.Believed.CrashLaws.{ReadLeaves, ReadStands, CrashLeaves, FilesLast, FilesLastAsFated};
+ghost use Rattle.xa_manager.specs.{Believed.LogStands.Trusts, Believed.Pending.PendingLeaves};
+ghost use Rattle.xa_manager.specs.Believed.Promises.{ReachedPromises, OnePromises, BegunIsReached};
 
 use xa_disk::{Disk, MemDisk};
 

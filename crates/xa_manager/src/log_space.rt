@@ -1,6 +1,6 @@
 ghost use Rattle.std.specs.Prelude.{◌≡◌, ◌+◌, ◌*◌, ◌^◌, length, Some, None, nat_lt, if◌then◌else◌};
 ghost use Rattle.std.specs.List.{AllByRecursion};
-ghost use Rattle.xa_log.specs.Chain.{IsBody, newest, text};
+ghost use Rattle.xa_log.specs.Believed.Chain.{IsBody, newest, text};
 ghost use Rattle.xa_model.specs.Logging.{log_room};
 ghost use Rattle.xa_limits.specs.declared.TheConstants.{DECIDED_ROOM, PREPARED_ROOM};
 

@@ -4,8 +4,8 @@ ghost use Rattle.std.specs.Prelude.{◌≡◌, ◌≤◌, length, IfOk, IsOk, On
 ghost use Rattle.xa_limits.specs.declared.TheConstants.{MOST_BODY, MOST_SMALL};
 ghost use Rattle.xa_xid.specs.Triple.{IsWithinLimits};
 ghost use Rattle.xa_assoc.specs.Refusals.{IsBare};
-ghost use Rattle.xa_log.specs.{Buffer.Holds, Chain.IsBody};
-ghost use Rattle.xa_manager.specs.{Answered.StaysFor, Connected.connected_to};
+ghost use Rattle.xa_log.specs.{Buffer.Holds, Believed.Chain.IsBody};
+ghost use Rattle.xa_manager.specs.{Believed.Answered.StaysFor, Connected.connected_to};
 ghost use Rattle.xa_manager.specs.Plans.{bytes_of, CanLog, IsPlan, IsReady};
 ghost use Rattle.xa_manager.specs.{Rows.row_turn, Rows.takes_memory, Turns.TakesTurn};
 

@@ -1,13 +1,14 @@
 ghost use Rattle.std.specs.Prelude.{◌≡◌, pos, IfOk, OnErr};
 ghost use Rattle.std.specs.List.{list_any};
 ghost use Rattle.xa_model.specs.Events.{IsAsked, AreEvents, IsEvent};
-ghost use Rattle.xa_log.specs.TwoFiles.{first_of, second_of};
+ghost use Rattle.xa_log.specs.Believed.TwoFiles.{first_of, second_of};
 ghost use Rattle.xa_model.specs.{Answer.plain, Associations.is_of_session, State.State, State.Up};
 ghost use Rattle.xa_manager.specs.Managed.{ManagerStandsFor};
-ghost use Rattle.xa_manager.specs.Answered.{FullyAnswered, AnswersAll, ArePinned, RunsAll, StaysFor, connect_reply};
+ghost use Rattle.xa_manager.specs.Believed.Answered.{FullyAnswered, AnswersAll, ArePinned, RunsAll, StaysFor, connect_reply};
 ghost use Rattle.xa_assoc.specs.Company.{Gains, Loses};
-ghost use Rattle.xa_manager.specs.{Drained.HasGivenBack, Connected.connected_to, Promises.PromisesAll, Counted.CountsAll, Parts.log_of};
-ghost use Rattle.xa_manager.specs.{Parts.outcome_of, Status.versions_of};
+ghost use Rattle.xa_manager.specs.{Drained.HasGivenBack, Connected.connected_to};
+ghost use Rattle.xa_manager.specs.{Believed.Promises.PromisesAll, Believed.Counted.CountsAll, Believed.Parts.log_of};
+ghost use Rattle.xa_manager.specs.{Believed.Parts.outcome_of, Status.versions_of};
 ghost use Rattle.xa_frame.specs.Limits.{IsReply};
 
 use crate::done::Done;

@@ -1,15 +1,18 @@
 ghost use Rattle.std.specs.Prelude.{ℕ, ◌≡◌, ◌≤◌, ◌<◌, ◌⊎◌, ◌↔◌, Bool, true, [], IfOk, IfErr, OnOk, IsErrOf, IsErrAnd, IsSomeAnd, Some, None, length};
 ghost use Rattle.xa_limits.specs.declared.TheConstants.{MOST_LOG};
-ghost use Rattle.xa_log.specs.{Chain.newest, LogView.LogView};
+ghost use Rattle.xa_log.specs.{Believed.Chain.newest, Believed.LogView.LogView};
 ghost use Rattle.xa_log.specs.Opened.{IsOpened, found_in, found_in_first, passed_in, passed_of, limit_of};
-ghost use Rattle.xa_log.specs.Pair.{generation, pair_fault, logged_pair};
-ghost use Rattle.xa_log.specs.{Reading.Ends, Reading.bodies_of, Stands.EndsBehind, TwoFiles.first_of, TwoFiles.second_of};
+ghost use Rattle.xa_log.specs.Believed.Pair.{generation, pair_fault, logged_pair};
+ghost use Rattle.xa_log.specs.{Reading.Ends, Reading.bodies_of};
+ghost use Rattle.xa_log.specs.{Believed.Stands.EndsBehind, Believed.TwoFiles.first_of, Believed.TwoFiles.second_of};
 ghost use Rattle.xa_model.specs.{declared.outcome.Outcome.TheVariants.Reread, declared.outcome.Appending.TheVariants.Kept, State.State};
 ghost use Rattle.xa_model.specs.{Invariants.Loggable.IsRecoverable, Turn.Reopened, Step.step, History.fresh};
-ghost use Rattle.xa_manager.specs.{CrashOpening.CrashesOpening, Files.FilesStandFor, LogStands.Trusts, Managed.ManagerStandsFor};
-ghost use Rattle.xa_manager.specs.Opening.{IsBadSetting, IsFound, HasBegun, HasBegunOn, LogRefused, BootRefused, OpenRefused, begun_manager};
-ghost use Rattle.xa_manager.specs.Parts.{log_of};
-ghost use Rattle.xa_manager.specs.Refused.{LeavesFinding, LogsBoot, LeavesBegin, LeavesLogging, LeavesRefused};
+ghost use Rattle.xa_manager.specs.{Believed.CrashOpening.CrashesOpening, Believed.Files.FilesStandFor};
+ghost use Rattle.xa_manager.specs.{Believed.LogStands.Trusts, Managed.ManagerStandsFor};
+ghost use Rattle.xa_manager.specs.Believed.Opening.{IsBadSetting, IsFound, HasBegun, HasBegunOn};
+ghost use Rattle.xa_manager.specs.Believed.Opening.{LogRefused, BootRefused, OpenRefused, begun_manager};
+ghost use Rattle.xa_manager.specs.Believed.Parts.{log_of};
+ghost use Rattle.xa_manager.specs.Believed.Refused.{LeavesFinding, LogsBoot, LeavesBegin, LeavesLogging, LeavesRefused};
 
 use crate::boots::{NextBoot, Planned, plan};
 use crate::fault::ManagerFault;

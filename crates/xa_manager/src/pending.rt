@@ -1,10 +1,11 @@
 ghost use Rattle.std.specs.Prelude.{◌≡◌, IfErr, IfOk, OnErr, true};
 ghost use Rattle.std.specs.List.{AllByRecursion};
 ghost use Rattle.xa_model.specs.{Events.IsAsked, State.State};
-ghost use Rattle.xa_manager.specs.{Answered.StaysFor, Connected.connected_to, Parts.log_of, Parts.outcome_of};
+ghost use Rattle.xa_manager.specs.{Believed.Answered.StaysFor, Connected.connected_to};
+ghost use Rattle.xa_manager.specs.{Believed.Parts.log_of, Believed.Parts.outcome_of};
 ghost use Rattle.xa_log.specs.Reading.{bodies_of};
-ghost use Rattle.xa_manager.specs.Pending.{IsPending, IsGroupOf, WritesGroup, calls_of};
-ghost use Rattle.xa_manager.specs.Together.{IsBounded};
+ghost use Rattle.xa_manager.specs.Believed.Pending.{IsPending, IsGroupOf, WritesGroup, calls_of};
+ghost use Rattle.xa_manager.specs.Believed.Together.{IsBounded};
 ghost use Rattle.xa_manager.specs.{Managed.ManagerStandsFor, Reserving.HasReserved};
 
 use crate::manager::Manager;
@@ -33,9 +34,10 @@ impl PendingGroup {
 }
 
 impl<D: Disk> Manager<D> {
-    /// Writes the records of a group of calls, as `call_together`, and leaves the sync to whoever has the `syncer`. Until the
-    /// group is finished (`finish_group`), the manager answers sessions' work on other branches (`work`), and nothing else.
-    /// All memory that finishing it wants is taken before the write.
+    /// Begins a group of calls of different sessions: those that log, each on an XID of its own, the prepares first. Their
+    /// records share one write, which is made here, and one sync, which is left to whoever has the `syncer`. Until the group
+    /// is finished (`finish_group`), the manager answers sessions' work on other branches (`work`), and nothing else. All
+    /// memory that finishing it wants is taken before the write.
     ///
     /// # Errors
     /// Gives the calls back where none of them logs, or out of memory: then nothing changed.

@@ -7,7 +7,7 @@ use xa_disk::{Disk, Effect, MemDisk};
 
 impl Manager<MemDisk> {
     ghost use Rattle.xa_log.specs.Planned.{CrashesBoth, Plans, PlansStop};
-    ghost use Rattle.xa_manager.specs.{Answered.StaysFor, Parts.log_of, Parts.outcome_of};
+    ghost use Rattle.xa_manager.specs.{Believed.Answered.StaysFor, Believed.Parts.log_of, Believed.Parts.outcome_of};
 
     /// Plans that the k-th device call of the current file's disk from now fails, as `MemDisk::fail` does. Nothing else
     /// changes.

@@ -1,7 +1,7 @@
 ghost use Rattle.std.specs.Prelude.{◌≡◌};
 ghost use Rattle.xa_codes.specs.declared.detail.Detail.TheVariants as detail;
 ghost use Rattle.xa_frame.specs.Limits.{IsReply};
-ghost use Rattle.xa_manager.specs.Answered.{connect_reply, memory_code};
+ghost use Rattle.xa_manager.specs.Believed.Answered.{connect_reply, memory_code};
 ghost use Rattle.xa_model.specs.Answer.{detailed};
 
 use xa_assoc::ConnectFault;

@@ -1,13 +1,10 @@
 //! Calls that are asked together: those that log, on XIDs of their own, share one write and one sync.
-ghost use Rattle.std.specs.Prelude.{◌≡◌, ◌≢◌, ◌≤◌, length, map, List, [], true, IfOk, OnErr, OnOk, vec_capacity};
+ghost use Rattle.std.specs.Prelude.{◌≡◌, ◌≢◌, ◌≤◌, length, map, [], IfOk, vec_capacity};
 ghost use Rattle.std.specs.List.{AllByRecursion};
 ghost use Rattle.xa_assoc.specs.Company.{company_of};
-ghost use Rattle.xa_log.specs.{Buffer.Holds, Chain.IsBody, Group.as_one, Reading.bodies_of};
 ghost use Rattle.xa_model.specs.Events.{IsAsked};
-ghost use Rattle.xa_manager.specs.{Acts.GiveRoomsBack, Answered.StaysFor, Connected.connected_to};
-ghost use Rattle.xa_manager.specs.GroupAnswers.{AnswersTogether, TakeAnswers, TakesGroup, told};
-ghost use Rattle.xa_manager.specs.{Once.AreOnce, Parts.log_of, Parts.outcome_of, Reserving.HasReserved};
-ghost use Rattle.xa_manager.specs.Together.{AreReady, IsGroup, members_of};
+ghost use Rattle.xa_manager.specs.{Acts.GiveRoomsBack, GroupAnswers.TakeAnswers};
+ghost use Rattle.xa_manager.specs.{GroupAnswers.told, Believed.Together.IsGroup};
 
 use crate::done::Done;
 use crate::manager::Manager;
@@ -16,7 +13,6 @@ use crate::tables::Tables;
 use std::alloc::AllocError;
 use xa_disk::Disk;
 use xa_frame::{Reply, Request};
-use xa_log::Group;
 use xa_model::Appending;
 use xa_xid::Xid;
 
@@ -48,51 +44,6 @@ pub(crate) struct Joining {
 }
 
 impl<D: Disk> Manager<D> {
-    /// The append, and what the tables make of the answer for each call. Takes no memory.
-    fn carry_out_together(&mut self, together: &Together) -> Appending
-        requires some { 1 ≤ length together.now.bodies.items }
-        requires sizes { AllByRecursion (IsBody self.old.log.format) (bodies_of together.now.bodies.items) }
-        requires holds { Holds self.old.log (as_one (bodies_of together.now.bodies.items)) }
-        ensures takes { (m : Manager D) (calls : List Asked) → m.up ≡ true → IsGroup D.Disk m calls together.now
-            → AreReady D.Disk m together.now self.old
-            → TakesGroup D.Disk m (members_of calls together.now.members.items) result self.new }
-        ensures outcome { self.new.outcome ≡ self.old.outcome }
-        ensures company { connected_to self.new ≡ connected_to self.old }
-    {
-        let answer = self.append(Group::Many(&together.bodies));
-        self.tables.take_together(together, answer);
-        answer
-    }
-
-    /// Answers calls of different sessions together: those that log, each on an XID of its own, are a group, whose
-    /// records share one write and one sync. Each acts as one step at its place in the group, which has the prepares
-    /// first. Gives their replies in the order of the group, each with the place of its call among those that were asked.
-    /// Of a call that has none nothing has been done: it logs nothing, or has no room after the group's. It is to be
-    /// called by itself afterwards.
-    ///
-    /// # Errors
-    /// Out of memory: then no call was answered, and nothing changed.
-    pub fn call_together(&mut self, calls: &[Asked]) -> Result<Vec<(usize, Reply)>, AllocError>
-        requires asked { AllByRecursion (λ c. IsAsked c.request) calls.now }
-        ensures ok { IfOk result (λ replies. AnswersTogether D.Disk self.old calls.now replies.items self.new) }
-        ensures once { IfOk result (λ replies. AreOnce replies.items) }
-        ensures err { OnErr result (StaysFor D.Disk self.old self.new) }
-        ensures reserved { OnErr result (HasReserved D.Disk (log_of self.old) (log_of self.new)) }
-        ensures outcome { outcome_of self.new ≡ outcome_of self.old }
-        ensures company { connected_to self.new ≡ connected_to self.old }
-    {
-        let together = self.group_of(calls)?;
-        let mut replies = Vec::with_capacity(self.tables.alloc, together.members.len())?;
-        if together.members.is_empty() {
-            return Ok(replies);
-        }
-        self.take_memory_together(&together)?;
-        let answer = self.carry_out_together(&together);
-        self.give_low_water();
-        tell(&together.members, answer, &mut replies);
-        Ok(replies)
-    }
-
     // The calls that form a group. Nothing changes.
     pub(crate) fn group_of(&self, calls: &[Asked]) -> Result<Together, AllocError>
         requires asked { AllByRecursion (λ c. IsAsked c.request) calls.now }

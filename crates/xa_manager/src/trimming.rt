@@ -1,12 +1,14 @@
 ghost use Rattle.std.specs.Prelude.{◌≡◌, ◌+◌, ◌<◌, ◌≤◌, List, length, true, false, None, IfOk, OnErr};
 ghost use Rattle.std.specs.List.{AllByRecursion};
 ghost use Rattle.xa_record.specs.declared.record.Record.{Record};
-ghost use Rattle.xa_log.specs.{Buffer.HoldsEach, Chain.IsBody, Chain.newest, Pair.generation, LogView.LogView};
+ghost use Rattle.xa_log.specs.{Buffer.HoldsEach, Believed.Chain.IsBody};
+ghost use Rattle.xa_log.specs.{Believed.Chain.newest, Believed.Pair.generation, Believed.LogView.LogView};
 ghost use Rattle.xa_model.specs.{Invariants.Backing.Backs, Restarting.can_open, State.State, Trimming.trim_refusal, Trimming.trim_turn};
 ghost use Rattle.xa_model.specs.{Turn.taken};
 ghost use Rattle.xa_assoc.specs.Refusals.{is_memory};
-ghost use Rattle.xa_manager.specs.{Answered.HasCalledToTrim, Answered.StaysFor, Connected.connected_to, Crash.LeavesBy};
-ghost use Rattle.xa_manager.specs.LogStands.{HasRecords, Trusts, snapshot_bodies};
+ghost use Rattle.xa_manager.specs.{Believed.Answered.HasCalledToTrim, Believed.Answered.StaysFor};
+ghost use Rattle.xa_manager.specs.{Connected.connected_to, Believed.Crash.LeavesBy};
+ghost use Rattle.xa_manager.specs.Believed.LogStands.{HasRecords, Trusts, snapshot_bodies};
 ghost use Rattle.xa_manager.specs.{Managed.AnswersAs, Managed.ManagerStandsFor, Replies.IsFresh, Reserving.HasReserved, Turns.HasTrimmed};
 
 use crate::done::Done;

@@ -2,7 +2,8 @@
 ghost use Rattle.std.specs.Prelude.{◌≡◌, IfOk, IsOk, IsSome, OnErr, true, false};
 ghost use Rattle.xa_model.specs.{Events.IsAsked, Laws.Together.is_work};
 ghost use Rattle.xa_assoc.specs.{Company.company_of, Seats.opened_at};
-ghost use Rattle.xa_manager.specs.{Answered.may_want, Pending.work_by, Replies.IsFresh, Tables.TablesFollow, Tables.TablesStay};
+ghost use Rattle.xa_manager.specs.{Believed.Answered.may_want, Believed.Pending.work_by};
+ghost use Rattle.xa_manager.specs.{Replies.IsFresh, Tables.TablesFollow, Tables.TablesStay};
 ghost use Rattle.xa_branch.specs.Room.{rooms_of};
 
 use crate::tables::Tables;

@@ -2,7 +2,7 @@
 use Rattle.std.proofs.Common.{ℕ, List, IfOk, Result, Ok, Err}
 use Rattle.xa_disk.specs.declared.memory.MemDisk.{MemDisk}
 use Rattle.xa_manager.specs.declared.manager.Manager.{Manager}
-use Rattle.xa_manager.specs.Parts.{log_of}
+use Rattle.xa_manager.specs.Believed.Parts.{log_of}
 use Rattle.xa_play.specs.Disks.{CrashesTo, OpenedOn, seen}
 use Rattle.xa_play.specs.Played.{Crashed}
 use Rattle.xa_play.specs.declared.fault.PlayFault.{PlayFault}

@@ -13,7 +13,7 @@ use Rattle.xa_model.specs.declared.outcome.Outcome.TheVariants.{Reread}
 use Rattle.xa_model.specs.declared.outcome.Appending.TheVariants.{Kept}
 use Rattle.xa_model.specs.Step.{step}
 use Rattle.xa_assoc.specs.Refusals.{is_memory}
-use Rattle.xa_manager.specs.Answered.{may_want_memory, wanted_memory}
+use Rattle.xa_manager.specs.Believed.Answered.{may_want_memory, wanted_memory}
 use Rattle.xa_manager.specs.declared.manager.Manager.{Manager}
 use Rattle.xa_xid.specs.Triple.{Triple}
 use Rattle.xa_script.specs.declared.line.Line.{Line}
@@ -27,9 +27,9 @@ use Rattle.xa_script.specs.Parts.{parts, parts_behind}
 use Rattle.xa_script.specs.Replies as replies
 use Rattle.xa_script.specs.Requests.{ReadsTexts}
 use Rattle.xa_play.specs.Disks.{StandsFor, Answered, Stays, Planned, Stopped, FilesStand, MemoryIsTrusted, first_seen, second_seen}
-use Rattle.xa_manager.specs.Files.{FilesStandFor}
-use Rattle.xa_manager.specs.Answered.{StepsAs}
-use Rattle.xa_manager.specs.Parts.{log_of, outcome_of}
+use Rattle.xa_manager.specs.Believed.Files.{FilesStandFor}
+use Rattle.xa_manager.specs.Believed.Answered.{StepsAs}
+use Rattle.xa_manager.specs.Believed.Parts.{log_of, outcome_of}
 use Rattle.xa_disk.specs.contracts.memory.MemDiskDisk.TheImpl.{ghosts as mem_disks}
 use Rattle.std.specs.Prelude.{⊤, pos}
 use Rattle.std.specs.declared.alloc.AllocError.{AllocError}

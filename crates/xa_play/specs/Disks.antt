@@ -7,8 +7,8 @@ use Rattle.xa_frame.specs.declared.reply.Reply.{Reply}
 use Rattle.xa_disk.specs.declared.plan.Effect.{Effect}
 use Rattle.xa_disk.specs.declared.plan.Effect.TheVariants as planned
 use Rattle.xa_log.specs.Planned.{CrashesBoth, Plans, PlansStop}
-use Rattle.xa_log.specs.TwoFiles.{first_of, second_of}
-use Rattle.xa_log.specs.LogView.{LogView}
+use Rattle.xa_log.specs.Believed.TwoFiles.{first_of, second_of}
+use Rattle.xa_log.specs.Believed.LogView.{LogView}
 use Rattle.xa_model.specs.declared.event.Event.{Event}
 use Rattle.xa_model.specs.declared.outcome.Outcome.TheVariants.{Reread}
 use Rattle.xa_model.specs.declared.outcome.Appending.TheVariants.{Kept}
@@ -16,12 +16,12 @@ use Rattle.xa_model.specs.Invariants.Loggable.{IsRecoverable}
 use Rattle.xa_model.specs.State.{State}
 use Rattle.xa_model.specs.Step.{step}
 use Rattle.xa_model.specs.Turn.{Reopened}
-use Rattle.xa_manager.specs.Answered.{FullyAnswered, StaysFor}
-use Rattle.xa_manager.specs.Files.{FilesStandFor}
-use Rattle.xa_manager.specs.LogStands.{Trusts, LogStandsFor}
+use Rattle.xa_manager.specs.Believed.Answered.{FullyAnswered, StaysFor}
+use Rattle.xa_manager.specs.Believed.Files.{FilesStandFor}
+use Rattle.xa_manager.specs.Believed.LogStands.{Trusts, LogStandsFor}
 use Rattle.xa_manager.specs.Managed.{ManagerStandsFor}
 use Rattle.xa_manager.specs.declared.manager.Manager.{Manager}
-use Rattle.xa_manager.specs.Parts.{log_of, outcome_of}
+use Rattle.xa_manager.specs.Believed.Parts.{log_of, outcome_of}
 use Rattle.xa_script.specs.declared.call_effect.CallEffect.{CallEffect}
 use Rattle.xa_script.specs.declared.call_effect.CallEffect.TheVariants as script
 use Rattle.xa_script.specs.declared.log_file.LogFile.{LogFile}

@@ -17,8 +17,8 @@ use Rattle.xa_model.specs.Turn.{Happening, Asked, Reopened}
 use Rattle.xa_model.specs.Step.{opened_of, step}
 use Rattle.xa_model.specs.History.{fresh}
 use Rattle.xa_assoc.specs.Refusals.{is_memory}
-use Rattle.xa_manager.specs.Answered.{may_want_memory, wanted_memory}
-use Rattle.xa_manager.specs.Files.{FilesStandFor}
+use Rattle.xa_manager.specs.Believed.Answered.{may_want_memory, wanted_memory}
+use Rattle.xa_manager.specs.Believed.Files.{FilesStandFor}
 use Rattle.xa_manager.specs.Status.{status_behind}
 use Rattle.xa_xid.specs.Triple.{Triple}
 use Rattle.xa_output.specs.Output.{IsPart}

@@ -3,7 +3,7 @@ ghost use Rattle.std.specs.Prelude.{IfErr, IfOk};
 ghost use Rattle.xa_frame.specs.Limits.{IsRequest};
 ghost use Rattle.xa_model.specs.Events.{IsAsked};
 ghost use Rattle.xa_script.specs.Lines as lines;
-ghost use Rattle.xa_manager.specs.Opening.{IsBadSetting};
+ghost use Rattle.xa_manager.specs.Believed.Opening.{IsBadSetting};
 ghost use Rattle.xa_play.specs.Disks.{Answered, Planned, Stopped};
 ghost use Rattle.xa_play.specs.Played.{AnswerFails, LineAnswered, Tells};
 ghost use Rattle.xa_manager.specs.Status.{versions_of};

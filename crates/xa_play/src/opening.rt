@@ -1,7 +1,7 @@
 //! A manager is opened on disks in memory, at first and again.
 ghost use Rattle.std.specs.Prelude.{◌≡◌, ◌↔◌, ◌⊎◌, IfErr, IfOk, IsErrOf};
 ghost use Rattle.xa_model.specs.History.{fresh};
-ghost use Rattle.xa_manager.specs.{Opening.IsBadSetting, Parts.log_of};
+ghost use Rattle.xa_manager.specs.{Believed.Opening.IsBadSetting, Believed.Parts.log_of};
 ghost use Rattle.xa_play.specs.Disks.{StandsFor, CrashesTo, OpenedOn, first_seen, second_seen, seen};
 ghost use Rattle.xa_play.specs.Played.{Crashed, IsOpeningFault};
 

@@ -1,6 +1,6 @@
 ghost use Rattle.std.specs.Io.KnownBytes.{Appends};
 ghost use Rattle.std.specs.Prelude.{◌≡◌, ◌↔◌, ◌⊎◌, IfErr, IfSome, IsErrOf, List, true, ℕ};
-ghost use Rattle.xa_manager.specs.Opening.{IsBadSetting};
+ghost use Rattle.xa_manager.specs.Believed.Opening.{IsBadSetting};
 ghost use Rattle.xa_play.specs.Faults.{end_of};
 ghost use Rattle.xa_play.specs.Played.{IsLinesFault, LineEnds, ReplyEnds, ScriptEnds};
 ghost use Rattle.xa_play.specs.Plays.{IsTooLong, Plays, WasRead};

@@ -10,7 +10,7 @@ use Rattle.xa_frame.specs.declared.reply.Reply.{Reply}
 use Rattle.xa_frame.specs.declared.question.Question.{Question}
 use Rattle.xa_reactor.specs.declared.peer.Peer.{Peer}
 use Rattle.xa_reactor.specs.Aside.{IsAside, Visits}
-use Rattle.xa_reactor.specs.Tending.{Table, Tends, sessions_of}
+use Rattle.xa_reactor.specs.Believed.Tending.{Table, Tends, sessions_of}
 use Rattle.xa_reactor.proofs.Doing.{tends_refused, tends_thrice, tends_connected, tends_answered, tends_left}
 
 -- a table with a session more

@@ -16,7 +16,7 @@ use Rattle.xa_frame.specs.declared.request.Request.{Request}
 use Rattle.xa_reactor.specs.declared.ask.Ask.{Ask}
 use Rattle.xa_reactor.specs.Asking.{HasRequest, IsAnswered, IsAsking, IsLent, IsOpen, IsTold, PutsAll, Tells, TellsAll, TellsEach, TellsOne, TurnedAll}
 use Rattle.xa_reactor.specs.Opening.{Opens, OpensAt}
-use Rattle.xa_reactor.specs.Tending.{Table, Tends}
+use Rattle.xa_reactor.specs.Believed.Tending.{Table, Tends}
 use Rattle.xa_reactor.specs.Turning.{HasAnswered}
 use Rattle.xa_reactor.specs.declared.peer.Opened.{Opened}
 use Rattle.xa_reactor.specs.declared.peer.Opened.TheVariants.{Asks, Over}

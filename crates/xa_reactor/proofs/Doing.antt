@@ -13,7 +13,7 @@ use Rattle.xa_reactor.specs.declared.loops.Ended.{Ended}
 use Rattle.xa_reactor.specs.declared.loops.Seed.{Seed}
 use Rattle.xa_reactor.specs.declared.peer.Peer.{Peer}
 use Rattle.xa_reactor.specs.Turning.{HasAnswered}
-use Rattle.xa_reactor.specs.Tending.{Does, DoesAll, DoesOrPosts, DoesSome, Puts, Table, Tends, TendsPosting, HasTended, HaveTended, SeedsHaveTended, nobody, sessions_of}
+use Rattle.xa_reactor.specs.Believed.Tending.{Does, DoesAll, DoesOrPosts, DoesSome, Puts, Table, Tends, TendsPosting, HasTended, HaveTended, SeedsHaveTended, nobody, sessions_of}
 
 pub same_table : (a b : Table) → ((key : ℕ) → b key ≡ a key) → a ≡ b
 same_table a b h = fun_ext (λ (key : ℕ). sym (h key))

@@ -1,10 +1,10 @@
 -- What a loop did at its door, where it is known by a part of the door, is said of the part.
 use Rattle.std.proofs.Common.{ℕ, List, [], ◌∷◌, Result, ap, inl, inr}
 use Rattle.xa_assoc.specs.declared.fault.ConnectFault.{ConnectFault}
-use Rattle.xa_desk.specs.Serving.{Answers, AnswersAll}
+use Rattle.xa_desk.specs.Believed.Serving.{Answers, AnswersAll}
 use Rattle.xa_frame.specs.declared.question.Question.{Question}
 use Rattle.xa_frame.specs.declared.reply.Reply.{Reply}
-use Rattle.xa_reactor.specs.Tending.{Does, DoesOrPosts, HasTended, Table, nobody}
+use Rattle.xa_reactor.specs.Believed.Tending.{Does, DoesOrPosts, HasTended, Table, nobody}
 use Rattle.xa_reactor.proofs.Doing.{does_by}
 
 module _ {D E : Type 0} (f : D → E) (posted : ℕ → E → E → Type 0) (connected : E → Result ℕ ConnectFault → E → Type 0)

@@ -1,12 +1,12 @@
 -- What a loop does leaves nothing that was posted to be answered, if there was nothing.
 use Rattle.std.proofs.Common.{ℕ, List, [], ◌∷◌, Result, Ok, Err, sym, subst, inl, inr}
 use Rattle.xa_assoc.specs.declared.fault.ConnectFault.{ConnectFault}
-use Rattle.xa_desk.specs.Serving.{Answers, AnswersAll}
+use Rattle.xa_desk.specs.Believed.Serving.{Answers, AnswersAll}
 use Rattle.xa_frame.specs.declared.question.Question.{Question}
 use Rattle.xa_frame.specs.declared.question.Question.TheVariants.{Call}
 use Rattle.xa_frame.specs.declared.reply.Reply.{Reply}
 use Rattle.xa_reactor.specs.Reception.{KeepsSettled}
-use Rattle.xa_reactor.specs.Tending.{Does, Table, Tends}
+use Rattle.xa_reactor.specs.Believed.Tending.{Does, Table, Tends}
 use Rattle.xa_reactor.proofs.Doing.{does_keep}
 
 module _ {D : Type 0} (connected : D → Result ℕ ConnectFault → D → Type 0) (called : ℕ → D → Question → Reply → D → Type 0)

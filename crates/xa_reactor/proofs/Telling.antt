@@ -7,7 +7,7 @@ use Rattle.xa_codes.specs.declared.codes.TheConstants.{XA_OK, XAER_RMFAIL}
 use Rattle.xa_codes.specs.declared.detail.Detail.{Detail}
 use Rattle.xa_codes.specs.declared.detail.Detail.TheVariants as detail
 use Rattle.xa_frame.specs.declared.reply.Reply.{Reply}
-use Rattle.xa_reactor.specs.Down.{cause_by, downs_in, news_by, tells_down, up_by}
+use Rattle.xa_reactor.specs.Believed.Down.{cause_by, downs_in, news_by, tells_down, up_by}
 
 neither : (x y : Bool) → downs_in (news_by (if x then None else None) (if y then None else None)) ≡ None
 neither true true = refl

@@ -1,7 +1,7 @@
 -- What a loop does at its door beside the connections.
 use Rattle.std.specs.Prelude.{ℕ, ◌≡◌, ◌⊎◌, List, Result, Ok, Err}
 use Rattle.xa_assoc.specs.declared.fault.ConnectFault.{ConnectFault}
-use Rattle.xa_desk.specs.Serving.{Answers}
+use Rattle.xa_desk.specs.Believed.Serving.{Answers}
 use Rattle.xa_frame.specs.declared.reply.Reply.{Reply}
 use Rattle.xa_frame.specs.declared.question.Question.{Question}
 

@@ -14,7 +14,7 @@ use Rattle.xa_frame.specs.declared.question.Question.TheVariants.{Call}
 use Rattle.xa_frame.specs.declared.reply.Reply.{Reply}
 use Rattle.xa_frame.specs.declared.request.Request.{Request}
 use Rattle.xa_reactor.specs.declared.ask.Ask.{Ask}
-use Rattle.xa_reactor.specs.Tending.{Table}
+use Rattle.xa_reactor.specs.Believed.Tending.{Table}
 
 -- its request is left, and is within the limits
 abbrev pub HasRequest : Ask → Type 0

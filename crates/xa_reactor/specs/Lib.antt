@@ -1,9 +1,8 @@
+pub mod Believed
 pub mod Turning
-pub mod Tending
 pub mod Timing
 pub mod Since
 pub mod Accepting
-pub mod Down
 pub mod Trims
 pub mod Trimmed
 pub mod Aside

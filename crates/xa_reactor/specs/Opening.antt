@@ -4,7 +4,7 @@ use Rattle.xa_assoc.specs.declared.fault.ConnectFault.{ConnectFault}
 use Rattle.xa_frame.specs.declared.question.Question.{Question}
 use Rattle.xa_frame.specs.declared.reply.Reply.{Reply}
 use Rattle.xa_reactor.specs.Asking.{IsLent, IsOpen}
-use Rattle.xa_reactor.specs.Tending.{Table, Tends}
+use Rattle.xa_reactor.specs.Believed.Tending.{Table, Tends}
 use Rattle.xa_reactor.specs.Turning.{CarriesOn, HasAnswered, HasTaken}
 use Rattle.xa_reactor.specs.declared.ask.Ask.{Ask}
 use Rattle.xa_reactor.specs.declared.peer.Opened.{Opened}

@@ -2,7 +2,7 @@
 use Rattle.std.specs.Prelude.{◌≡◌, ◌+◌, ◌≤◌, All, []}
 use Rattle.std.specs.Vec.{vec_capacity, vec_len}
 use Rattle.xa_reactor.specs.Asking.{IsLent}
-use Rattle.xa_reactor.specs.Tending.{Table}
+use Rattle.xa_reactor.specs.Believed.Tending.{Table}
 use Rattle.xa_reactor.specs.declared.together.Together.{Together}
 
 -- the requests that were brought in are of connections that are lent, and there is room for what comes after their turns

@@ -10,7 +10,7 @@ use Rattle.xa_frame.specs.declared.body.Body.{Body}
 use Rattle.xa_frame.specs.declared.body.Body.TheVariants as body
 use Rattle.xa_frame.specs.declared.reply.Reply.{Reply}
 use Rattle.xa_frame.specs.Made.{bad_frame, carrying, detailed}
-use Rattle.xa_reactor.specs.Down.{cause_of}
+use Rattle.xa_reactor.specs.Believed.Down.{cause_of}
 use Rattle.xa_reactor.specs.declared.cause.Cause.TheVariants.{Lost}
 use Rattle.xa_reactor.specs.declared.trimmed.Reason.TheVariants as reason
 use Rattle.xa_reactor.specs.declared.trimmed.Trimmed.{Trimmed}

@@ -3,7 +3,7 @@ use Rattle.std.specs.Prelude.{ℕ, ◌≡◌, ◌⊎◌, List, ◌++◌, drop}
 use Rattle.xa_connection.specs.declared.connection.Connection.{Connection}
 use Rattle.xa_connection.specs.Calls.{Feeds}
 use Rattle.xa_connection.specs.Carries.{Carries}
-use Rattle.xa_desk.specs.Serving.{AnswersAll}
+use Rattle.xa_desk.specs.Believed.Serving.{AnswersAll}
 use Rattle.xa_frame.specs.declared.reply.Reply.{Reply}
 use Rattle.xa_frame.specs.declared.question.Question.{Question}
 

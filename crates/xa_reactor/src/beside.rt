@@ -1,6 +1,6 @@
 //! What a loop does between its rounds.
 ghost use Rattle.std.specs.Prelude.{◌≡◌, IfOk, IfSome};
-ghost use Rattle.xa_reactor.specs.{Accepting.most_of, Tending.Tends, Tending.sessions_of};
+ghost use Rattle.xa_reactor.specs.{Accepting.most_of, Believed.Tending.Tends, Believed.Tending.sessions_of};
 
 use crate::acceptor::Acceptor;
 use crate::clock::LoopClock;

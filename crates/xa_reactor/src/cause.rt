@@ -1,5 +1,5 @@
 ghost use Rattle.std.specs.Prelude.{◌≡◌, Some};
-ghost use Rattle.xa_reactor.specs.Down.{cause_of, news_of};
+ghost use Rattle.xa_reactor.specs.Believed.Down.{cause_of, news_of};
 
 use std::fmt;
 use xa_codes::{Detail, XA_OK, XAER_RMFAIL};

@@ -1,6 +1,6 @@
 //! Several loops.
 ghost use Rattle.std.specs.Prelude.{◌≡◌, IfOk, length, map};
-ghost use Rattle.xa_reactor.specs.Tending.{HasTended, HaveObeyed, HaveTended, SeedsHaveTended};
+ghost use Rattle.xa_reactor.specs.Believed.Tending.{HasTended, HaveObeyed, HaveTended, SeedsHaveTended};
 ghost use Rattle.xa_reactor.specs.declared.loops.LoopFault.TheVariants.{Memory, Wait};
 
 use crate::common::{Common, Settings};

@@ -1,7 +1,7 @@
 //! What events tell of the connections of a loop.
 ghost use Rattle.std.specs.Prelude.{◌≡◌, length};
 ghost use Rattle.mio.specs.Events.{items};
-ghost use Rattle.xa_reactor.specs.{Peers.HasRoom, Tending.Tends, Tending.sessions_of};
+ghost use Rattle.xa_reactor.specs.{Peers.HasRoom, Believed.Tending.Tends, Believed.Tending.sessions_of};
 
 use crate::peers::Peers;
 use crate::reception::Reception;

@@ -1,7 +1,7 @@
 ghost use Rattle.std.specs.Prelude.{◌≡◌, ◌+◌, ℕ, None, IsTrue, false, length};
 ghost use Rattle.slab.specs.Slab.{get};
 ghost use Rattle.xa_reactor.specs.{Asking.IsAnswered, Opening.OpensAt, Peers.HasRoom};
-ghost use Rattle.xa_reactor.specs.Tending.{Tends, nobody, sessions_of};
+ghost use Rattle.xa_reactor.specs.Believed.Tending.{Tends, nobody, sessions_of};
 ghost use Rattle.xa_reactor.specs.{Since.Looks, Timing.IsToEnd, Timing.after_wait};
 
 use crate::ask::Ask;

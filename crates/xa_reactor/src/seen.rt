@@ -1,5 +1,5 @@
 ghost use Rattle.std.specs.Prelude.{◌≡◌, nat_le};
-ghost use Rattle.xa_reactor.specs.Down.{after_told, is_downs, last_of, unseen};
+ghost use Rattle.xa_reactor.specs.Believed.Down.{after_told, is_downs, last_of, unseen};
 
 use crate::cause::News;
 

@@ -2,7 +2,7 @@
 ghost use Rattle.std.specs.Prelude.{◌≡◌, ◌≤◌, true, length, IfOk, IsTrue, OnOk};
 ghost use Rattle.mio.specs.Events.{capacity, items};
 ghost use Rattle.xa_reactor.specs.Timing.{after_wait};
-ghost use Rattle.xa_reactor.specs.Tending.{HasTended, TendsPosting, sessions_of};
+ghost use Rattle.xa_reactor.specs.Believed.Tending.{HasTended, TendsPosting, sessions_of};
 ghost use Rattle.xa_reactor.specs.Together.{HasLent, IsOver};
 
 use crate::acceptor::Acceptor;

@@ -2,7 +2,7 @@
 ghost use Rattle.std.specs.Prelude.{ℕ, ◌≡◌, ◌+◌, ◌≤◌, [], All};
 ghost use Rattle.std.specs.Vec.{vec_capacity, vec_len};
 ghost use Rattle.xa_reactor.specs.Asking.{IsAnswered, IsLent, IsOpen, IsTold, PutsAll, TurnedAll};
-ghost use Rattle.xa_reactor.specs.Tending.{Table, Tends, TendsPosting, sessions_of};
+ghost use Rattle.xa_reactor.specs.Believed.Tending.{Table, Tends, TendsPosting, sessions_of};
 ghost use Rattle.xa_reactor.specs.{Timing.after_wait, Together.HasLent, Together.IsOver};
 
 use crate::ask::Ask;

@@ -1,5 +1,5 @@
 //! What a loop's turns use.
-ghost use Rattle.xa_reactor.specs.Tending.{Tends, sessions_of};
+ghost use Rattle.xa_reactor.specs.Believed.Tending.{Tends, sessions_of};
 
 use crate::clock::LoopClock;
 use crate::common::Common;

@@ -1,5 +1,5 @@
 ghost use Rattle.std.specs.Prelude.{◌≡◌};
-ghost use Rattle.xa_reactor.specs.Down.{after_reply};
+ghost use Rattle.xa_reactor.specs.Believed.Down.{after_reply};
 
 use crate::cause::{Cause, News, news_of};
 use crate::seen::Seen;

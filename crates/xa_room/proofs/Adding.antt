@@ -7,10 +7,10 @@ use Rattle.xa_model.specs.declared.outcome.Outcome.{Outcome}
 use Rattle.xa_history.specs.declared.entry.Entry.{Entry}
 use Rattle.xa_history.specs.declared.receipt.Receipt.{Receipt}
 use Rattle.xa_history.specs.declared.manages.Manages.{Ghosts}
-use Rattle.xa_history.specs.Book.{entry_of, receipt_of, unplaced}
-use Rattle.xa_history.specs.Manages.{Acts, StepsTo}
+use Rattle.xa_history.specs.Believed.Book.{entry_of, receipt_of, unplaced}
+use Rattle.xa_history.specs.Believed.Manages.{Acts, StepsTo}
 use Rattle.xa_history.proofs.Longer.{not_memory}
-use Rattle.xa_room.specs.Told.{Adds, Told}
+use Rattle.xa_room.specs.Believed.Told.{Adds, Told}
 
 -- what an event that noted its entry ensures
 pub adds_noted : {M : Type 0} (m : Ghosts M) (old new : Told M)

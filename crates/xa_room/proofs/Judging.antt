@@ -9,8 +9,8 @@ use Rattle.xa_history.specs.declared.entry.Entry.{Entry}
 use Rattle.xa_history.specs.declared.receipt.Receipt.{Receipt}
 use Rattle.xa_room.specs.declared.auditing.AuditFault.{AuditFault}
 use Rattle.xa_room.specs.declared.auditing.AuditFault.TheVariants.{Repeats, Differs}
-use Rattle.xa_room.specs.Audit.{HasFault, IsEntry, IsOutside, IsSound, Judges, is_met}
-use Rattle.xa_history.specs.Book.{receipt_of}
+use Rattle.xa_room.specs.Believed.Audit.{HasFault, IsEntry, IsOutside, IsSound, Judges, is_met}
+use Rattle.xa_history.specs.Believed.Book.{receipt_of}
 use Rattle.xa_room.specs.HasMet.{HasMet}
 
 front : (rs : List Receipt) (i : ℕ) (r : Receipt) → i < length rs → r ≡ get_or rs i r → drop i rs ≡ r ∷ drop (i + 1) rs

@@ -6,11 +6,11 @@ use Rattle.xa_frame.specs.declared.question.Question.TheVariants as question
 use Rattle.xa_frame.specs.declared.request.Request.{Request}
 use Rattle.xa_frame.specs.declared.reply.Reply.{Reply}
 use Rattle.xa_frame.specs.declared.status.Status.{Status}
-use Rattle.xa_manager.specs.Answered.{wanted_memory}
+use Rattle.xa_manager.specs.Believed.Answered.{wanted_memory}
 use Rattle.xa_model.specs.declared.event.Event.TheVariants.{Hangup, Call}
 use Rattle.xa_history.specs.declared.receipt.Receipt.{Receipt}
 use Rattle.xa_history.specs.declared.manages.Manages.{Ghosts}
-use Rattle.xa_room.specs.Told.{Adds, Leaves, Told}
+use Rattle.xa_room.specs.Believed.Told.{Adds, Leaves, Told}
 use Rattle.xa_history.specs.Status.{Tells}
 
 -- the call is the new entry, which has the reply; or memory was wanted, and there is none

@@ -1,6 +1,6 @@
 -- Which places were met, as bits.
 use Rattle.std.specs.Prelude.{◌≡◌, ℕ, ◌+◌, ◌<◌, List, length, Bool, Some, slice_get}
-use Rattle.xa_room.specs.Audit.{is_met}
+use Rattle.xa_room.specs.Believed.Audit.{is_met}
 
 -- the bit of each place says whether it was met
 abbrev pub HasMet : List Bool → List ℕ → Type 0

@@ -5,7 +5,7 @@ use Rattle.xa_model.specs.State.{State}
 use Rattle.xa_history.specs.declared.entry.Entry.{Entry}
 use Rattle.xa_history.specs.declared.manages.Manages.{Ghosts}
 use Rattle.xa_history.specs.Status.{Tells}
-use Rattle.xa_history.specs.Upholds.{IsLegal}
+use Rattle.xa_history.specs.Believed.Upholds.{IsLegal}
 
 -- There is a room with a legal history, and it is told of its manager and its entries. As of an event, which one is not
 -- said: a proof over any manager can take none but the one that was asked.

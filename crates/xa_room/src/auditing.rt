@@ -1,6 +1,6 @@
 ghost use Rattle.std.specs.Prelude.{◌≡◌, ℕ, ◌-◌, ◌<◌, ◌≤◌, ◌==◌, ◌⊎◌, [], ◌∷◌, length};
 ghost use Rattle.std.specs.Prelude.{IfOk, IfSome, Err, Some, None, List, sum_by, slice_get, true, false};
-ghost use Rattle.xa_room.specs.Audit.{Audits, HasFault, IsSound, Judges};
+ghost use Rattle.xa_room.specs.Believed.Audit.{Audits, HasFault, IsSound, Judges};
 ghost use Rattle.xa_room.specs.HasMet.{HasMet};
 
 use crate::comparing::is_receipt_of;

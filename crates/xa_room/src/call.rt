@@ -1,6 +1,6 @@
 ghost use Rattle.std.specs.Prelude.{◌≡◌, IfSome, MatchResult};
 ghost use Rattle.xa_frame.specs.Limits.{IsRequest, IsReply};
-ghost use Rattle.xa_manager.specs.Answered.{wanted_memory};
+ghost use Rattle.xa_manager.specs.Believed.Answered.{wanted_memory};
 ghost use Rattle.xa_model.specs.{declared.event.Event.Event, Events.IsAsked};
 
 use std::alloc::Global;

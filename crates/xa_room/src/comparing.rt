@@ -1,5 +1,5 @@
 ghost use Rattle.std.specs.Prelude.{◌≡◌, ◌↔◌, IsTrue};
-ghost use Rattle.xa_history.specs.Book.{receipt_of};
+ghost use Rattle.xa_history.specs.Believed.Book.{receipt_of};
 
 use xa_frame::{Body, KnownBranch, Reply, Request};
 use xa_history::{Entry, Receipt};

@@ -12,7 +12,7 @@ pub(crate) struct Counted<M: Manages, S: Start, L: Ledger> {
 
 impl<M: Manages, S: Start, L: Ledger> Model for Counted<M, S, L> {
     ghost use Rattle.std.specs.Prelude.{◌≡◌, length};
-    ghost use Rattle.xa_room.specs.Told.{Told};
+    ghost use Rattle.xa_room.specs.Believed.Told.{Told};
 
     ghost Value = { Told M };
 

@@ -1,8 +1,8 @@
 ghost use Rattle.std.specs.Prelude.{◌≡◌, ℕ, ◌+◌, ◌<◌, ◌^◌, length, Err, IfNone, MatchOption};
 ghost use Rattle.xa_frame.specs.Limits.{IsRequest, IsReply};
-ghost use Rattle.xa_manager.specs.Answered.{connect_reply, wanted_memory};
+ghost use Rattle.xa_manager.specs.Believed.Answered.{connect_reply, wanted_memory};
 ghost use Rattle.xa_model.specs.declared.event.Event.{Event};
-ghost use Rattle.xa_history.specs.Book.{placed};
+ghost use Rattle.xa_history.specs.Believed.Book.{placed};
 ghost use Rattle.xa_room.specs.{Gone.WasGone, Share.Records, Status.IsTold};
 
 use crate::call::Call;

@@ -1,5 +1,5 @@
 ghost use Rattle.std.specs.Prelude.{◌≡◌, ℕ, ◌+◌, ◌<◌, ◌≤◌, [], ◌∷◌, ◌++◌, length, true, vec_len, vec_capacity};
-ghost use Rattle.xa_history.specs.Book.{entry_of, receipt_of};
+ghost use Rattle.xa_history.specs.Believed.Book.{entry_of, receipt_of};
 ghost use Rattle.xa_room.specs.Spare.{HasRoom};
 
 use crate::spare::Spare;

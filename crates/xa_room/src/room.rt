@@ -1,13 +1,13 @@
 ghost use Rattle.std.specs.Prelude.{◌≡◌, ℕ, ◌+◌, [], length, IfOk, IfNone, Err, MatchOption, true, false};
 ghost use Rattle.xa_assoc.specs.Refusals.{is_memory};
 ghost use Rattle.xa_frame.specs.Limits.{IsRequest, IsReply};
-ghost use Rattle.xa_manager.specs.Answered.{connect_reply, wanted_memory};
+ghost use Rattle.xa_manager.specs.Believed.Answered.{connect_reply, wanted_memory};
 ghost use Rattle.xa_model.specs.{State.State, Events.HaveHappened, Events.IsAsked};
-ghost use Rattle.xa_history.specs.Book.{AreNumbered, placed, plain_entries};
+ghost use Rattle.xa_history.specs.Believed.Book.{AreNumbered, placed, plain_entries};
 ghost use Rattle.xa_room.specs.Gone.{WasGone};
-ghost use Rattle.xa_history.specs.Upholds.{IsLegal, IsCounted};
-ghost use Rattle.xa_room.specs.Told.{Adds, Leaves};
-ghost use Rattle.xa_history.specs.{Promises.Promises, Status.Tells};
+ghost use Rattle.xa_history.specs.Believed.Upholds.{IsLegal, IsCounted};
+ghost use Rattle.xa_room.specs.Believed.Told.{Adds, Leaves};
+ghost use Rattle.xa_history.specs.{Believed.Promises.Promises, Status.Tells};
 
 use crate::call::Call;
 use crate::notes::{make_ready, make_room, note};
@@ -40,8 +40,8 @@ pub struct Room<M: Manages, S: Start> {
 
 impl<M: Manages, S: Start> Model for Room<M, S> {
     ghost use Rattle.std.specs.Prelude.{vec_capacity};
-    ghost use Rattle.xa_history.specs.Upholds.{Upholds};
-    ghost use Rattle.xa_room.specs.Told.{Told};
+    ghost use Rattle.xa_history.specs.Believed.Upholds.{Upholds};
+    ghost use Rattle.xa_room.specs.Believed.Told.{Told};
 
     ghost Value = { Told M };
 

@@ -1,7 +1,7 @@
 -- Where lines stand, and the lines of lists that are joined.
 use Rattle.std.proofs.Common.{◌≡◌, ℕ, ◌+◌, ◌≤◌, List, [], ◌∷◌, ◌++◌, length, refl, sym, ap, ◌∙◌, arith, append_assoc, append-nil, length-append}
 use Rattle.xa_log.specs.declared.format.Format.TheVariants.{One, Two}
-use Rattle.xa_log.specs.Chain.{digest, magic, record_of, records, start}
+use Rattle.xa_log.specs.Believed.Chain.{digest, magic, record_of, records, start}
 use Rattle.xa_log.proofs.Records.{length-record_of}
 use Rattle.xa_scan.specs.Lines.{behind, line_at, lines_from}
 use Rattle.xa_limits.specs.declared.TheConstants.{FIRST_OFFSET}

@@ -4,8 +4,8 @@ use Rattle.std.specs.Io.KnownBytes.{Appends, Keeps}
 use Rattle.xa_output.proofs.Pieces.{appends_both, keeps_appends, nothing_appended}
 use Rattle.xa_log.specs.declared.fault.OpenFault.{OpenFault}
 use Rattle.xa_log.specs.declared.fault.OpenFault.TheVariants as preamble
-use Rattle.xa_log.specs.Chain.{Rests, format_in, text}
-use Rattle.xa_log.specs.Damage.{is_damaged}
+use Rattle.xa_log.specs.Believed.Chain.{Rests, format_in, text}
+use Rattle.xa_log.specs.Believed.Damage.{is_damaged}
 use Rattle.std.specs.Prelude.{Vec}
 use Rattle.std.specs.declared.alloc.Global.{Global}
 use Rattle.xa_log.specs.Reading.{Explains, bodies_of}

@@ -4,8 +4,8 @@ use Rattle.std.specs.Io.KnownBytes.{Appends}
 use Rattle.xa_disk.specs.Counts.{plus}
 use Rattle.xa_disk.specs.declared.disk.Disk.{Ghosts}
 use Rattle.xa_output.specs.Output.{IsFront, IsPart}
-use Rattle.xa_log.specs.Chain.{logged}
-use Rattle.xa_log.specs.Damage.{is_damaged}
+use Rattle.xa_log.specs.Believed.Chain.{logged}
+use Rattle.xa_log.specs.Believed.Damage.{is_damaged}
 use Rattle.xa_log.specs.Reading.{Explains, fault_of}
 use Rattle.xa_limits.specs.declared.TheConstants.{FIRST_OFFSET, MOST_LOG}
 use Rattle.xa_scan.specs.declared.fault.ScanFault.{ScanFault}

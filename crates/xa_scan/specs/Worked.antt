@@ -1,7 +1,7 @@
 -- Worked rows: what is printed of logs whose bodies are written out.
 use Rattle.std.specs.Prelude.{◌≡◌, ℕ, List, [], ◌∷◌, ◌++◌, length, codes}
 use Rattle.xa_log.specs.declared.format.Format.{Format}
-use Rattle.xa_log.specs.Chain.{text}
+use Rattle.xa_log.specs.Believed.Chain.{text}
 use Rattle.xa_log.specs.Worked.{opened, prepared, again, held}
 use Rattle.xa_scan.specs.Lines.{behind, scan_text}
 use Rattle.xa_limits.specs.declared.TheConstants.{FIRST_OFFSET}

@@ -4,23 +4,23 @@ use Rattle.std.specs.Prelude.{MatchBool, MatchResult, Result, Ok, Err, pos}
 use Rattle.xa_assoc.specs.declared.fault.ConnectFault.{ConnectFault}
 use Rattle.xa_assoc.specs.Refusals.{is_memory}
 use Rattle.xa_frame.specs.declared.reply.Reply.{Reply}
-use Rattle.xa_manager.specs.Answered.{connect_reply}
-use Rattle.xa_manager.specs.Counted.{RiseBy}
-use Rattle.xa_manager.specs.Promises.{IsReached, ReachedPromises}
+use Rattle.xa_manager.specs.Believed.Answered.{connect_reply}
+use Rattle.xa_manager.specs.Believed.Counted.{RiseBy}
+use Rattle.xa_manager.specs.Believed.Promises.{IsReached, ReachedPromises}
 use Rattle.xa_model.specs.Answer.{plain}
 use Rattle.xa_model.specs.State.{State}
 use Rattle.xa_model.specs.Events.{IsEvent}
 use Rattle.xa_model.specs.declared.event.Event.{Event}
 use Rattle.xa_model.specs.declared.event.Event.TheVariants.{Connect, Hangup}
 use Rattle.xa_history.proofs.Longer.{connect_place, kept_noted, not_memory, one_more}
-use Rattle.xa_history.specs.Book.{entry_of, placed, plain_entries, unplaced}
-use Rattle.xa_history.specs.Manages.{Stays, StepsTo}
-use Rattle.xa_history.specs.Upholds.{Upholds}
+use Rattle.xa_history.specs.Believed.Book.{entry_of, placed, plain_entries, unplaced}
+use Rattle.xa_history.specs.Believed.Manages.{Stays, StepsTo}
+use Rattle.xa_history.specs.Believed.Upholds.{Upholds}
 use Rattle.xa_history.specs.declared.entry.Entry.{Entry}
 use Rattle.xa_history.specs.declared.manages.Manages.{Ghosts}
 use Rattle.xa_sequencer.specs.GroupCommits.{ActsAs}
-use Rattle.xa_sequencer.specs.Numbers.{Adds, Leaves}
-use Rattle.xa_sequencer.specs.Stands.{AllPromise, GoesOn, GoesOnTwice, HasHistory, Numbered, Stands, most_numbers}
+use Rattle.xa_sequencer.specs.Believed.Numbers.{Adds, Leaves}
+use Rattle.xa_sequencer.specs.Believed.Stands.{AllPromise, GoesOn, GoesOnTwice, HasHistory, Numbered, Stands, most_numbers}
 
 was_memory : (A B : Type 0) (b : Bool) → b ≡ true → MatchBool b A B → A
 was_memory A B true e h = h

@@ -3,9 +3,9 @@ use Rattle.std.proofs.Common.{◌≡◌, ℕ, ◌+◌, ◌≤◌, ◌<◌, ◌�
 use Rattle.std.specs.List.{AllByRecursion}
 use Rattle.std.proofs.lemmas.List.Elements.{All-from_recursion, All-get_or}
 use Rattle.xa_frame.specs.declared.reply.Reply.{Reply}
-use Rattle.xa_manager.specs.Counted.{RiseBy, failures_in, failures_of}
+use Rattle.xa_manager.specs.Believed.Counted.{RiseBy, failures_in, failures_of}
 use Rattle.xa_manager.specs.Once.{AreOnce}
-use Rattle.xa_manager.specs.Together.{asked_at}
+use Rattle.xa_manager.specs.Believed.Together.{asked_at}
 use Rattle.xa_manager.specs.declared.together.Asked.{Asked}
 use Rattle.xa_model.specs.Events.{HaveHappened, IsAsked}
 use Rattle.xa_model.specs.History as history
@@ -16,15 +16,15 @@ use Rattle.xa_model.specs.declared.event.Event.{Event}
 use Rattle.xa_model.specs.declared.outcome.Appending.{Appending}
 use Rattle.xa_model.specs.declared.outcome.Outcome.{Outcome}
 use Rattle.xa_model.specs.declared.outcome.Outcome.TheVariants.{Appended, Joined}
-use Rattle.xa_history.specs.Book.{AreNumbered, HasNoRestart, placed, plain_entries}
-use Rattle.xa_history.specs.Together as manager
-use Rattle.xa_history.specs.Together.{ActsTogether, AreUnplaced, IsToldOf, event_at, events_of, told_entries, told_entry}
-use Rattle.xa_history.specs.Upholds.{Upholds}
+use Rattle.xa_history.specs.Believed.Book.{AreNumbered, HasNoRestart, placed, plain_entries}
+use Rattle.xa_history.specs.Believed.Together as manager
+use Rattle.xa_history.specs.Believed.Together.{ActsTogether, AreUnplaced, IsToldOf, event_at, events_of, told_entries, told_entry}
+use Rattle.xa_history.specs.Believed.Upholds.{Upholds}
 use Rattle.xa_history.specs.declared.entry.Entry.{Entry}
 use Rattle.xa_history.specs.declared.manages.Manages.{Ghosts}
 use Rattle.xa_sequencer.specs.GroupCommits.{AnswersAs, ArePending, KeepsPending, pending_count}
-use Rattle.xa_sequencer.specs.Stands.{GoesOn, HasHistory, Numbered, Stands, most_numbers}
-use Rattle.xa_sequencer.specs.Together.{AddsTogether, ArePlaced, CalledTogether, Rests, entries_for, entry_for, placed_from}
+use Rattle.xa_sequencer.specs.Believed.Stands.{GoesOn, HasHistory, Numbered, Stands, most_numbers}
+use Rattle.xa_sequencer.specs.Believed.Together.{AddsTogether, ArePlaced, CalledTogether, Rests, entries_for, entry_for, placed_from}
 use Rattle.xa_sequencer.proofs.Adding.{has_more, stayed}
 use Rattle.xa_sequencer.proofs.Few.{few}
 use Rattle.xa_sequencer.proofs.Placing.{whole}

@@ -5,7 +5,7 @@ use Rattle.xa_model.specs.State.{State}
 use Rattle.xa_history.specs.declared.entry.Entry.{Entry}
 use Rattle.xa_history.specs.declared.manages.Manages.{Ghosts}
 use Rattle.xa_sequencer.specs.GroupCommits.{ArePending, KeepsPending, pending_count}
-use Rattle.xa_sequencer.specs.Stands.{GoesOn, HasHistory, Numbered, most_numbers}
+use Rattle.xa_sequencer.specs.Believed.Stands.{GoesOn, HasHistory, Numbered, most_numbers}
 use Rattle.xa_sequencer.proofs.Adding.{has_more}
 
 module _ {M : Type 0} (m : Ghosts M) (has : M → Type 0) (start : State → Type 0) (base : ℕ × ℕ) where

@@ -9,13 +9,13 @@ use Rattle.xa_disk.specs.declared.disk.Disk as disk
 use Rattle.xa_disk.specs.declared.disk.DiskFault.{DiskFault}
 use Rattle.xa_frame.specs.declared.reply.Reply.{Reply}
 use Rattle.xa_log.specs.Calls.{SettlesBy, WritesAhead}
-use Rattle.xa_log.specs.LogView.{LogView}
-use Rattle.xa_manager.specs.Answered.{FullyAnswered, HasCalled, as_appended}
-use Rattle.xa_manager.specs.Counted.{RiseBy, counted_by, failures_in, failures_of_append}
-use Rattle.xa_manager.specs.LogStands.{Trusts}
+use Rattle.xa_log.specs.Believed.LogView.{LogView}
+use Rattle.xa_manager.specs.Believed.Answered.{FullyAnswered, HasCalled, as_appended}
+use Rattle.xa_manager.specs.Believed.Counted.{RiseBy, counted_by, failures_in, failures_of_append}
+use Rattle.xa_manager.specs.Believed.LogStands.{Trusts}
 use Rattle.xa_manager.specs.Managed.{ManagerStandsFor}
-use Rattle.xa_manager.specs.Parts.{log_of}
-use Rattle.xa_manager.specs.Pending.{HasFinished, IsPending, IsPendingFrom, WorksBeside, WritesGroup, calls_of, write_of}
+use Rattle.xa_manager.specs.Believed.Parts.{log_of}
+use Rattle.xa_manager.specs.Believed.Pending.{HasFinished, IsPending, IsPendingFrom, WorksBeside, WritesGroup, calls_of, write_of}
 use Rattle.xa_manager.specs.declared.manager.Manager.{Manager}
 use Rattle.xa_manager.specs.declared.pending.PendingGroup.{PendingGroup}
 use Rattle.xa_manager.specs.declared.together.Asked.{Asked}
@@ -35,7 +35,7 @@ use Rattle.xa_history.proofs.Managing.{acted}
 use Rattle.xa_history.proofs.Together.{all_told, all_unplaced, group_lost, group_told}
 use Rattle.xa_sequencer.specs.GroupCommits.{ActsAs, AnswersAs, RestsAs}
 use Rattle.xa_sequencer.specs.declared.group_manager.GroupManager.{GroupManager}
-use Rattle.xa_sequencer.specs.GroupManager.{before_write, calls_in, counted_before, manages_of}
+use Rattle.xa_sequencer.specs.Believed.GroupManager.{before_write, calls_in, counted_before, manages_of}
 
 -- ---- which group is pending
 

@@ -1,8 +1,8 @@
 -- Replies get the places behind a count, one after another.
 use Rattle.std.proofs.Common.{◌≡◌, ℕ, ◌+◌, ◌≤◌, ◌<◌, suc, zero, List, [], ◌∷◌, length, get_or, set, take, drop, ◌++◌, ◌∙◌, take_all, drop_of_length-le, append-nil, refl, ap, subst, arith}
 use Rattle.xa_frame.specs.declared.reply.Reply.{Reply}
-use Rattle.xa_history.specs.Book.{placed}
-use Rattle.xa_sequencer.specs.Together.{placed_from}
+use Rattle.xa_history.specs.Believed.Book.{placed}
+use Rattle.xa_sequencer.specs.Believed.Together.{placed_from}
 
 -- the first so many have theirs, and the rest are as they were
 abbrev pub PlacedTo : ℕ → ℕ → List (ℕ × Reply) → List (ℕ × Reply) → Type 0

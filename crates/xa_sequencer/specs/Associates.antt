@@ -4,7 +4,7 @@ use Rattle.std.specs.List.{list_any}
 use Rattle.xa_model.specs.Associations.{is_of_session}
 use Rattle.xa_model.specs.State.{State, Up}
 use Rattle.xa_history.specs.declared.manages.Manages.{Ghosts}
-use Rattle.xa_sequencer.specs.Stands.{HasHistory, Numbered}
+use Rattle.xa_sequencer.specs.Believed.Stands.{HasHistory, Numbered}
 
 -- it is so in each state that the manager stands for
 abbrev pub IsAssociated : {M : Type 0} → (M → State → Type 0) → M → ℕ → Bool → Type 0

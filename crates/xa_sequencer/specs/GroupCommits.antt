@@ -5,10 +5,10 @@ use Rattle.xa_frame.specs.declared.reply.Reply.{Reply}
 use Rattle.xa_manager.specs.declared.together.Asked.{Asked}
 use Rattle.xa_model.specs.Events.{IsAsked}
 use Rattle.xa_model.specs.declared.event.Event.{Event}
-use Rattle.xa_history.specs.Manages.{Acts}
-use Rattle.xa_history.specs.Together as manager
+use Rattle.xa_history.specs.Believed.Manages.{Acts}
+use Rattle.xa_history.specs.Believed.Together as manager
 use Rattle.xa_history.specs.declared.manages.Manages.{Ghosts}
-use Rattle.xa_sequencer.specs.Stands.{most_numbers}
+use Rattle.xa_sequencer.specs.Believed.Stands.{most_numbers}
 
 -- an event, as a room's manager does it
 abbrev pub ActsAs : {M : Type 0} → Ghosts M → M → Event → Reply → M → Type 0

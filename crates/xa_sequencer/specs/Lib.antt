@@ -1,6 +1,3 @@
-pub mod Stands
-pub mod Numbers
-pub mod Together
+pub mod Believed
 pub mod Associates
 pub mod GroupCommits
-pub mod GroupManager

@@ -14,7 +14,8 @@ pub trait GroupCommits {
     ghost use Rattle.xa_disk.specs.declared.syncer.Syncer.{Syncer};
     ghost use Rattle.xa_frame.specs.Limits.{IsReply};
     ghost use Rattle.xa_model.specs.{declared.event.Event.Event, Answer.plain, Events.IsAsked, State.State};
-    ghost use Rattle.xa_manager.specs.{Answered.connect_reply, Once.AreOnce, Status.status_of, declared.together.Asked.Asked};
+    ghost use Rattle.xa_manager.specs.{Believed.Answered.connect_reply, Once.AreOnce};
+    ghost use Rattle.xa_manager.specs.{Status.status_of, declared.together.Asked.Asked};
     ghost use Rattle.xa_history.specs.declared.manages.Manages.{Ghosts};
     ghost use Rattle.xa_sequencer.specs.Associates.{IsAssociated, IsLogEnd};
     ghost use Rattle.xa_sequencer.specs.GroupCommits.{ActsAs, AnswersAs, RestsAs, pending_count};

@@ -1,5 +1,5 @@
 ghost use Rattle.std.specs.Prelude.{◌≡◌};
-ghost use Rattle.xa_sequencer.specs.GroupManager.{alone};
+ghost use Rattle.xa_sequencer.specs.Believed.GroupManager.{alone};
 
 use crate::group_commits::GroupCommits;
 use std::fmt;
@@ -28,8 +28,8 @@ impl<D: Disk> GroupManager<D> {
 }
 
 impl<D: Disk> GroupCommits for GroupManager<D> {
-    ghost use Rattle.xa_manager.specs.Parts.{log_of};
-    ghost use Rattle.xa_sequencer.specs.GroupManager.{OwnsItsGroup, manages_of, owns_none, pending_of};
+    ghost use Rattle.xa_manager.specs.Believed.Parts.{log_of};
+    ghost use Rattle.xa_sequencer.specs.Believed.GroupManager.{OwnsItsGroup, manages_of, owns_none, pending_of};
 
     ghost manages = { manages_of D.Disk };
 

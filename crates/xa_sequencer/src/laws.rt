@@ -1,4 +1,4 @@
-ghost use Rattle.xa_sequencer.specs.Stands.{GoesOnTwice};
+ghost use Rattle.xa_sequencer.specs.Believed.Stands.{GoesOnTwice};
 
 use crate::group_commits::GroupCommits;
 use xa_history::Start;

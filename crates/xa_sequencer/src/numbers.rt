@@ -1,5 +1,5 @@
 ghost use Rattle.std.specs.Prelude.{◌≡◌, ℕ, ◌+◌, ◌≤◌, ◌<◌, true, false};
-ghost use Rattle.xa_sequencer.specs.Stands.{most_numbers};
+ghost use Rattle.xa_sequencer.specs.Believed.Stands.{most_numbers};
 
 /// Whether so many numbers are left, behind a count and beside those for the hang-ups of the sessions.
 pub(crate) fn are_left(count: u64, sessions: u64, more: u64) -> bool

@@ -3,10 +3,10 @@ ghost use Rattle.std.specs.List.{AllByRecursion};
 ghost use Rattle.xa_frame.specs.Limits.{IsRequest, IsReply};
 ghost use Rattle.xa_manager.specs.Once.{AreOnce};
 ghost use Rattle.xa_model.specs.State.{State};
-ghost use Rattle.xa_history.specs.{Status.Tells, Together.IsToldOf};
-ghost use Rattle.xa_sequencer.specs.Numbers.{Called, Connected, Left};
-ghost use Rattle.xa_sequencer.specs.Stands.{AllPromise, HasHistory, Stands};
-ghost use Rattle.xa_sequencer.specs.Together.{CalledTogether, Rests};
+ghost use Rattle.xa_history.specs.{Status.Tells, Believed.Together.IsToldOf};
+ghost use Rattle.xa_sequencer.specs.Believed.Numbers.{Called, Connected, Left};
+ghost use Rattle.xa_sequencer.specs.Believed.Stands.{AllPromise, HasHistory, Stands};
+ghost use Rattle.xa_sequencer.specs.Believed.Together.{CalledTogether, Rests};
 
 use crate::group_commits::GroupCommits;
 use crate::numbers::are_left;
@@ -32,7 +32,7 @@ pub struct Sequencer<M: GroupCommits, S: Start> {
 }
 
 impl<M: GroupCommits, S: Start> Model for Sequencer<M, S> {
-    ghost use Rattle.xa_sequencer.specs.{GroupCommits.KeepsPending, Stands.HasHistory, Stands.Numbered};
+    ghost use Rattle.xa_sequencer.specs.{GroupCommits.KeepsPending, Believed.Stands.HasHistory, Believed.Stands.Numbered};
 
     ghost Value = { Numbered M };
 

@@ -3,7 +3,7 @@ ghost use Rattle.std.specs.Prelude.{◌≡◌, ◌+◌, ◌≤◌, length};
 ghost use Rattle.std.specs.List.{AllByRecursion};
 ghost use Rattle.xa_frame.specs.Limits.{IsRequest};
 ghost use Rattle.xa_model.specs.Events.{IsAsked};
-ghost use Rattle.xa_sequencer.specs.{Stands.most_numbers, Together.placed_from};
+ghost use Rattle.xa_sequencer.specs.{Believed.Stands.most_numbers, Believed.Together.placed_from};
 
 use xa_frame::Reply;
 use xa_manager::Asked;

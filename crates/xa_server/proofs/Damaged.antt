@@ -2,9 +2,9 @@
 use Rattle.std.proofs.Common.{ℕ, ◌≡◌, ◌∙◌, List, subst, sym}
 use Rattle.xa_disk.specs.declared.disk.Disk as disk
 use Rattle.xa_log.specs.Finding.{damage_of}
-use Rattle.xa_log.specs.Unfit.{unfit_of}
-use Rattle.xa_manager.specs.Opening.{OpenRefused}
-use Rattle.xa_server.specs.Served.{Refuses}
+use Rattle.xa_log.specs.Believed.Unfit.{unfit_of}
+use Rattle.xa_manager.specs.Believed.Opening.{OpenRefused}
+use Rattle.xa_server.specs.Believed.Served.{Refuses}
 use Rattle.xa_server.specs.declared.serve_fault.ServeFault.{ServeFault}
 use Rattle.xa_server.specs.declared.serve_fault.ServeFault.TheVariants as fault
 

@@ -6,7 +6,7 @@ use Rattle.xa_server.specs.declared.listens.Listens as listens
 use Rattle.xa_server.specs.declared.fault.ServerFault.{ServerFault}
 use Rattle.xa_server.specs.declared.fault.ServerFault.TheVariants as serving
 use Rattle.xa_server.specs.Faults.{serving_fault}
-use Rattle.xa_server.specs.Served.{AreFiles, AreLoops, HasFailedBy, NoLoops, NoWorkers, Place, Refuses, WasReady, never}
+use Rattle.xa_server.specs.Believed.Served.{AreFiles, AreLoops, HasFailedBy, NoLoops, NoWorkers, Place, Refuses, WasReady, never}
 use Rattle.xa_server.specs.declared.serve_fault.ServeFault.{ServeFault}
 use Rattle.xa_server.specs.declared.serve_fault.ServeFault.TheVariants as fault
 use Rattle.xa_service.specs.declared.loop_service.TheConstants.{MOST_LOOPS}

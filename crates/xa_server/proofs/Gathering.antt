@@ -4,8 +4,8 @@ use Rattle.std.specs.List.{AllByRecursion}
 use Rattle.std.specs.Prelude.{sum_by}
 use Rattle.std.proofs.lemmas.List.Sums.{sum_by-append, sum_by_push}
 use Rattle.xa_reactor.specs.declared.loops.Ended.{Ended}
-use Rattle.xa_server.specs.Loops.{told_by}
-use Rattle.xa_tokens.specs.Account.{Account, Owes, merged}
+use Rattle.xa_server.specs.Believed.Loops.{told_by}
+use Rattle.xa_tokens.specs.Believed.Account.{Account, Owes, merged}
 use Rattle.xa_tokens.specs.declared.receipt.Receipt.{Receipt}
 
 owes_both : (a b : Account) → Owes a 0 → Owes b 0 → Owes (merged a b) 0

@@ -4,18 +4,18 @@ use Rattle.xa_assoc.specs.Refusals.{is_memory}
 use Rattle.xa_frame.specs.Limits.{IsReply}
 use Rattle.xa_frame.specs.declared.reply.Reply.{Reply}
 use Rattle.xa_frame.specs.declared.request.Request.{Request}
-use Rattle.xa_handles.specs.Accounts.{Ends, HasAsked, told_of}
+use Rattle.xa_handles.specs.Believed.Accounts.{Ends, HasAsked, told_of}
 use Rattle.xa_handles.specs.Mail.{Mailed, mailed}
 use Rattle.xa_handles.specs.Owing.{owes_asking, owes_ended}
-use Rattle.xa_handles.specs.Posted.{IsLetter, WasAnswered}
-use Rattle.xa_handles.specs.Shared.{CalledBy, DidCall, DidCallOf}
+use Rattle.xa_handles.specs.Believed.Posted.{IsLetter, WasAnswered}
+use Rattle.xa_handles.specs.Believed.Shared.{CalledBy, DidCall, DidCallOf}
 use Rattle.xa_handles.specs.declared.letter.Content.{Content}
 use Rattle.xa_handles.specs.declared.letter.Content.TheVariants.{Answered, Posted}
 use Rattle.xa_model.specs.State.{State}
 use Rattle.xa_model.specs.declared.event.Event.TheVariants.{Call}
 use Rattle.xa_history.specs.declared.manages.Manages.{Ghosts}
-use Rattle.xa_tokens.specs.Account.{Account, Owes}
-use Rattle.xa_tokens.specs.Receipts.{IsInOrder}
+use Rattle.xa_tokens.specs.Believed.Account.{Account, Owes}
+use Rattle.xa_tokens.specs.Believed.Receipts.{IsInOrder}
 use Rattle.xa_tokens.specs.declared.ask.Ask.{Ask}
 use Rattle.xa_tokens.specs.declared.receipt.Receipt.{Receipt}
 

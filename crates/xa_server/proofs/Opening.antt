@@ -1,12 +1,12 @@
 -- What a manager that was opened is, from each clause of its opening.
 use Rattle.std.proofs.Common.{ℕ, ◌≡◌, ◌∙◌, List, [], Result, Ok, Err, Some, IfOk, IsSomeAnd, ap, subst, sym}
 use Rattle.xa_disk.specs.declared.disk.Disk as disk
-use Rattle.xa_log.specs.Pair.{logged_pair}
+use Rattle.xa_log.specs.Believed.Pair.{logged_pair}
 use Rattle.xa_manager.specs.declared.manager.Manager.{Manager}
-use Rattle.xa_manager.specs.Files.{FilesStandFor}
-use Rattle.xa_manager.specs.LogStands.{Trusts}
+use Rattle.xa_manager.specs.Believed.Files.{FilesStandFor}
+use Rattle.xa_manager.specs.Believed.LogStands.{Trusts}
 use Rattle.xa_manager.specs.Managed.{ManagerStandsFor}
-use Rattle.xa_manager.specs.Opening.{HasBegunOn}
+use Rattle.xa_manager.specs.Believed.Opening.{HasBegunOn}
 use Rattle.xa_model.specs.declared.outcome.Appending.TheVariants.{Kept}
 use Rattle.xa_model.specs.declared.outcome.Outcome.TheVariants.{Reread}
 use Rattle.xa_model.specs.History.{fresh}
@@ -14,7 +14,7 @@ use Rattle.xa_model.specs.Invariants.Loggable.{IsRecoverable}
 use Rattle.xa_model.specs.State.{State}
 use Rattle.xa_model.specs.Step.{step}
 use Rattle.xa_model.specs.Turn.{Reopened}
-use Rattle.xa_server.specs.Served.{HasOpened}
+use Rattle.xa_server.specs.Believed.Served.{HasOpened}
 
 pub has_opened : {D E : Type 0} (disks : disk.Ghosts D) (first second : D) (name : List ℕ) (log_bytes : ℕ)
     (result : Result (Manager D) E)

@@ -5,8 +5,8 @@ use Rattle.xa_manager.specs.Managed.{ManagerStandsFor}
 use Rattle.xa_manager.proofs.Promised as promised
 use Rattle.xa_model.specs.State.{State}
 use Rattle.xa_history.specs.declared.manages.Manages.{Ghosts}
-use Rattle.xa_server.specs.Loops.{LoopedPromises}
-use Rattle.xa_server.specs.Serves.{ServedPromises}
+use Rattle.xa_server.specs.Believed.Loops.{LoopedPromises}
+use Rattle.xa_server.specs.Believed.Serves.{ServedPromises}
 
 -- of a manager that is what `stands` says, where that says no less than the manager's own relation
 pub served_promises : {D : Type 0} (L : Type 0) (disks : disk.Ghosts D) (m : Ghosts (Manager D))

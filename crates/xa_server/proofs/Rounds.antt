@@ -13,9 +13,9 @@ use Rattle.xa_reactor.specs.Asking.{HasRequest, IsAnswered, Tells, TellsAll, Tel
 use Rattle.xa_reactor.proofs.Asking.{all_left_true}
 use Rattle.xa_model.specs.State.{State}
 use Rattle.xa_history.specs.declared.manages.Manages.{Ghosts}
-use Rattle.xa_server.specs.Loops.{Called}
+use Rattle.xa_server.specs.Believed.Loops.{Called}
 use Rattle.xa_server.specs.Rounds.{IsWithin, TakesBack, TellsAtMost}
-use Rattle.xa_tokens.specs.Account.{Account}
+use Rattle.xa_tokens.specs.Believed.Account.{Account}
 
 -- where a number is a place, it doesn't matter what there would be elsewhere
 pub get_any : {A : Type 0} (xs : List A) (i : ℕ) (a b : A) → i < length xs → get_or xs i a ≡ get_or xs i b

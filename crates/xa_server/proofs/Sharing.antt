@@ -5,22 +5,22 @@ use Rattle.std.specs.Prelude.{sum_by}
 use Rattle.std.proofs.lemmas.List.Sums.{sum_by-cons}
 use Rattle.xa_assoc.specs.Refusals.{is_memory}
 use Rattle.xa_assoc.specs.declared.fault.ConnectFault.{ConnectFault}
-use Rattle.xa_desk.specs.Serving.{Answers, AnswersAll}
+use Rattle.xa_desk.specs.Believed.Serving.{Answers, AnswersAll}
 use Rattle.xa_frame.specs.declared.reply.Reply.{Reply}
 use Rattle.xa_frame.specs.declared.question.Question.{Question}
 use Rattle.xa_frame.specs.declared.question.Question.TheVariants.{Call, Status}
-use Rattle.xa_handles.specs.Accounts.{AsksAtOnce, Ends, HasAsked}
-use Rattle.xa_manager.specs.Answered.{connect_reply}
+use Rattle.xa_handles.specs.Believed.Accounts.{AsksAtOnce, Ends, HasAsked}
+use Rattle.xa_manager.specs.Believed.Answered.{connect_reply}
 use Rattle.xa_model.specs.State.{State}
 use Rattle.xa_model.specs.declared.event.Event.{Event}
 use Rattle.xa_model.specs.declared.event.Event.TheVariants.{Connect, Hangup}
 use Rattle.xa_reactor.specs.declared.loops.Ended.{Ended}
-use Rattle.xa_reactor.specs.Tending.{Does, DoesOrPosts, HaveTended, Table, nobody}
+use Rattle.xa_reactor.specs.Believed.Tending.{Does, DoesOrPosts, HaveTended, Table, nobody}
 use Rattle.xa_reactor.proofs.Doing.{does_keep}
 use Rattle.xa_reactor.proofs.Parts.{has_tended_by}
 use Rattle.xa_history.specs.declared.manages.Manages.{Ghosts}
-use Rattle.xa_server.specs.Loops.{AllLoop, Called, Connected, HasLooped, IsFresh, Left, Posted}
-use Rattle.xa_tokens.specs.Account.{Account, Owes}
+use Rattle.xa_server.specs.Believed.Loops.{AllLoop, Called, Connected, HasLooped, IsFresh, Left, Posted}
+use Rattle.xa_tokens.specs.Believed.Account.{Account, Owes}
 use Rattle.xa_tokens.specs.declared.ask.Ask.{Ask}
 use Rattle.xa_tokens.specs.declared.receipt.Receipt.{Receipt}
 

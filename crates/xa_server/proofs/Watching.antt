@@ -7,20 +7,20 @@ use Rattle.std.proofs.lemmas.List.Sums.{sum_by-append, sum_by-cons, sum_by_push}
 use Rattle.xa_assoc.specs.Refusals.{is_memory}
 use Rattle.xa_frame.specs.declared.reply.Reply.{Reply}
 use Rattle.xa_frame.specs.declared.request.Request.{Request}
-use Rattle.xa_handles.specs.Accounts.{AsksAtOnce, Ends, HasAsked}
+use Rattle.xa_handles.specs.Believed.Accounts.{AsksAtOnce, Ends, HasAsked}
 use Rattle.xa_handles.specs.Owing.{owes_asked, owes_ended}
-use Rattle.xa_handles.specs.Shared.{CalledBy}
-use Rattle.xa_handles.specs.Standing.{shown}
+use Rattle.xa_handles.specs.Believed.Shared.{CalledBy}
+use Rattle.xa_handles.specs.Believed.Standing.{shown}
 use Rattle.xa_history.specs.declared.manages.Manages.{Ghosts}
 use Rattle.xa_history.specs.declared.receipt.Receipt as entry
 use Rattle.xa_model.specs.State.{State}
 use Rattle.xa_model.specs.declared.event.Event.{Event}
 use Rattle.xa_reactor.proofs.Telling.{memory_tells}
-use Rattle.xa_reactor.specs.Down.{after_reply, after_told, last_of, seen_at, tells_down, unseen}
+use Rattle.xa_reactor.specs.Believed.Down.{after_reply, after_told, last_of, seen_at, tells_down, unseen}
 use Rattle.xa_reactor.specs.declared.seen.Seen.{Seen}
-use Rattle.xa_server.specs.Watching.{IsSeenLast, after_entry, at_weight, behind_weight, down_by, is_down_after, is_restart, seen_from, seen_of, tells, told_in}
-use Rattle.xa_tokens.specs.Account.{Account, Owes}
-use Rattle.xa_tokens.specs.Receipts.{AreNumbered, AreSame, receipt_of}
+use Rattle.xa_server.specs.Believed.Watching.{IsSeenLast, after_entry, at_weight, behind_weight, down_by, is_down_after, is_restart, seen_from, seen_of, tells, told_in}
+use Rattle.xa_tokens.specs.Believed.Account.{Account, Owes}
+use Rattle.xa_tokens.specs.Believed.Receipts.{AreNumbered, AreSame, receipt_of}
 use Rattle.xa_tokens.specs.declared.ask.Ask.{Ask}
 use Rattle.xa_tokens.specs.declared.receipt.Receipt.{Receipt}
 

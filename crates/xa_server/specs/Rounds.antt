@@ -7,8 +7,8 @@ use Rattle.xa_model.specs.State.{State}
 use Rattle.xa_reactor.specs.Asking.{Tells, TellsSome}
 use Rattle.xa_reactor.specs.declared.ask.Ask.{Ask}
 use Rattle.xa_history.specs.declared.manages.Manages.{Ghosts}
-use Rattle.xa_server.specs.Loops.{Called}
-use Rattle.xa_tokens.specs.Account.{Account}
+use Rattle.xa_server.specs.Believed.Loops.{Called}
+use Rattle.xa_tokens.specs.Believed.Account.{Account}
 
 -- its request, if it is left, is within the limits
 abbrev pub IsWithin : Ask → Type 0

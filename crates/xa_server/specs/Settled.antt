@@ -6,13 +6,13 @@ use Rattle.xa_frame.specs.declared.question.Question.{Question}
 use Rattle.xa_frame.specs.declared.question.Question.TheVariants as question
 use Rattle.xa_frame.specs.declared.reply.Reply.{Reply}
 use Rattle.xa_handles.specs.Owing.{owes_asked, owes_at_once, owes_ended}
-use Rattle.xa_manager.specs.Answered.{connect_reply}
+use Rattle.xa_manager.specs.Believed.Answered.{connect_reply}
 use Rattle.xa_model.specs.State.{State}
 use Rattle.xa_model.specs.declared.event.Event.TheVariants.{Connect, Hangup}
 use Rattle.xa_reactor.specs.Reception.{KeepsSettled}
 use Rattle.xa_history.specs.declared.manages.Manages.{Ghosts}
-use Rattle.xa_server.specs.Loops.{Called, Connected, Left}
-use Rattle.xa_tokens.specs.Account.{Account, Owes}
+use Rattle.xa_server.specs.Believed.Loops.{Called, Connected, Left}
+use Rattle.xa_tokens.specs.Believed.Account.{Account, Owes}
 
 module _ {M : Type 0} (m : Ghosts M) (start : State → Type 0) (base : ℕ × ℕ) where
   called_settled : (session : ℕ) (a : Account) (q : Question) (reply : Reply) (b : Account) → Called m start base session a q reply b

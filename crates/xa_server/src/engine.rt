@@ -1,11 +1,11 @@
 ghost use Rattle.std.specs.Prelude.{◌≡◌, ◌↔◌, ◌+◌, ◌<◌, ◌≤◌, ◌⊎◌, ℕ, List, None, IfErr, IfOk, IsErrOf, length, map, sum_by};
 ghost use Rattle.xa_model.specs.State.{State};
 ghost use Rattle.std.specs.List.{AllByRecursion};
-ghost use Rattle.xa_server.specs.Loops.{AllLoop, IsFresh, ServesByLoops, told_by};
-ghost use Rattle.xa_server.specs.Watching.{IsSeenLast};
+ghost use Rattle.xa_server.specs.Believed.Loops.{AllLoop, IsFresh, ServesByLoops, told_by};
+ghost use Rattle.xa_server.specs.Believed.Watching.{IsSeenLast};
 ghost use Rattle.xa_service.specs.declared.loop_service.TheConstants.{MOST_LOOPS};
-ghost use Rattle.xa_tokens.specs.Account.{Account, Owes};
-ghost use Rattle.xa_tokens.specs.Receipts.{AreSame};
+ghost use Rattle.xa_tokens.specs.Believed.Account.{Account, Owes};
+ghost use Rattle.xa_tokens.specs.Believed.Receipts.{AreSame};
 
 use crate::fault::ServerFault;
 use crate::post::Post;

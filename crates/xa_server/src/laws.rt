@@ -1,5 +1,5 @@
 //! What is promised of what a server served.
-ghost use Rattle.xa_server.specs.{Loops.LoopedPromises, Serves.ServedPromises};
+ghost use Rattle.xa_server.specs.{Believed.Loops.LoopedPromises, Believed.Serves.ServedPromises};
 
 use std::sync::ledger::Ledger;
 use xa_disk::Disk;

@@ -1,5 +1,5 @@
 ghost use Rattle.std.specs.Prelude.{IfOk, OnErr};
-ghost use Rattle.xa_server.specs.Served.{IsListening, IsRefusedAt, where_of};
+ghost use Rattle.xa_server.specs.Believed.Served.{IsListening, IsRefusedAt, where_of};
 
 use crate::listens::Listens;
 use std::io;

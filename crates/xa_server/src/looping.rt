@@ -1,6 +1,6 @@
 //! A manager over two files, whose sessions are the connections of a port, by event loops.
 ghost use Rattle.std.specs.Prelude.{◌≡◌, ◌&&◌, IfErr, IfOk, not};
-ghost use Rattle.xa_server.specs.Served.{AreLoops, HasLooped, LoopsHaveFailed};
+ghost use Rattle.xa_server.specs.Believed.Served.{AreLoops, HasLooped, LoopsHaveFailed};
 
 use crate::engine::loop_manager;
 use crate::listening::Listening;

@@ -1,5 +1,5 @@
 ghost use Rattle.std.specs.Prelude.{ℕ, ◌≡◌, ◌+◌, IfSome};
-ghost use Rattle.xa_server.specs.Watching.{is_restart, seen_of};
+ghost use Rattle.xa_server.specs.Believed.Watching.{is_restart, seen_of};
 
 use crate::logging::{appends, may_log};
 use std::alloc::{AllocError, Global};
@@ -38,9 +38,9 @@ pub(crate) struct Post<'a, M: GroupCommits, S: Start, B: Book, R> {
 impl<'a, M: GroupCommits, S: Start, B: Book, R: Clock + Wait> Post<'a, M, S, B, R> {
     ghost use Rattle.std.specs.Prelude.{◌≡◌, ◌<◌, [], All, IfOk};
     ghost use Rattle.xa_reactor.specs.Asking.{IsAnswered, TellsSome};
-    ghost use Rattle.xa_server.specs.{Loops.Called, Rounds.IsWithin, Rounds.TakesBack, Rounds.TellsAtMost};
-    ghost use Rattle.xa_server.specs.Watching.{IsSeenLast};
-    ghost use Rattle.xa_tokens.specs.Account.{Owes};
+    ghost use Rattle.xa_server.specs.{Believed.Loops.Called, Rounds.IsWithin, Rounds.TakesBack, Rounds.TellsAtMost};
+    ghost use Rattle.xa_server.specs.Believed.Watching.{IsSeenLast};
+    ghost use Rattle.xa_tokens.specs.Believed.Account.{Owes};
 
     pub(crate) fn new(
         rt: &'a R,
@@ -253,7 +253,7 @@ impl<'a, M: GroupCommits, S: Start, B: Book, R: Clock + Wait> Post<'a, M, S, B, 
 }
 
 impl<M: GroupCommits, S: Start, B: Book, R: Clock + Wait> Door for Post<'_, M, S, B, R> {
-    ghost use Rattle.xa_server.specs.Loops.{Called, Left};
+    ghost use Rattle.xa_server.specs.Believed.Loops.{Called, Left};
 
     ghost called = { λ session a question reply b.
         Called M.manages S.start S.base session a.handle.asker question reply b.handle.asker };
@@ -280,11 +280,11 @@ impl<M: GroupCommits, S: Start, B: Book, R: Clock + Wait> Door for Post<'_, M, S
 }
 
 impl<M: GroupCommits, S: Start, B: Book, R: Clock + Wait> Reception for Post<'_, M, S, B, R> {
-    ghost use Rattle.xa_handles.specs.Accounts.{Posts};
+    ghost use Rattle.xa_handles.specs.Believed.Accounts.{Posts};
     ghost use Rattle.xa_model.specs.declared.event.Event.TheVariants as Event;
     ghost use Rattle.xa_sequencer.specs.Associates.{AssociatedBy, EndedBy};
-    ghost use Rattle.xa_server.specs.{Loops.Connected, Loops.Posted, Settled.keeps_settled};
-    ghost use Rattle.xa_tokens.specs.Account.{Owes};
+    ghost use Rattle.xa_server.specs.{Believed.Loops.Connected, Believed.Loops.Posted, Settled.keeps_settled};
+    ghost use Rattle.xa_tokens.specs.Believed.Account.{Owes};
 
     ghost connected = { λ a result b. Connected M.manages S.start S.base a.handle.asker result b.handle.asker };
 

@@ -1,10 +1,11 @@
 //! A manager over two files, whose sessions are the connections of a port.
 ghost use Rattle.std.specs.Prelude.{◌≡◌, ◌++◌, ℕ, List, IfErr, IfOk, OnOk, codes, string_bytes};
 ghost use Rattle.std.specs.declared.marker.Brand.{Brand};
-ghost use Rattle.xa_log.specs.{Unfit.unfit_of, declared.unfit.Unfit.TheVariants.Neither};
+ghost use Rattle.xa_log.specs.{Believed.Unfit.unfit_of, declared.unfit.Unfit.TheVariants.Neither};
 ghost use Rattle.xa_server.specs.Faults.{file_fault};
-ghost use Rattle.xa_server.specs.Served.{AreFiles, HasFailed, HasFailedBy, HasOpened, HasServed, IsDamage, IsFileFault};
-ghost use Rattle.xa_server.specs.Served.{IsReady, Refuses, never, second_path, where_of};
+ghost use Rattle.xa_server.specs.Believed.Served.{AreFiles, HasFailed, HasFailedBy};
+ghost use Rattle.xa_server.specs.Believed.Served.{HasOpened, HasServed, IsDamage, IsFileFault};
+ghost use Rattle.xa_server.specs.Believed.Served.{IsReady, Refuses, never, second_path, where_of};
 
 use crate::audited::audited_lines;
 use crate::listening::{Listening, listen};

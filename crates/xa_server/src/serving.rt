@@ -2,7 +2,7 @@ ghost use Rattle.std.specs.Prelude.{◌≡◌, ◌↔◌, ◌+◌, ◌<◌, ◌�
 ghost use Rattle.std.specs.declared.marker.Brand.{Brand};
 ghost use Rattle.xa_model.specs.State.{State};
 ghost use Rattle.xa_room.specs.Gone.{WasGone};
-ghost use Rattle.xa_server.specs.Serves.{Serves, Tells};
+ghost use Rattle.xa_server.specs.Believed.Serves.{Serves, Tells};
 ghost use Rattle.xa_service.specs.declared.service.TheConstants.{MOST_WORKERS};
 ghost use Rattle.xa_workers.specs.Connections.{Runs};
 

@@ -1,7 +1,7 @@
 //! A question goes over a connection, and its reply comes back.
 ghost use Rattle.std.specs.Io.KnownBytes.{Consumes};
 ghost use Rattle.std.specs.Prelude.{◌≡◌, Err, IfOk, MatchResult};
-ghost use Rattle.xa_desk.specs.Frames.{frame};
+ghost use Rattle.xa_desk.specs.Believed.Frames.{frame};
 ghost use Rattle.xa_frame.specs.Questions.{IsQuestion};
 ghost use Rattle.xa_talk.specs.Exchanges.{Exchanged, Receives, Sends, question_frame};
 

@@ -5,11 +5,11 @@ use Rattle.atomic_table.specs.Table.{State, Me, Splits, Joins, Allows, keeps}
 use Rattle.xa_tokens.specs.declared.ask.Ask.{Ask}
 use Rattle.xa_tokens.specs.declared.receipt.Receipt.{Receipt}
 use Rattle.xa_tokens.specs.declared.view.View.{View}
-use Rattle.xa_tokens.specs.Account.{HasHistory, Owes, account_of}
-use Rattle.xa_tokens.specs.Receipts.{IsInOrder, last_or}
-use Rattle.xa_tokens.specs.Rule.{Kept}
+use Rattle.xa_tokens.specs.Believed.Account.{HasHistory, Owes, account_of}
+use Rattle.xa_tokens.specs.Believed.Receipts.{IsInOrder, last_or}
+use Rattle.xa_tokens.specs.Believed.Rule.{Kept}
 use Rattle.xa_tokens.specs.Steps.{answering, asking, giving_up, joined}
-use Rattle.xa_tokens.specs.View.{all_parts, no_view}
+use Rattle.xa_tokens.specs.Believed.View.{all_parts, no_view}
 use Rattle.xa_tokens.proofs.Audited.{has_history}
 use Rattle.xa_tokens.proofs.Keeps.{Cuts, answers, asked_before, asks, cuts, gives, joins}
 

@@ -6,10 +6,10 @@ use lib.ListN.{get_elem?}
 use Rattle.xa_tokens.specs.declared.ask.Ask.{Ask}
 use Rattle.xa_tokens.specs.declared.receipt.Receipt.{Receipt}
 use Rattle.xa_tokens.specs.declared.view.View.{View}
-use Rattle.xa_tokens.specs.Account.{HasHistory, IsSettled, Owes, account_of}
-use Rattle.xa_tokens.specs.Receipts.{AreNumbered, AreSame}
-use Rattle.xa_tokens.specs.Rule.{Kept}
-use Rattle.xa_tokens.specs.View.{all_parts}
+use Rattle.xa_tokens.specs.Believed.Account.{HasHistory, IsSettled, Owes, account_of}
+use Rattle.xa_tokens.specs.Believed.Receipts.{AreNumbered, AreSame}
+use Rattle.xa_tokens.specs.Believed.Rule.{Kept}
+use Rattle.xa_tokens.specs.Believed.View.{all_parts}
 use Rattle.xa_tokens.proofs.Sums.{at_most, has_all, none_else, ones, weigh_none}
 
 -- The keeper that has all parts, and owes nothing, has what it was told as its history: no token but it asked or gave up

@@ -8,10 +8,10 @@ use Rattle.atomic_table.proofs.Lists.{at_set}
 use Rattle.xa_tokens.specs.declared.ask.Ask.{Ask}
 use Rattle.xa_tokens.specs.declared.receipt.Receipt.{Receipt}
 use Rattle.xa_tokens.specs.declared.view.View.{View}
-use Rattle.xa_tokens.specs.Receipts.{AreNumbered, last_or}
-use Rattle.xa_tokens.specs.Rule.{AskedWithin, Kept, StandWithin}
+use Rattle.xa_tokens.specs.Believed.Receipts.{AreNumbered, last_or}
+use Rattle.xa_tokens.specs.Believed.Rule.{AskedWithin, Kept, StandWithin}
 use Rattle.xa_tokens.specs.Steps.{answering, asking, giving_up, joined, kept_part, less_one, one_part, only_tickets, other_part, without_tickets}
-use Rattle.xa_tokens.specs.View.{first_view, no_view}
+use Rattle.xa_tokens.specs.Believed.View.{first_view, no_view}
 use Rattle.xa_tokens.proofs.Sums.{cut_same, each_more, each_set, join_same, set_adds, set_same, sum_set}
 
 off : false ≡ true → ⊥

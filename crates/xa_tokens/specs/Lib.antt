@@ -1,5 +1,2 @@
-pub mod Account
-pub mod Receipts
-pub mod Rule
+pub mod Believed
 pub mod Steps
-pub mod View

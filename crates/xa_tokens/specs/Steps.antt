@@ -3,7 +3,7 @@ use Rattle.std.specs.Prelude.{◌+◌, ◌-◌, false, [], ◌∷◌, ◌++◌}
 use Rattle.xa_tokens.specs.declared.ask.Ask.{Ask}
 use Rattle.xa_tokens.specs.declared.receipt.Receipt.{Receipt}
 use Rattle.xa_tokens.specs.declared.view.View.{View}
-use Rattle.xa_tokens.specs.View.{no_view}
+use Rattle.xa_tokens.specs.Believed.View.{no_view}
 
 -- the keeper, and what else there is
 abbrev pub kept_part : View → View

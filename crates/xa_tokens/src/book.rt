@@ -8,7 +8,7 @@ pub trait Book {
 }
 
 impl Book for Brand {
-    ghost use Rattle.xa_tokens.specs.View.{no_table};
+    ghost use Rattle.xa_tokens.specs.Believed.View.{no_table};
 
     ghost table = { no_table };
 }

@@ -12,7 +12,7 @@ pub struct Keeper<B: Book> {
 impl<B: Book> Model for Keeper<B> {
     ghost use Rattle.std.specs.Prelude.{◌≡◌, List, []};
     ghost use Rattle.xa_tokens.specs.declared.receipt.Receipt.{Receipt};
-    ghost use Rattle.xa_tokens.specs.View.{keeper_view};
+    ghost use Rattle.xa_tokens.specs.Believed.View.{keeper_view};
 
     ghost Value = { List Receipt };
 

@@ -1,9 +1,9 @@
 //! What happens to one token or to two, each a load of the table's word.
 ghost use Rattle.std.specs.Prelude.{◌≡◌, ◌+◌, ◌<◌, true, [], ◌∷◌, length};
-ghost use Rattle.xa_tokens.specs.Account.{HasHistory, Owes, account_of};
-ghost use Rattle.xa_tokens.specs.Receipts.{IsInOrder, last_or};
+ghost use Rattle.xa_tokens.specs.Believed.Account.{HasHistory, Owes, account_of};
+ghost use Rattle.xa_tokens.specs.Believed.Receipts.{IsInOrder, last_or};
 ghost use Rattle.xa_tokens.specs.Steps.{answering, asking, giving_up, joined, kept_part, less_one, one_part, only_tickets, other_part, without_tickets};
-ghost use Rattle.xa_tokens.specs.View.{all_parts};
+ghost use Rattle.xa_tokens.specs.Believed.View.{all_parts};
 
 use crate::book::Book;
 use crate::steps::{About, Answers, Asks, Audits, GivesUp, Joined, KeptPart, OnePart, OnlyTickets};

@@ -1,6 +1,6 @@
 ghost use Rattle.std.specs.Prelude.{◌≡◌, []};
-ghost use Rattle.xa_tokens.specs.Account.{account};
-ghost use Rattle.xa_tokens.specs.View.{all_parts};
+ghost use Rattle.xa_tokens.specs.Believed.Account.{account};
+ghost use Rattle.xa_tokens.specs.Believed.View.{all_parts};
 
 use crate::book::Book;
 use crate::keeper::Keeper;
@@ -21,7 +21,7 @@ pub struct Opened {
 impl Model for Opened {
     ghost use Rattle.std.specs.Prelude.{◌≡◌, ◌<◌, []};
     ghost use Rattle.atomic_table.specs.Seated.{TableId};
-    ghost use Rattle.xa_tokens.specs.View.{first_view};
+    ghost use Rattle.xa_tokens.specs.Believed.View.{first_view};
 
     ghost Value = { TableId };
 

@@ -11,8 +11,8 @@ pub struct Share<B: Book> {
 
 impl<B: Book> Model for Share<B> {
     ghost use Rattle.std.specs.Prelude.{◌≡◌, []};
-    ghost use Rattle.xa_tokens.specs.Account.{Account, account_of};
-    ghost use Rattle.xa_tokens.specs.View.{share_view};
+    ghost use Rattle.xa_tokens.specs.Believed.Account.{Account, account_of};
+    ghost use Rattle.xa_tokens.specs.Believed.View.{share_view};
 
     ghost Value = { Account };
 

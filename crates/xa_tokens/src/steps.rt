@@ -13,7 +13,7 @@ pub trait About {
 }
 
 impl About for Brand {
-    ghost use Rattle.xa_tokens.specs.View.{no_receipt};
+    ghost use Rattle.xa_tokens.specs.Believed.View.{no_receipt};
 
     ghost receipt = { no_receipt };
 }
@@ -31,7 +31,7 @@ impl<P: About> Play<(), View> for Asks<P> {
 pub struct Answers<P: About>(PhantomData<P>);
 
 impl<P: About> Play<(), View> for Answers<P> {
-    ghost use Rattle.xa_tokens.specs.Receipts.{IsInOrder};
+    ghost use Rattle.xa_tokens.specs.Believed.Receipts.{IsInOrder};
     ghost use Rattle.xa_tokens.specs.Steps.{answering};
 
     ghost then = { λ _ m _ n. (n.0 ≡ answering P.receipt m.0) × (n.1 ≡ m.1) × IsInOrder P.receipt };
@@ -50,7 +50,7 @@ impl Play<(), View> for GivesUp {
 pub struct Audits;
 
 impl Play<(), View> for Audits {
-    ghost use Rattle.xa_tokens.specs.{Account.account_of, Account.Owes, Account.HasHistory};
+    ghost use Rattle.xa_tokens.specs.{Believed.Account.account_of, Believed.Account.Owes, Believed.Account.HasHistory};
 
     ghost then = { λ _ m _ n. (n.0 ≡ m.0) × (n.1 ≡ m.1)
         × (Owes (account_of m.0) 0 → HasHistory m.0.history (account_of m.0)) };
@@ -93,7 +93,7 @@ impl Split<View> for OnePart {
 pub struct Joined;
 
 impl Join<View> for Joined {
-    ghost use Rattle.xa_tokens.specs.{Steps.joined, View.no_view};
+    ghost use Rattle.xa_tokens.specs.{Steps.joined, Believed.View.no_view};
 
     ghost both = { joined };
 

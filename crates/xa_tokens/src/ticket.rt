@@ -12,7 +12,7 @@ pub struct Ticket<B: Book> {
 impl<B: Book> Model for Ticket<B> {
     ghost use Rattle.std.specs.Prelude.{◌≡◌, []};
     ghost use Rattle.xa_tokens.specs.declared.ask.Ask.{Ask};
-    ghost use Rattle.xa_tokens.specs.View.{ticket_view, the_ask};
+    ghost use Rattle.xa_tokens.specs.Believed.View.{ticket_view, the_ask};
 
     ghost Value = { Ask };
 

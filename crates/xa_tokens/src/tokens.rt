@@ -1,7 +1,7 @@
 ghost use Rattle.std.specs.Prelude.{◌≡◌, ◌+◌, ◌-◌, ◌<◌, [], ◌∷◌, ◌++◌, length};
-ghost use Rattle.xa_tokens.specs.Account.{HasHistory, Owes, account, merged};
-ghost use Rattle.xa_tokens.specs.Receipts.{IsInOrder, ask_of, last_or, receipt_of};
-ghost use Rattle.xa_tokens.specs.View.{all_parts};
+ghost use Rattle.xa_tokens.specs.Believed.Account.{HasHistory, Owes, account, merged};
+ghost use Rattle.xa_tokens.specs.Believed.Receipts.{IsInOrder, ask_of, last_or, receipt_of};
+ghost use Rattle.xa_tokens.specs.Believed.View.{all_parts};
 
 use crate::book::Book;
 use crate::keeper::Keeper;

@@ -12,8 +12,8 @@ pub struct Told<B: Book> {
 impl<B: Book> Model for Told<B> {
     ghost use Rattle.std.specs.Prelude.{◌≡◌, []};
     ghost use Rattle.xa_tokens.specs.declared.receipt.Receipt.{Receipt};
-    ghost use Rattle.xa_tokens.specs.Receipts.{IsInOrder};
-    ghost use Rattle.xa_tokens.specs.View.{told_view, the_receipt};
+    ghost use Rattle.xa_tokens.specs.Believed.Receipts.{IsInOrder};
+    ghost use Rattle.xa_tokens.specs.Believed.View.{told_view, the_receipt};
 
     ghost Value = { Receipt };
 

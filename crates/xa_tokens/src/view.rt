@@ -25,7 +25,7 @@ pub struct View {
 pub struct OneHistory;
 
 impl TableRule<(), View, ()> for OneHistory {
-    ghost use Rattle.xa_tokens.specs.{Rule.Kept, View.first_view};
+    ghost use Rattle.xa_tokens.specs.{Believed.Rule.Kept, Believed.View.first_view};
 
     ghost holds = { λ _ s. Kept s.views };
 

@@ -13,7 +13,7 @@ use Rattle.xa_commands.specs.Done.{Checked, HasPlayed, HasTalked, HasTicked, Sca
 use Rattle.xa_commands.specs.declared.checking_fault.CheckingFault.{CheckingFault}
 use Rattle.xa_commands.specs.declared.scanning_fault.ScanningFault.{ScanningFault}
 use Rattle.xa_disk.specs.declared.file_fault.FileFault.{FileFault}
-use Rattle.xa_manager.specs.Opening.{IsBadSetting}
+use Rattle.xa_manager.specs.Believed.Opening.{IsBadSetting}
 use Rattle.xa_play.specs.declared.fault.PlayFault.{PlayFault}
 use Rattle.xa_play.specs.declared.fault.PlayFault.TheVariants as play
 use Rattle.xa_talk.specs.declared.fault.TalkFault.{TalkFault}

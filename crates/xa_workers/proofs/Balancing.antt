@@ -8,7 +8,7 @@ use Rattle.xa_model.specs.declared.event.Event.{Event}
 use Rattle.xa_room.specs.Share.{Held}
 use Rattle.xa_history.specs.declared.receipt.Receipt.{Receipt}
 use Rattle.xa_workers.specs.declared.report.Report.{Report}
-use Rattle.xa_workers.specs.Reports.{Takes, Rests, Calls, Connects, HangsUp, Balances}
+use Rattle.xa_workers.specs.Believed.Reports.{Takes, Rests, Calls, Connects, HangsUp, Balances}
 
 grown : {A Z : Type 0} (v w : Vec A Z) (x : A) → w.items ≡ v.items ++ x ∷ [] → vec_len w ≡ vec_len v + 1
 grown v w x h = w.ok.0 ∙ (ap length h ∙ (length-append v.items (x ∷ []) ∙ ap (λ (n : ℕ). n + 1) (sym v.ok.0)))

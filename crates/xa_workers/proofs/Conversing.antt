@@ -4,7 +4,7 @@ use Rattle.xa_frame.specs.declared.question.Question.{Question}
 use Rattle.xa_frame.specs.declared.question.Question.TheVariants as question
 use Rattle.xa_frame.specs.declared.request.Request.{Request}
 use Rattle.xa_frame.specs.declared.reply.Reply.{Reply}
-use Rattle.xa_desk.specs.Serving.{Answers, AnswersAll}
+use Rattle.xa_desk.specs.Believed.Serving.{Answers, AnswersAll}
 
 answer_keeps : {D : Type 0} (called : D → Question → Reply → D → Type 0) (kept : D → D → Type 0) → ((d : D) → kept d d)
     → ((d : D) (q : Request) (r : Reply) (e : D) → called d (question.Call q) r e → kept d e)

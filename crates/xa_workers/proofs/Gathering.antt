@@ -5,7 +5,7 @@ use Rattle.std.proofs.lemmas.List.Sums.{sum_by-append, sum_by-cons}
 use Rattle.std.specs.Prelude.{sum_by}
 use Rattle.xa_workers.specs.declared.report.Report.{Report}
 use Rattle.xa_workers.specs.Connections.{Gathers}
-use Rattle.xa_workers.specs.Reports.{Joins}
+use Rattle.xa_workers.specs.Believed.Reports.{Joins}
 
 -- those behind the rest are one report
 abbrev pub Gathered : {L : Type 0} → List (Report L) → List (Report L) → Report L → Type 0

@@ -1,13 +1,13 @@
 -- What a connection does to a report.
 use Rattle.std.proofs.Common.{◌≡◌, ℕ, List, [], ◌∷◌, inl, inr, refl, sym, ap, subst}
-use Rattle.xa_desk.specs.Serving.{Answers, AnswersAll}
+use Rattle.xa_desk.specs.Believed.Serving.{Answers, AnswersAll}
 use Rattle.xa_frame.specs.declared.question.Question.{Question}
 use Rattle.xa_frame.specs.declared.question.Question.TheVariants as question
 use Rattle.xa_frame.specs.declared.request.Request.{Request}
 use Rattle.xa_frame.specs.declared.reply.Reply.{Reply}
 use Rattle.xa_workers.specs.declared.report.Report.{Report}
 use Rattle.xa_workers.specs.Connections.{CallsAll, Serves, ServesAll}
-use Rattle.xa_workers.specs.Reports.{Calls}
+use Rattle.xa_workers.specs.Believed.Reports.{Calls}
 
 -- the calls of a conversation, as the report has them
 abbrev pub Called : {L : Type 0} → ℕ → Report L → Report L → Type 0

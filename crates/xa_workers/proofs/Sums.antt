@@ -6,7 +6,7 @@ use Rattle.std.proofs.lemmas.List.Sums.{sum_by-cons, sum_by_push}
 use Rattle.xa_room.specs.Share.{Held}
 use Rattle.xa_workers.specs.declared.report.Report.{Report}
 use Rattle.xa_workers.specs.Connections.{AllWork, AreReports}
-use Rattle.xa_workers.specs.Reports.{told}
+use Rattle.xa_workers.specs.Believed.Reports.{told}
 
 more_parts : {A B : Type 0} (f : A → ℕ) (g : B → ℕ) (a : A) (xs : List A) (b : B) (ys : List B)
     → f a ≡ g b → sum_by f xs ≡ sum_by g ys → sum_by f (a ∷ xs) ≡ sum_by g (b ∷ ys)

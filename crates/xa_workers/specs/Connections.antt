@@ -5,7 +5,7 @@ use Rattle.xa_frame.specs.declared.request.Request.{Request}
 use Rattle.xa_frame.specs.declared.reply.Reply.{Reply}
 use Rattle.xa_room.specs.Share.{Held}
 use Rattle.xa_workers.specs.declared.report.Report.{Report}
-use Rattle.xa_workers.specs.Reports.{told, Calls, Connects, HangsUp, Joins}
+use Rattle.xa_workers.specs.Believed.Reports.{told, Calls, Connects, HangsUp, Joins}
 
 -- calls of a session, each with its reply, one behind the other
 abbrev pub CallsAll : {L : Type 0} → ℕ → Report L → List (Request × Reply) → Report L → Type 0

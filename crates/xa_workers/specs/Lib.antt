@@ -1,2 +1,2 @@
-pub mod Reports
+pub mod Believed
 pub mod Connections

@@ -1,5 +1,5 @@
 ghost use Rattle.std.specs.Prelude.{◌≡◌, ◌+◌, vec_len};
-ghost use Rattle.xa_workers.specs.Reports.{KeepsAll};
+ghost use Rattle.xa_workers.specs.Believed.Reports.{KeepsAll};
 
 use xa_history::Receipt;
 

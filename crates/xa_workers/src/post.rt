@@ -24,7 +24,7 @@ pub struct Post<'a, M: Manages, S: Start, L: Ledger, G, R> {
 
 impl<'a, M: Manages, S: Start, L: Ledger, G: Gate, R: Clock + Wait> Post<'a, M, S, L, G, R> {
     ghost use Rattle.std.specs.Prelude.{◌≡◌, []};
-    ghost use Rattle.xa_workers.specs.Reports.{Connects};
+    ghost use Rattle.xa_workers.specs.Believed.Reports.{Connects};
 
     /// A post where nothing was recorded, at a server that is up from now on.
     pub fn new(
@@ -80,7 +80,7 @@ impl<'a, M: Manages, S: Start, L: Ledger, G: Gate, R: Clock + Wait> Post<'a, M, 
 
 impl<M: Manages, S: Start, L: Ledger, G: Gate, R: Clock + Wait> Door for Post<'_, M, S, L, G, R> {
     ghost use Rattle.xa_room.specs.Gone.{WasGone};
-    ghost use Rattle.xa_workers.specs.Reports.{AsksAt, HangsUp};
+    ghost use Rattle.xa_workers.specs.Believed.Reports.{AsksAt, HangsUp};
 
     ghost called = { λ session a question reply b.
         AsksAt M.Manages S.start session (a.report, a.calls) question reply (b.report, b.calls) };

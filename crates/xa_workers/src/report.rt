@@ -19,7 +19,7 @@ pub struct Report<L: Ledger> {
 }
 
 impl<L: Ledger> Report<L> {
-    ghost use Rattle.xa_workers.specs.Reports.{told, Joins, Keeps};
+    ghost use Rattle.xa_workers.specs.Believed.Reports.{told, Joins, Keeps};
 
     /// A report that begins.
     pub fn new(alloc: Global, share: Share<L>) -> Report<L>

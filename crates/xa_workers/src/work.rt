@@ -1,6 +1,6 @@
 ghost use Rattle.std.specs.Prelude.{◌≡◌, ◌+◌};
 ghost use Rattle.xa_room.specs.Gone.{WasGone};
-ghost use Rattle.xa_workers.specs.{Connections.Serves, Connections.Works, Reports.told, Reports.Balances};
+ghost use Rattle.xa_workers.specs.{Connections.Serves, Connections.Works, Believed.Reports.told, Believed.Reports.Balances};
 
 use crate::gate::Gate;
 use crate::numbers::{Numbers, take_next};

@@ -1,7 +1,7 @@
 ghost use Rattle.std.specs.Prelude.{◌≡◌, ℕ, ◌+◌, ◌<◌, ◌≤◌, vec_len, IfOk, length, sum_by};
 ghost use Rattle.xa_room.specs.Gone.{WasGone};
 ghost use Rattle.xa_workers.specs.Connections.{AreReports, Gathers, Runs, Works};
-ghost use Rattle.xa_workers.specs.Reports.{told};
+ghost use Rattle.xa_workers.specs.Believed.Reports.{told};
 ghost use Rattle.xa_workers.specs.declared.workers.WorkFault.TheVariants.{Memory};
 
 use crate::gate::Gate;

@@ -1,6 +1,6 @@
 ghost use Rattle.std.specs.Prelude.{◌≡◌, true};
 ghost use Rattle.std.specs.List.{AllByRecursion};
-ghost use Rattle.xa_log.specs.{Chain.IsBody, Reading.bodies_of};
+ghost use Rattle.xa_log.specs.{Believed.Chain.IsBody, Reading.bodies_of};
 
 use crate::log_pairs::{DECIDED, OPENED, PREPARED, are, copies, log_of};
 use crate::tests::rows::none_wrong;

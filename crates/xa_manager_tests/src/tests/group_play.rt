@@ -2,7 +2,7 @@
 ghost use Rattle.std.specs.List.{AllByRecursion};
 ghost use Rattle.std.specs.Prelude.{IfSome, IsSome};
 ghost use Rattle.xa_frame.specs.Limits.{IsRequest};
-ghost use Rattle.xa_manager.specs.Pending.{IsGroupOf};
+ghost use Rattle.xa_manager.specs.Believed.Pending.{IsGroupOf};
 ghost use Rattle.xa_model.specs.Events.{IsAsked};
 
 use std::alloc::Global;
@@ -83,14 +83,24 @@ fn called(manager: &mut Manager<MemDisk>, session: u64, request: Request) -> Rep
     manager.call(session, request)
 }
 
-/// What calls of a group were replied. Where memory was wanted nothing was answered, and they are asked again.
-fn asked(manager: &mut Manager<MemDisk>, calls: &[Asked]) -> Option<Vec<(usize, Reply)>>
-    requires { AllByRecursion (λ c. IsAsked c.request) calls.now }
+// A group of these calls. Where memory was wanted nothing was answered, and they are asked again.
+fn begun(manager: &mut Manager<MemDisk>, calls: Vec<Asked>) -> Option<PendingGroup>
+    requires { AllByRecursion (λ c. IsAsked c.request) calls.items }
+    ensures { IfSome result (IsGroupOf manager.new) }
 {
-    match manager.call_together(calls) {
-        Ok(replies) => Some(replies),
-        Err(_) => manager.call_together(calls).ok(),
+    match manager.begin_group(calls) {
+        Ok(group) => Some(group),
+        Err(calls) => manager.begin_group(calls).ok(),
     }
+}
+
+// What the calls of a group are replied once it is synced.
+fn finished(manager: &mut Manager<MemDisk>, group: PendingGroup) -> Vec<(usize, Reply)>
+    requires { IsGroupOf manager.old group }
+{
+    let answer = manager.syncer().sync();
+    let (replies, _calls) = manager.finish_group(group, answer);
+    replies
 }
 
 /// What session 1 asks while a group is pending, on a branch of its own, and what of that has to wait.
@@ -130,29 +140,19 @@ fn works(
     }
 }
 
-// What calls of a group were replied that were written, and answered once they were synced. Where memory was wanted
-// nothing was answered, and they are asked again.
-fn finished(
-    alloc: Global,
-    manager: &mut Manager<MemDisk>,
-    calls: Vec<Asked>,
-) -> Option<Vec<(usize, Reply)>>
-    requires { AllByRecursion (λ c. IsAsked c.request) calls.items }
+// Whether session 1 is answered so while a group is pending.
+fn works_meanwhile(alloc: Global, manager: &mut Manager<MemDisk>, group: &PendingGroup) -> bool
+    requires { IsGroupOf manager.old group.now }
+    ensures { IsGroupOf manager.new group.now }
 {
-    let Ok(group) = manager.begin_group(calls) else {
-        return None;
-    };
     let [first, second, third] = MEANWHILE;
     let [join, commit, scan] = WAITING;
-    let is_right = works(alloc, manager, &group, first.0, Some(first.1))
-        && works(alloc, manager, &group, join, None)
-        && works(alloc, manager, &group, second.0, Some(second.1))
-        && works(alloc, manager, &group, scan, None)
-        && works(alloc, manager, &group, third.0, Some(third.1))
-        && works(alloc, manager, &group, commit, None);
-    let answer = manager.syncer().sync();
-    let (replies, _calls) = manager.finish_group(group, answer);
-    if is_right { Some(replies) } else { None }
+    works(alloc, manager, group, first.0, Some(first.1))
+        && works(alloc, manager, group, join, None)
+        && works(alloc, manager, group, second.0, Some(second.1))
+        && works(alloc, manager, group, scan, None)
+        && works(alloc, manager, group, third.0, Some(third.1))
+        && works(alloc, manager, group, commit, None)
 }
 
 fn fail(
@@ -261,22 +261,25 @@ impl Player {
     pub fn together(self, lines: &[&str], told: &[Told]) -> Option<Player> {
         let mut player = self;
         let calls = read_calls(player.alloc, lines)?;
-        let replies = asked(&mut player.manager, &calls)?;
+        let Some(group) = begun(&mut player.manager, calls) else {
+            return if told.is_empty() { Some(player) } else { None };
+        };
+        let replies = finished(&mut player.manager, group);
         if are_told(player.alloc, &replies, told) {
             Some(player)
         } else {
             None
         }
     }
-}
 
-impl Player {
     /// The same, with work on another branch between the write of their records and the sync.
     pub fn apart(self, lines: &[&str], told: &[Told]) -> Option<Player> {
         let mut player = self;
         let calls = read_calls(player.alloc, lines)?;
-        let replies = finished(player.alloc, &mut player.manager, calls)?;
-        if are_told(player.alloc, &replies, told) {
+        let group = begun(&mut player.manager, calls)?;
+        let is_right = works_meanwhile(player.alloc, &mut player.manager, &group);
+        let replies = finished(&mut player.manager, group);
+        if is_right && are_told(player.alloc, &replies, told) {
             player.line("1 rollback TMNOFLAGS 1:88:", "0 Nothing")
         } else {
             None

@@ -13,19 +13,12 @@ use xa_rows::{LOG_BYTES, Line, NONE_LISTED, OK, Play, first_wrong};
 
 fn keeps(alloc: Global, group: &Grouped) -> Option<Player> {
     let player = group.begun(alloc)?;
-    let player = group.ask(alloc, player, Kept)?;
-    group.finds(player, group.places.len())
-}
-
-fn keeps_apart(alloc: Global, group: &Grouped) -> Option<Player> {
-    let player = group.begun(alloc)?;
     let player = group.ask_apart(alloc, player, Kept)?;
     group.finds(player, group.places.len())
 }
 
 fn is_kept(alloc: Global, group: &Grouped) -> bool {
-    (keeps(alloc, group).is_some() || keeps(alloc, group).is_some())
-        && (keeps_apart(alloc, group).is_some() || keeps_apart(alloc, group).is_some())
+    keeps(alloc, group).is_some() || keeps(alloc, group).is_some()
 }
 
 fn wrong_kept(alloc: Global, groups: &[Grouped]) -> Option<usize> {

@@ -1,5 +1,5 @@
 use Rattle.std.proofs.Common.{None}
-use Rattle.xa_desk.specs.Serving.{Talks}
+use Rattle.xa_desk.specs.Believed.Serving.{Talks}
 use Rattle.xa_desk.proofs.connection.converse.Given as goal
 
 abbrev pub invariant-loop : goal.invariant-loop

@@ -2,10 +2,10 @@ use Rattle.std.proofs.Common.{◌≡◌, inl, inr, ⊎_elim, ◌+◌, ◌≤◌,
 use Rattle.std.proofs.lemmas.List.{length-take}
 use Rattle.std.specs.Int.{w32, to_be_bytes}
 use Rattle.xa_disk.specs.Time.{LeavesOnly}
-use Rattle.xa_log.specs.Chain.{start, preamble, records}
+use Rattle.xa_log.specs.Believed.Chain.{start, preamble, records}
 use Rattle.xa_log.specs.Answers.{PutBecame}
 use Rattle.xa_log.specs.Ahead.{cut_behind}
-use Rattle.xa_log.specs.Checkpoint.{IsComplete, IsOther, IsTailed, LeavesAny, LeavesNone, first_length}
+use Rattle.xa_log.specs.Believed.Checkpoint.{IsComplete, IsOther, IsTailed, LeavesAny, LeavesNone, first_length}
 use Rattle.xa_log.proofs.Steps.{first_len}
 use Rattle.xa_log.proofs.Cleared.{sealed_cleared}
 use Rattle.xa_log.proofs.Cuts.{cut_header, none_cut, none_left, none_meanwhile}
@@ -17,14 +17,14 @@ use Rattle.xa_log.proofs.checkpointing.checkpoint_on.Goals as goal
 use Rattle.xa_log.proofs.checkpointing.checkpoint_on.Goals.{After-shorten, After-put_records, After-put_seal-outcome}
 
 -- the cut is behind the preamble
-beyond : (end n : ℕ) → end ≡ 12 + n → 12 ≤ cut_behind end
-beyond end n is = omega (arith, is)
+beyond : (keep n : ℕ) → 12 + n ≤ keep → 12 ≤ cut_behind keep
+beyond keep n is = omega (arith, is)
 
 -- after the first part, after the cut, and after the second part
 module _ (g : _) (c : goal.After-shorten g) (h : g.D.Disk.honest) where
   header : take 12 (g.D.Disk.seen c.shorten.new.disk) ≡ preamble c.args.format
-  header = cut_header c.args.format (cut_behind c.args.end) (g.D.Disk.seen c.args.disk.now) (g.D.Disk.seen c.put_front.new.disk) (g.D.Disk.seen c.shorten.new.disk)
-      (beyond c.args.end _ c.requires.end) (c.in-Ok.ensures.made h) (c.shorten.ensures.front h)
+  header = cut_header c.args.format (cut_behind c.args.keep) (g.D.Disk.seen c.args.disk.now) (g.D.Disk.seen c.put_front.new.disk) (g.D.Disk.seen c.shorten.new.disk)
+      (beyond c.args.keep _ c.requires.keep) (c.in-Ok.ensures.made h) (c.shorten.ensures.front h)
 
   long : 12 ≤ length (g.D.Disk.seen c.shorten.new.disk)
   long = omega (arith, ap (λ (l : List ℕ). length l) header, length-take 12 (g.D.Disk.seen c.shorten.new.disk), length-preamble c.args.format)
@@ -35,11 +35,11 @@ module _ (g : _) (c : goal.After-put_records g) (h : g.D.Disk.honest) (most : �
   first = opened_none c.args.format most (g.D.Disk.seen c.args.disk.now) (g.D.Disk.seen c.put_front.new.disk) (omega arith) other.fits (c.in-Ok.ensures.made h)
 
   cut : LeavesNone most c.args.format (g.D.Disk.seen c.shorten.new.disk)
-  cut = none_cut c.args.format most (cut_behind c.args.end) (g.D.Disk.seen c.put_front.new.disk) (g.D.Disk.seen c.shorten.new.disk) (beyond c.args.end _ c.requires.end) first (c.shorten.ensures.front h)
+  cut = none_cut c.args.format most (cut_behind c.args.keep) (g.D.Disk.seen c.put_front.new.disk) (g.D.Disk.seen c.shorten.new.disk) (beyond c.args.keep _ c.requires.keep) first (c.shorten.ensures.front h)
 
   each : (x : List ℕ) → g.D.Disk.may_leave c.shorten.new.disk x → LeavesNone most c.args.format x
   each =
-      none_left g.D.Disk c.args.format most (cut_behind c.args.end) c.put_front.new.disk c.shorten.new.disk (beyond c.args.end _ c.requires.end) first
+      none_left g.D.Disk c.args.format most (cut_behind c.args.keep) c.put_front.new.disk c.shorten.new.disk (beyond c.args.keep _ c.requires.keep) first
       (c.in-Ok.ensures.durable h) (c.shorten.ensures.time h)
 
   second : LeavesNone most c.args.format (g.D.Disk.seen c.put_records.new.disk)
@@ -50,8 +50,8 @@ module _ (g : _) (c : goal.After-put_records g) (h : g.D.Disk.honest) (most : �
   meanwhile : LeavesOnly g.D.Disk c.put_front.new.disk c.put_records.new.disk (LeavesNone most c.args.format)
   meanwhile =
       leaves_then g.D.Disk c.put_front.new.disk c.shorten.new.disk c.put_records.new.disk _ _ _ (λ x none. none) (λ x none. none)
-      (none_meanwhile g.D.Disk c.args.format most (cut_behind c.args.end) c.put_front.new.disk c.shorten.new.disk (g.met.D.Disk.only_now c.put_front.new.disk)
-      (beyond c.args.end _ c.requires.end) first (c.in-Ok.ensures.durable h) (c.shorten.ensures.time h))
+      (none_meanwhile g.D.Disk c.args.format most (cut_behind c.args.keep) c.put_front.new.disk c.shorten.new.disk (g.met.D.Disk.only_now c.put_front.new.disk)
+      (beyond c.args.keep _ c.requires.keep) first (c.in-Ok.ensures.durable h) (c.shorten.ensures.time h))
       (c.put_records.ensures.any_moment h most room each)
 
   moments : LeavesOnly g.D.Disk c.args.disk.now c.put_records.new.disk (LeavesAny most c.args.format stood c.args.bodies.now)
@@ -154,10 +154,10 @@ returns-in-Ok-put_records-clause-known g c h was =
 pub returns-in-Ok-put_records-clause-cut : goal.returns-in-Ok-put_records-clause-cut
 returns-in-Ok-put_records-clause-cut g c h shortens kept over =
     let at = goal.at.returns-in-Ok-put_records-clause-cut g c in
-    let small : c.args.end % 262144 < 262144 = mod-lt c.args.end (omega arith) in
-    let gone : length (g.D.Disk.seen c.shorten.new.disk) ≤ cut_behind c.args.end = c.shorten.ensures.cut h shortens over in
-    seal_within g.D.Disk.tears c.put_seal-outcome.result _ _ _ _ (cut_behind c.args.end) kept
-    (omega (arith, gone, (c.put_records.ensures.torn h).no_longer, c.requires.end, c.requires.few, small))
+    let small : c.args.keep % 262144 < 262144 = mod-lt c.args.keep (omega arith) in
+    let gone : length (g.D.Disk.seen c.shorten.new.disk) ≤ cut_behind c.args.keep = c.shorten.ensures.cut h shortens over in
+    seal_within g.D.Disk.tears c.put_seal-outcome.result _ _ _ _ (cut_behind c.args.keep) kept
+    (omega (arith, gone, (c.put_records.ensures.torn h).no_longer, c.requires.keep, c.requires.few, small))
     (omega (arith, long g at.After-shorten h, (c.put_records.ensures.torn h).no_shorter)) (went g at.After-put_seal-outcome h)
 
 pub returns-in-Ok-put_records-clause-reaches : goal.returns-in-Ok-put_records-clause-reaches

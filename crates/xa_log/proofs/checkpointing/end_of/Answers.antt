@@ -1,6 +1,6 @@
 use Rattle.std.proofs.Common.{◌≡◌, ◌+◌, ◌<◌, length, sym, arith, subst}
 use Rattle.std.specs.Prelude.{IfNone}
-use Rattle.xa_log.specs.Chain.{text}
+use Rattle.xa_log.specs.Believed.Chain.{text}
 use Rattle.xa_log.proofs.Records.{length-text}
 use Rattle.xa_log.proofs.Steps.{longer}
 use Rattle.xa_log.proofs.checkpointing.end_of.Goals as goal

@@ -1,5 +1,5 @@
 use Rattle.std.proofs.Common.{◌≡◌, ◌+◌, length, take}
-use Rattle.xa_log.specs.Chain.{text}
+use Rattle.xa_log.specs.Believed.Chain.{text}
 use Rattle.xa_log.proofs.checkpointing.end_of.Given as goal
 
 abbrev pub invariant-loop-body : goal.invariant-loop-body

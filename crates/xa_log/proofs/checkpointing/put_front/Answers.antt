@@ -2,7 +2,7 @@ use Rattle.std.proofs.Common.{◌≡◌, List, ℕ, length, subst, ap, ◌∙◌
 use Rattle.xa_disk.specs.Disk.{put, Torn}
 use Rattle.xa_disk.specs.Time.{TimePasses}
 use Rattle.xa_disk.specs.Images.{torn_same}
-use Rattle.xa_log.specs.Chain.{preamble}
+use Rattle.xa_log.specs.Believed.Chain.{preamble}
 use Rattle.xa_log.specs.Answers.{FailedPut}
 use Rattle.xa_log.proofs.Header.{length-preamble, put_header}
 use Rattle.xa_log.proofs.Known.{put_grows}

@@ -2,7 +2,7 @@ use Rattle.std.proofs.Common.{◌≡◌, List, ℕ, ◌+◌, ◌-◌, ◌∙◌,
 use Rattle.std.proofs.lemmas.List.{length-take}
 use Rattle.xa_disk.specs.Disk.{put, Torn}
 use Rattle.xa_disk.specs.Images.{put_torn}
-use Rattle.xa_log.specs.Checkpoint.{tailed}
+use Rattle.xa_log.specs.Believed.Checkpoint.{tailed}
 use Rattle.xa_log.proofs.Tail.{tail_slice}
 use Rattle.xa_log.proofs.checkpointing.put_record.Goals as goal
 

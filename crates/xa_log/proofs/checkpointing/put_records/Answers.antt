@@ -3,8 +3,8 @@ use Rattle.std.proofs.lemmas.List.{append-nil, length-take}
 use Rattle.xa_disk.specs.Disk.{put, Torn}
 use Rattle.xa_disk.specs.Images.{torn_same}
 use Rattle.xa_disk.specs.Time.{TimePasses}
-use Rattle.xa_log.specs.Chain.{start, last, records}
-use Rattle.xa_log.specs.Checkpoint.{records_bytes}
+use Rattle.xa_log.specs.Believed.Chain.{start, last, records}
+use Rattle.xa_log.specs.Believed.Checkpoint.{records_bytes}
 use Rattle.xa_log.proofs.Records.{limit}
 use Rattle.xa_log.proofs.Torn.{torn_then, then, stays}
 use Rattle.xa_log.proofs.Steps.{Item, zeros_more, room_in, room_last, item_in, item_last, last_all, torn_step, time_step, seen_step, digest_step, end_step}

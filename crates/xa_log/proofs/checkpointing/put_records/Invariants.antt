@@ -1,8 +1,8 @@
 use Rattle.std.proofs.Common.{◌≡◌, ◌+◌, ◌≤◌, length, take, drop}
 use Rattle.xa_disk.specs.Disk.{put, Torn, Passes}
-use Rattle.xa_log.specs.Chain.{start, last, text, records}
+use Rattle.xa_log.specs.Believed.Chain.{start, last, text, records}
 use Rattle.xa_log.specs.Calls.{with_writes}
-use Rattle.xa_log.specs.Checkpoint.{records_bytes}
+use Rattle.xa_log.specs.Believed.Checkpoint.{records_bytes}
 use Rattle.xa_log.proofs.checkpointing.put_records.Given as goal
 
 abbrev pub invariant-loop-body : goal.invariant-loop-body

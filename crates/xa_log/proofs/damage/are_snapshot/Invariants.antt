@@ -1,5 +1,5 @@
 use Rattle.std.proofs.Common.{◌≡◌, drop}
-use Rattle.xa_log.specs.Damage.{is_snapshot}
+use Rattle.xa_log.specs.Believed.Damage.{is_snapshot}
 use Rattle.xa_log.specs.Reading.{bodies_of}
 use Rattle.xa_log.proofs.damage.are_snapshot.Given as goal
 

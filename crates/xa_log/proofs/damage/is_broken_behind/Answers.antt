@@ -1,5 +1,5 @@
 use Rattle.std.proofs.Common.{◌∙◌, ◌||◌, ap, Bool, List, ℕ}
-use Rattle.xa_log.specs.LeftOut.{stops_short}
+use Rattle.xa_log.specs.Believed.LeftOut.{stops_short}
 use Rattle.xa_log.specs.Reading.{bodies_of}
 use Rattle.xa_log.proofs.Left.{stops_by}
 use Rattle.xa_log.proofs.damage.is_broken_behind.Goals as goal

@@ -1,7 +1,7 @@
 use Rattle.std.proofs.Common.{◌≡◌, true, false, not, ◌&&◌, Bool, nat_lt, sym, ◌∙◌, ap, arith}
 use Rattle.std.proofs.lemmas.Bool.Decides.{nat_tests}
-use Rattle.xa_log.specs.Damage.{is_snapshot}
-use Rattle.xa_log.specs.Generation.{generation}
+use Rattle.xa_log.specs.Believed.Damage.{is_snapshot}
+use Rattle.xa_log.specs.Believed.Generation.{generation}
 use Rattle.xa_log.specs.Reading.{bodies_of}
 use Rattle.xa_log.proofs.Snapshot.{broken_by, few_whole, appended_whole}
 use Rattle.xa_log.proofs.damage.is_short.Goals as goal

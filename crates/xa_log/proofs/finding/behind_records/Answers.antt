@@ -1,5 +1,5 @@
 use Rattle.std.proofs.Common.{◌≡◌, ◌∙◌, ap, arith, cond, length, refl, sym, Bool, true, false, Some, None}
-use Rattle.xa_log.specs.Damage.{is_damaged}
+use Rattle.xa_log.specs.Believed.Damage.{is_damaged}
 use Rattle.xa_log.specs.Finding.{behind_last}
 use Rattle.xa_log.proofs.Choosing.{scan_damaged}
 use Rattle.xa_log.proofs.Told.{behind_read}

@@ -1,6 +1,6 @@
 use Rattle.std.proofs.Common.{rules, ◌≡◌, ◌+◌, ◌≤◌, ◌∙◌, ◌++◌, ◌∷◌, [], List, ℕ, length, take, sym, ap, arith}
-use Rattle.xa_log.specs.Chain.{last}
-use Rattle.xa_log.specs.Group.{closed}
+use Rattle.xa_log.specs.Believed.Chain.{last}
+use Rattle.xa_log.specs.Believed.Group.{closed}
 use Rattle.xa_log.specs.Reading.{bodies_of}
 use Rattle.xa_log.proofs.GroupSteps.{next, bytes_next, within, step_text}
 use Rattle.xa_log.proofs.Records.{last_more}
@@ -31,7 +31,7 @@ loop-body-preserved c =
     record {
       room = search rules;
       at = omega (arith, size, ap length c.deref.ensures.value, l.invariant.at, bytes_next c.args.bodies.now l.body-index c.body-item.result c.loop-body-test.true c.body-item.is);
-      digest = c.encode_at-digest.ensures.digest ∙ (λ i. Rattle.xa_log.specs.Chain.digest (l.invariant.digest i) body) ∙ sym (last_more prev done body) ∙ ap (λ (x : List (List ℕ)). last prev x) (sym its);
+      digest = c.encode_at-digest.ensures.digest ∙ (λ i. Rattle.xa_log.specs.Believed.Chain.digest (l.invariant.digest i) body) ∙ sym (last_more prev done body) ∙ ap (λ (x : List (List ℕ)). last prev x) (sym its);
       text = ap (λ (k : ℕ). take k c.encode_at-digest.new.buffer) n
           ∙ step_text prev done body l.buffer c.encode_at-digest.new.buffer l.digest l.at l.invariant.at l.invariant.digest l.invariant.text c.encode_at-digest.ensures.text
           ∙ ap (λ (x : List (List ℕ)). closed prev x) (sym its);

@@ -1,6 +1,6 @@
 use Rattle.std.proofs.Common.{◌≡◌, ◌+◌, length, take}
-use Rattle.xa_log.specs.Chain.{last}
-use Rattle.xa_log.specs.Group.{group_bytes, closed}
+use Rattle.xa_log.specs.Believed.Chain.{last}
+use Rattle.xa_log.specs.Believed.Group.{group_bytes, closed}
 use Rattle.xa_log.specs.Reading.{bodies_of}
 use Rattle.xa_log.proofs.group.encode_group.Given as goal
 

@@ -1,6 +1,6 @@
 use Rattle.std.proofs.Common.{rules, ◌≡◌, ◌+◌, ◌<◌, length, sym, arith, subst}
 use Rattle.std.specs.Prelude.{IfNone}
-use Rattle.xa_log.specs.Group.{group_bytes}
+use Rattle.xa_log.specs.Believed.Group.{group_bytes}
 use Rattle.xa_log.specs.Reading.{bodies_of}
 use Rattle.xa_log.proofs.GroupSteps.{bytes_next, within}
 use Rattle.xa_log.proofs.group.group_end.Goals as goal

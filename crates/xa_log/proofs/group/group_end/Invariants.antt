@@ -1,5 +1,5 @@
 use Rattle.std.proofs.Common.{◌≡◌, ◌+◌, take}
-use Rattle.xa_log.specs.Group.{group_bytes}
+use Rattle.xa_log.specs.Believed.Group.{group_bytes}
 use Rattle.xa_log.specs.Reading.{bodies_of}
 use Rattle.xa_log.proofs.group.group_end.Given as goal
 

@@ -1,7 +1,7 @@
 use Rattle.std.proofs.Common.{arith, ◌≡◌, ◌+◌, ◌∙◌, ◌&&◌, ap, subst, sym, min, Bool, List, ℕ, take, drop}
 use Rattle.std.specs.Prelude.{is_none}
 use Rattle.xa_log.specs.Calls.{MOST_BRIEF, brief}
-use Rattle.xa_log.specs.Damage.{lost_first}
+use Rattle.xa_log.specs.Believed.Damage.{lost_first}
 use Rattle.xa_log.specs.Reading.{Finds}
 use Rattle.xa_log.proofs.Brief.{reaches_most, reaches_brief}
 use Rattle.xa_log.proofs.First.{flip, front_read, lost_is}

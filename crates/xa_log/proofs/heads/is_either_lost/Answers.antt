@@ -1,6 +1,6 @@
 use Rattle.std.proofs.Common.{◌∙◌, ◌||◌, ap, sym, Bool}
 use Rattle.std.proofs.lemmas.Bool.{or_left}
-use Rattle.xa_log.specs.Damage.{is_headless}
+use Rattle.xa_log.specs.Believed.Damage.{is_headless}
 use Rattle.xa_log.proofs.heads.is_either_lost.Goals as goal
 
 pub returns-then-has_lost_first : goal.returns-then-has_lost_first

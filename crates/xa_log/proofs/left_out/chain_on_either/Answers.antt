@@ -1,5 +1,5 @@
 use Rattle.std.proofs.Common.{◌≡◌, sym, subst, cond, Bool, false, drop, Some}
-use Rattle.xa_log.specs.Chain.{is_record}
+use Rattle.xa_log.specs.Believed.Chain.{is_record}
 use Rattle.xa_log.specs.Reading.{Finds}
 use Rattle.xa_log.specs.Shown.{Shows}
 use Rattle.xa_log.proofs.Shown.{found_or}

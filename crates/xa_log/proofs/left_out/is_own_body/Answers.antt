@@ -1,8 +1,8 @@
-use Rattle.std.proofs.Common.{◌≡◌, ◌+◌, ◌-◌, ◌||◌, true, take, drop, ◌∙◌, ap, arith, ℕ, nat_le}
+use Rattle.std.proofs.Common.{◌≡◌, ◌+◌, ◌-◌, ◌||◌, true, take, drop, ◌∙◌, ap, arith, ℕ}
 use Rattle.std.specs.Prelude.{◌==◌, slice_index}
 use Rattle.std.proofs.lemmas.Bool.Decides.{nat_tests}
-use Rattle.xa_log.specs.LeftOut.{stamp_at}
-use Rattle.xa_log.specs.Chain.{size_at}
+use Rattle.xa_log.specs.Believed.LeftOut.{stamp_at}
+use Rattle.xa_log.specs.Believed.Chain.{size_at}
 use Rattle.xa_log.proofs.Left.{own_is, boot_is}
 use Rattle.xa_log.proofs.left_out.is_own_body.Goals as goal
 use Rattle.xa_log.proofs.left_out.is_own_body.Goals.{else-body-ne-PREPARED-via-then-body-ne-PREPARED+else-body-ne-COMMITTED, else-body-ne-PREPARED-via-else-body-ne-PREPARED}

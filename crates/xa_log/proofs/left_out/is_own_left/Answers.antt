@@ -1,7 +1,7 @@
 use Rattle.std.proofs.Common.{arith, ◌≡◌, ◌∙◌, ◌+◌, ◌&&◌, ◌||◌, false, Bool, sym, ap, nat_le, List, ℕ, length, drop, min}
 use Rattle.std.proofs.lemmas.Bool.{and_left, and_right}
 use Rattle.std.proofs.lemmas.Bool.Decides.{nat_tests}
-use Rattle.xa_log.specs.LeftOut.{is_own}
+use Rattle.xa_log.specs.Believed.LeftOut.{is_own}
 use Rattle.xa_log.proofs.Left.{own_next, far_own}
 use Rattle.xa_log.proofs.left_out.is_own_left.Goals as goal
 use Rattle.xa_log.proofs.left_out.is_own_left.Goals.{else-distance-ge-MOST_GROUP-via-then-distance-ge-MOST_GROUP+else-is_own_body, else-distance-ge-MOST_GROUP-via-else-distance-ge-MOST_GROUP}

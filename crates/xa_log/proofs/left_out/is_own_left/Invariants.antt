@@ -1,5 +1,5 @@
 use Rattle.std.proofs.Common.{◌≡◌, drop}
-use Rattle.xa_log.specs.LeftOut.{has_own}
+use Rattle.xa_log.specs.Believed.LeftOut.{has_own}
 use Rattle.xa_log.specs.Reading.{bodies_of}
 use Rattle.xa_log.proofs.left_out.is_own_left.Given as goal
 

@@ -1,6 +1,6 @@
 use Rattle.std.proofs.Common.{◌≡◌, ◌∙◌, ◌+◌, List, ℕ, subst, sym, ap, length, drop, refl, arith, length-drop, cond}
 use Rattle.xa_log.specs.Reading.{Finds, bodies_of}
-use Rattle.xa_log.specs.Chain.{bodies_from, digest, is_record}
+use Rattle.xa_log.specs.Believed.Chain.{bodies_from, digest, is_record}
 use Rattle.xa_log.proofs.Left.{is_left}
 use Rattle.xa_log.proofs.left_out.read_left.Goals as goal
 

@@ -1,8 +1,8 @@
 use Rattle.std.proofs.Common.{arith, ◌∙◌, ◌||◌, ◌≡◌, ◌≤◌, inr, List, ℕ, ap, sym, subst, length, true, false, Option}
 use Rattle.xa_log.specs.Calls.{MOST_BRIEF, OnlyReads, asked}
-use Rattle.xa_log.specs.Damage.{is_headless}
+use Rattle.xa_log.specs.Believed.Damage.{is_headless}
 use Rattle.xa_log.specs.Looking.{IsFront, IsHead, IsCurrent, either_newer, either_log}
-use Rattle.xa_log.specs.Pair.{pair_fault}
+use Rattle.xa_log.specs.Believed.Pair.{pair_fault}
 use Rattle.xa_log.specs.declared.heads.Head.{Head}
 use Rattle.xa_log.proofs.Choosing.{fault_is, headless_log, headless_fault, broken_fault, by_both}
 use Rattle.xa_log.proofs.Fetch.{head_some, reads_some, some_within}

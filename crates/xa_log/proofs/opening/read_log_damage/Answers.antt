@@ -1,5 +1,5 @@
 use Rattle.std.proofs.Common.{subst, sym, ap, ◌∙◌}
-use Rattle.xa_log.specs.Chain.{Rests, format_in}
+use Rattle.xa_log.specs.Believed.Chain.{Rests, format_in}
 use Rattle.xa_log.specs.Reading.{bodies_of}
 use Rattle.xa_log.proofs.Records.{format_text}
 use Rattle.xa_log.proofs.opening.read_log_damage.Goals as goal

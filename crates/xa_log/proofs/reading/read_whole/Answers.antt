@@ -1,7 +1,7 @@
 use Rattle.std.proofs.Common.{◌≡◌, ◌∙◌, ◌+◌, ◌≤◌, ◌&&◌, ◌||◌, not, ℕ, Bool, Some, List, length, take, drop, sym, ap, subst, arith}
 use Rattle.std.specs.Prelude.{is_some}
-use Rattle.xa_log.specs.Chain.{format_of, start}
-use Rattle.xa_log.specs.Damage.{lost_first}
+use Rattle.xa_log.specs.Believed.Chain.{format_of, start}
+use Rattle.xa_log.specs.Believed.Damage.{lost_first}
 use Rattle.xa_log.specs.Reading.{Finds, IsScan, bodies_of}
 use Rattle.xa_log.proofs.Records.{rests_logged}
 use Rattle.xa_log.specs.Window.{Caches}

@@ -1,5 +1,5 @@
 use Rattle.std.proofs.Common.{◌≡◌, drop}
-use Rattle.xa_log.specs.Standing.{is_part_of}
+use Rattle.xa_log.specs.Believed.Standing.{is_part_of}
 use Rattle.xa_log.proofs.standing.is_part.Given as goal
 
 abbrev pub invariant-loop-at : goal.invariant-loop-at

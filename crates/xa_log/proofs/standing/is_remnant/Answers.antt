@@ -2,9 +2,9 @@ use Rattle.std.proofs.Common.{◌≡◌, ◌∙◌, Bool, ◌||◌, sym, ap, ari
 use Rattle.std.proofs.lemmas.Bool.{or_left}
 use Rattle.std.proofs.lemmas.Bool.Decides.{nat_tests}
 use Rattle.std.proofs.lemmas.List.{take_all}
-use Rattle.xa_log.specs.Chain.{preamble}
+use Rattle.xa_log.specs.Believed.Chain.{preamble}
 use Rattle.xa_log.specs.declared.format.Format.TheVariants.{One, Two}
-use Rattle.xa_log.specs.Standing.{is_part_of}
+use Rattle.xa_log.specs.Believed.Standing.{is_part_of}
 use Rattle.xa_log.proofs.Standings.{remnant_long}
 use Rattle.xa_log.proofs.standing.is_remnant.Goals as goal
 

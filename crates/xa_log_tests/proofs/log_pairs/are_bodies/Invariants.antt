@@ -1,6 +1,6 @@
 use Rattle.std.proofs.Common.{take}
 use Rattle.std.specs.List.{AllByRecursion}
-use Rattle.xa_log.specs.Chain.{IsBody, newest}
+use Rattle.xa_log.specs.Believed.Chain.{IsBody, newest}
 use Rattle.xa_log_tests.proofs.log_pairs.are_bodies.Given as goal
 
 abbrev pub invariant-loop-body : goal.invariant-loop-body

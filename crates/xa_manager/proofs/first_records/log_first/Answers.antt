@@ -1,5 +1,5 @@
 use Rattle.std.proofs.Common.{[], subst}
-use Rattle.xa_log.specs.Stands.{EndsBehind}
+use Rattle.xa_log.specs.Believed.Stands.{EndsBehind}
 use Rattle.xa_manager.proofs.FirstRecords.{first_appended, first_full, one_body, appends_first, snapshots_first}
 use Rattle.xa_manager.proofs.FoundLogs.{found_stands, found_new, first_kept, first_ends, first_number, replaced_ends, replaced_number}
 use Rattle.xa_manager.proofs.first_records.log_first.Goals as goal

@@ -1,11 +1,11 @@
 use Rattle.std.proofs.Common.{◌≡◌, ◌+◌, ◌<◌, ℕ, List, true, false, ap, sym, refl, ◌∙◌, subst, arith}
 use Rattle.xa_log.specs.Buffer.{HoldsEach}
-use Rattle.xa_log.specs.Pair.{generation}
+use Rattle.xa_log.specs.Believed.Pair.{generation}
 use Rattle.xa_log.specs.Reading.{bodies_of}
-use Rattle.xa_log.specs.Stands.{EndsBehind}
+use Rattle.xa_log.specs.Believed.Stands.{EndsBehind}
 use Rattle.xa_log.specs.declared.appending.Appended.TheVariants.{Kept}
-use Rattle.xa_manager.specs.Opening.{HasBodies, has_boot_room}
-use Rattle.xa_manager.specs.Refused.{LogsFirst}
+use Rattle.xa_manager.specs.Believed.Opening.{HasBodies, has_boot_room}
+use Rattle.xa_manager.specs.Believed.Refused.{LogsFirst}
 use Rattle.xa_manager.proofs.Begins.{planned, first_bodies, first_few, first_sizes, first_room, first_newer, logs_boot}
 use Rattle.xa_manager.proofs.FirstRecords.{not_kept}
 use Rattle.xa_manager.proofs.NewBoots.{new_stands}

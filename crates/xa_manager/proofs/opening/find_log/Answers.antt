@@ -1,5 +1,5 @@
 use Rattle.std.proofs.Common.{◌≡◌, ◌∙◌, ap, sym, subst, length, arith}
-use Rattle.xa_manager.specs.Opening.{LogRefused}
+use Rattle.xa_manager.specs.Believed.Opening.{LogRefused}
 use Rattle.xa_manager.proofs.Findings.{finding_read, finding_made, read_refused, handed_on}
 use Rattle.xa_manager.proofs.opening.find_log.Goals as goal
 use Rattle.xa_manager.proofs.opening.find_log.Goals.{else-len-eq0-via-then-len-eq0+else-other_len-eq0, else-len-eq0-via-else-len-eq0}

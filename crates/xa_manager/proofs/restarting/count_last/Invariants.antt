@@ -1,5 +1,5 @@
 use Rattle.std.proofs.Common.{◌≡◌, ◌++◌, ◌≤◌, List, ℕ, length}
-use Rattle.xa_log.specs.Group.{group_bytes}
+use Rattle.xa_log.specs.Believed.Group.{group_bytes}
 use Rattle.xa_log.specs.Reading.{bodies_of}
 use Rattle.xa_manager.proofs.Survivors.{IsLeft}
 use Rattle.xa_manager.proofs.restarting.count_last.Given as goal

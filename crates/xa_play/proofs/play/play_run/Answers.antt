@@ -1,7 +1,7 @@
 use Rattle.std.proofs.Common.{List, ℕ, Err, ap, refl, subst, inl, inr}
 use Rattle.std.proofs.lemmas.Result.{err_from_is_err_and}
 use Rattle.xa_disk.specs.declared.memory.MemDisk.{MemDisk}
-use Rattle.xa_manager.specs.Opening.{IsBadSetting}
+use Rattle.xa_manager.specs.Believed.Opening.{IsBadSetting}
 use Rattle.xa_manager.specs.declared.manager.Manager.{Manager}
 use Rattle.xa_manager.specs.declared.settings.Settings.{Settings}
 use Rattle.xa_play.specs.Played.{ScriptEnds}

@@ -1,4 +1,4 @@
-use Rattle.xa_reactor.specs.Tending.{Tends, sessions_of}
+use Rattle.xa_reactor.specs.Believed.Tending.{Tends, sessions_of}
 use Rattle.xa_reactor.proofs.beside.take_in.Given as goal
 
 abbrev pub invariant-loop : goal.invariant-loop

@@ -2,7 +2,7 @@ use Rattle.std.proofs.Common.{Result, Ok, Err, arith, sym, subst}
 use Rattle.std.specs.Prelude.{IfOk, slice_index_or}
 use Rattle.std.proofs.lemmas.Result.{IfOk-weaker}
 use Rattle.xa_reactor.specs.declared.loops.Seed.{Seed}
-use Rattle.xa_reactor.specs.Tending.{HasTended}
+use Rattle.xa_reactor.specs.Believed.Tending.{HasTended}
 use Rattle.xa_reactor.proofs.loops.run_all.Goals as goal
 
 both_ok : {T E : Type 0} (r : Result T E) (P Q : T → Type 0) → IfOk r P → IfOk r Q → IfOk r (λ x. P x × Q x)

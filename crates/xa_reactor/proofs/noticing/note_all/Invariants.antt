@@ -1,7 +1,7 @@
 use Rattle.std.specs.Prelude.{◌≡◌, length}
 use Rattle.std.specs.Slice.Iter.{iter_rest}
 use Rattle.xa_reactor.specs.Peers.{HasRoom}
-use Rattle.xa_reactor.specs.Tending.{sessions_of}
+use Rattle.xa_reactor.specs.Believed.Tending.{sessions_of}
 use Rattle.xa_reactor.proofs.noticing.note_all.Given as goal
 
 abbrev pub invariant-loop-event : goal.invariant-loop-event

@@ -1,4 +1,4 @@
-use Rattle.xa_reactor.specs.Tending.{sessions_of}
+use Rattle.xa_reactor.specs.Believed.Tending.{sessions_of}
 use Rattle.xa_reactor.proofs.Doing.{tends_twice}
 use Rattle.xa_reactor.proofs.noticing.notice_all.Goals as goal
 

@@ -1,4 +1,4 @@
-use Rattle.xa_reactor.specs.Tending.{Tends, sessions_of}
+use Rattle.xa_reactor.specs.Believed.Tending.{Tends, sessions_of}
 use Rattle.xa_reactor.proofs.noticing.notice_all.Given as goal
 
 abbrev pub invariant-loop-event : goal.invariant-loop-event

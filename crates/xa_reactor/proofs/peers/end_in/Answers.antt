@@ -1,6 +1,6 @@
 use Rattle.std.proofs.Common.{None, ap, refl, sym}
 use Rattle.std.specs.Option.{option_map}
-use Rattle.xa_reactor.specs.Tending.{sessions_of}
+use Rattle.xa_reactor.specs.Believed.Tending.{sessions_of}
 use Rattle.xa_reactor.proofs.Doing.{puts_slot, tends_left}
 use Rattle.xa_reactor.proofs.peers.end_in.Goals as goal
 

@@ -1,7 +1,7 @@
 use Rattle.std.proofs.Common.{ap, sym}
 use Rattle.std.specs.Option.{option_map}
 use Rattle.slab.specs.Slab.{with_value}
-use Rattle.xa_reactor.specs.Tending.{sessions_of}
+use Rattle.xa_reactor.specs.Believed.Tending.{sessions_of}
 use Rattle.xa_reactor.proofs.Doing.{same_sessions, tends_answered}
 use Rattle.xa_reactor.proofs.peers.turn_in.Goals as goal
 

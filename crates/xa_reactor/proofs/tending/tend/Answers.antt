@@ -1,5 +1,5 @@
 use Rattle.std.proofs.Common.{subst}
-use Rattle.xa_reactor.specs.Tending.{Table, TendsPosting, nobody, sessions_of}
+use Rattle.xa_reactor.specs.Believed.Tending.{Table, TendsPosting, nobody, sessions_of}
 use Rattle.xa_reactor.proofs.Doing.{posting_tended, posting_twice}
 use Rattle.xa_reactor.proofs.Settled.{still_settled}
 use Rattle.xa_reactor.proofs.tending.tend.Goals as goal

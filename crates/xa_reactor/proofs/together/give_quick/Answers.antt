@@ -2,7 +2,7 @@ use Rattle.std.proofs.Common.{List, subst, sym}
 use Rattle.std.specs.Prelude.{All}
 use Rattle.xa_reactor.specs.declared.ask.Ask.{Ask}
 use Rattle.xa_reactor.specs.Asking.{IsLent}
-use Rattle.xa_reactor.specs.Tending.{Table, Tends, sessions_of}
+use Rattle.xa_reactor.specs.Believed.Tending.{Table, Tends, sessions_of}
 use Rattle.xa_reactor.proofs.Asking.{tends_turned}
 use Rattle.xa_reactor.proofs.together.give_quick.Goals as goal
 

@@ -2,7 +2,7 @@ use Rattle.std.specs.Prelude.{◌≡◌, ◌+◌, All}
 use Rattle.std.specs.Vec.{vec_capacity, vec_len}
 use Rattle.std.specs.Vec.Iter.{drain_items, drain_len}
 use Rattle.xa_reactor.specs.Asking.{IsAnswered}
-use Rattle.xa_reactor.specs.Tending.{sessions_of}
+use Rattle.xa_reactor.specs.Believed.Tending.{sessions_of}
 use Rattle.xa_reactor.proofs.together.send_all.Given as goal
 
 abbrev pub invariant-loop-ask : goal.invariant-loop-ask

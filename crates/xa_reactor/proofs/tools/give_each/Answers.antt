@@ -1,4 +1,4 @@
-use Rattle.xa_reactor.specs.Tending.{sessions_of}
+use Rattle.xa_reactor.specs.Believed.Tending.{sessions_of}
 use Rattle.xa_reactor.proofs.Aside.{tends_aside}
 use Rattle.xa_reactor.proofs.Doing.{tends_thrice}
 use Rattle.xa_reactor.proofs.tools.give_each.Goals as goal

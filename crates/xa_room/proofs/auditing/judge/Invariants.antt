@@ -1,7 +1,7 @@
 use Rattle.std.proofs.Common.{◌≡◌, ℕ, List, [], length, drop}
 use Rattle.std.specs.Prelude.{Result}
 use Rattle.xa_room.specs.declared.auditing.AuditFault.{AuditFault}
-use Rattle.xa_room.specs.Audit.{Judges}
+use Rattle.xa_room.specs.Believed.Audit.{Judges}
 use Rattle.xa_room.specs.HasMet.{HasMet}
 use Rattle.xa_room.proofs.auditing.judge.Given as goal
 

@@ -1,11 +1,11 @@
 use Rattle.std.proofs.Common.{◌≡◌, ◌∙◌, ap, subst, sym}
-use Rattle.xa_reactor.specs.Down.{last_of}
+use Rattle.xa_reactor.specs.Believed.Down.{last_of}
 use Rattle.xa_reactor.specs.declared.seen.Seen.{Seen}
-use Rattle.xa_server.specs.Watching.{IsSeenLast}
+use Rattle.xa_server.specs.Believed.Watching.{IsSeenLast}
 use Rattle.xa_server.proofs.Gathering.{gathers_more, gathers_one}
 use Rattle.xa_server.proofs.Watching.{both_last}
 use Rattle.xa_server.proofs.engine.gather.Goals as goal
-use Rattle.xa_tokens.specs.Account.{Account, merged}
+use Rattle.xa_tokens.specs.Believed.Account.{Account, merged}
 
 -- what a loop has seen with those before
 seen_more : (all other new : Account) (seen also now : Seen) → new ≡ merged all other → now ≡ last_of seen also → IsSeenLast seen all.told

@@ -1,5 +1,5 @@
 use Rattle.std.proofs.Common.{length}
-use Rattle.xa_server.specs.Watching.{IsSeenLast}
+use Rattle.xa_server.specs.Believed.Watching.{IsSeenLast}
 use Rattle.xa_server.proofs.Gathering.{Gathers}
 use Rattle.xa_server.proofs.engine.gather.Given as goal
 

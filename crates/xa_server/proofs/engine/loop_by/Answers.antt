@@ -1,9 +1,9 @@
 use Rattle.std.proofs.Common.{◌∙◌, map, ap}
 use Rattle.std.proofs.lemmas.List.{length-map}
-use Rattle.xa_history.specs.Book.{receipt_of}
+use Rattle.xa_history.specs.Believed.Book.{receipt_of}
 use Rattle.xa_server.proofs.Watching.{history_down}
 use Rattle.xa_server.proofs.engine.loop_by.Goals as goal
-use Rattle.xa_tokens.specs.Account.{Account}
+use Rattle.xa_tokens.specs.Believed.Account.{Account}
 
 -- the loops' shares as one have every part, so what they were told is the history
 pub into_sequencer-sequencer-requires-clause-parts : goal.into_sequencer-sequencer-requires-clause-parts

@@ -1,7 +1,7 @@
 use Rattle.std.proofs.Common.{◌≡◌, ◌+◌, ◌≤◌, length, map}
 use Rattle.std.specs.List.{AllByRecursion}
 use Rattle.std.specs.Prelude.{sum_by}
-use Rattle.xa_server.specs.Loops.{IsFresh}
+use Rattle.xa_server.specs.Believed.Loops.{IsFresh}
 use Rattle.xa_server.proofs.engine.make_posts.Given as goal
 
 abbrev pub invariant-loop-i : goal.invariant-loop-i

@@ -1,9 +1,9 @@
 use Rattle.std.proofs.Common.{ap, rules, subst, Err}
 use Rattle.std.proofs.lemmas.Result.{err_from_is_err_and}
-use Rattle.xa_sequencer.specs.GroupManager.{manages_of}
+use Rattle.xa_sequencer.specs.Believed.GroupManager.{manages_of}
 use Rattle.xa_sequencer.specs.declared.group_manager.GroupManager.{GroupManager}
-use Rattle.xa_server.specs.Loops.{ServesByLoops}
-use Rattle.xa_server.specs.Served.{NoLoops, loop_place_of}
+use Rattle.xa_server.specs.Believed.Loops.{ServesByLoops}
+use Rattle.xa_server.specs.Believed.Served.{NoLoops, loop_place_of}
 use Rattle.xa_server.proofs.Failing.{failed_early, loops_failed}
 use Rattle.xa_server.proofs.looping.serve_loops.Goals as goal
 

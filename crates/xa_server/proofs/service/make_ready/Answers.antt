@@ -1,6 +1,6 @@
 use Rattle.std.proofs.Common.{subst}
 use Rattle.std.proofs.lemmas.Result.{err_from_is_err_and}
-use Rattle.xa_server.specs.Served.{HasOpened, Refuses, never, where_of}
+use Rattle.xa_server.specs.Believed.Served.{HasOpened, Refuses, never, where_of}
 use Rattle.xa_server.proofs.Damaged.{refuses_before}
 use Rattle.xa_server.proofs.Failing.{failed_on_files}
 use Rattle.xa_server.proofs.Opening.{opened_before}

@@ -1,6 +1,6 @@
 use Rattle.std.proofs.Common.{ap, refl, Err}
 use Rattle.std.proofs.lemmas.Result.{err_from_is_err_and}
-use Rattle.xa_server.specs.Served.{NoWorkers, place_of}
+use Rattle.xa_server.specs.Believed.Served.{NoWorkers, place_of}
 use Rattle.xa_server.proofs.Failing.{failed_early, failed_when_ready}
 use Rattle.xa_server.proofs.service.serve.Goals as goal
 

@@ -1,6 +1,6 @@
 use Rattle.std.proofs.Common.{inl}
 use Rattle.xa_room.specs.Gone.{WasGone}
-use Rattle.xa_workers.specs.Reports.{AsksAt, Balances}
+use Rattle.xa_workers.specs.Believed.Reports.{AsksAt, Balances}
 use Rattle.xa_workers.proofs.Balancing.{balances_same, balances_twice, calls_balance, connects_balance, hangs_up_balances}
 use Rattle.xa_workers.proofs.Conversing.{answers_keep}
 use Rattle.xa_workers.proofs.Serving.{calls_all}

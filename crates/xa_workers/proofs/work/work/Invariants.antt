@@ -1,5 +1,5 @@
 use Rattle.xa_room.specs.Gone.{WasGone}
-use Rattle.xa_workers.specs.Reports.{Balances}
+use Rattle.xa_workers.specs.Believed.Reports.{Balances}
 use Rattle.xa_workers.proofs.Serving.{Served}
 use Rattle.xa_workers.proofs.work.work.Given as goal
 

@@ -1,4 +1,4 @@
-use Rattle.xa_workers.specs.Reports.{told}
+use Rattle.xa_workers.specs.Believed.Reports.{told}
 use Rattle.xa_workers.proofs.Gathering.{gathered_more, one_less}
 use Rattle.xa_workers.proofs.workers.gather.Goals as goal
 

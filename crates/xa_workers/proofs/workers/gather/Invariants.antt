@@ -1,6 +1,6 @@
 use Rattle.std.proofs.Common.{◌≡◌, ◌+◌, length}
 use Rattle.std.specs.Prelude.{sum_by}
-use Rattle.xa_workers.specs.Reports.{told}
+use Rattle.xa_workers.specs.Believed.Reports.{told}
 use Rattle.xa_workers.proofs.Gathering.{Gathered}
 use Rattle.xa_workers.proofs.workers.gather.Given as goal
 

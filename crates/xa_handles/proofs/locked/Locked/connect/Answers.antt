@@ -1,8 +1,8 @@
 use Rattle.std.proofs.Common.{◌≡◌, ◌∙◌, ◌+◌, refl, sym, ap}
 use Rattle.xa_assoc.specs.Refusals.{is_memory}
 use Rattle.xa_frame.specs.declared.reply.Reply.{Reply}
-use Rattle.xa_manager.specs.Answered.{connect_reply}
-use Rattle.xa_history.specs.Book.{placed}
+use Rattle.xa_manager.specs.Believed.Answered.{connect_reply}
+use Rattle.xa_history.specs.Believed.Book.{placed}
 use Rattle.xa_handles.proofs.Booking.{adds}
 use Rattle.xa_handles.proofs.Calling.{connect_adds, connect_counts, connect_none, connect_told, fits}
 use Rattle.xa_handles.proofs.locked.Locked.connect.Goals as goal

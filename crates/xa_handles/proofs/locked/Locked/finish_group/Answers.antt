@@ -1,6 +1,6 @@
 use Rattle.std.proofs.Common.{◌∙◌, List, subst, sym}
 use Rattle.std.specs.List.{AllByRecursion}
-use Rattle.xa_handles.specs.Standing.{Standing, TellsMail}
+use Rattle.xa_handles.specs.Believed.Standing.{Standing, TellsMail}
 use Rattle.xa_handles.specs.Telling.{AnswersAll, IsAnswerTo, IsOpen}
 use Rattle.xa_handles.proofs.Booking.{goes_on}
 use Rattle.xa_handles.proofs.Calling.{are_letters, fits, tells}

@@ -1,7 +1,7 @@
 use Rattle.std.proofs.Common.{◌≡◌, ◌∙◌, ◌+◌, refl}
 use Rattle.std.specs.Prelude.{pos}
 use Rattle.xa_frame.specs.Made.{plain}
-use Rattle.xa_history.specs.Book.{placed}
+use Rattle.xa_history.specs.Believed.Book.{placed}
 use Rattle.xa_handles.proofs.Booking.{adds}
 use Rattle.xa_handles.proofs.Calling.{fits, hangup_adds, hangup_counts, hangup_none, hangup_told}
 use Rattle.xa_handles.proofs.locked.Locked.hangup.Goals as goal

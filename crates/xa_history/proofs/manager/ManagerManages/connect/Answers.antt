@@ -1,5 +1,5 @@
 use Rattle.xa_model.specs.declared.event.Event.TheVariants.{Connect}
-use Rattle.xa_manager.specs.Answered.{connect_reply}
+use Rattle.xa_manager.specs.Believed.Answered.{connect_reply}
 use Rattle.xa_history.proofs.Managing.{acted}
 use Rattle.xa_history.proofs.manager.ManagerManages.connect.Goals as goal
 

@@ -1,7 +1,7 @@
 use Rattle.std.proofs.Common.{ap, subst, sym, arith}
 use Rattle.xa_disk.specs.Time.{LeavesOnly}
-use Rattle.xa_log.specs.Group.{bodies_in}
-use Rattle.xa_log.specs.Stands.{Leaves}
+use Rattle.xa_log.specs.Believed.Group.{bodies_in}
+use Rattle.xa_log.specs.Believed.Stands.{Leaves}
 use Rattle.xa_log.proofs.Grouped.{no_group_moments}
 use Rattle.xa_log.proofs.log.Log.append_group.Goals as goal
 

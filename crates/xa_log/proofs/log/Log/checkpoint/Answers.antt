@@ -1,12 +1,12 @@
 use Rattle.std.proofs.Common.{rules, ◌≡◌, ◌∙◌, ap, sym, subst, ℕ, List, ◌+◌, ◌-◌, ◌^◌, ◌<◌, ◌≤◌, min, length, refl, arith}
 use Rattle.xa_disk.specs.Time.{LeavesOnly}
 use Rattle.xa_log.specs.Ahead.{IsKnown}
-use Rattle.xa_log.specs.Chain.{newest, start, text, records}
-use Rattle.xa_log.specs.Checkpoint.{IsOther, IsTailed, LeavesAny, Checkpointed}
+use Rattle.xa_log.specs.Believed.Chain.{newest, start, text, records}
+use Rattle.xa_log.specs.Believed.Checkpoint.{IsOther, IsTailed, LeavesAny, Checkpointed}
 use Rattle.xa_log.specs.LogFields.{shown}
-use Rattle.xa_log.specs.Pair.{generation}
-use Rattle.xa_log.specs.Stands.{Stands}
-use Rattle.xa_log.specs.TwoFiles.{Pair}
+use Rattle.xa_log.specs.Believed.Pair.{generation}
+use Rattle.xa_log.specs.Believed.Stands.{Stands}
+use Rattle.xa_log.specs.Believed.TwoFiles.{Pair}
 use Rattle.xa_log.specs.declared.appending.Appended.TheVariants.{Kept}
 use Rattle.xa_log.proofs.Cleared.{cleared_by, tailed_by}
 use Rattle.xa_log.proofs.Known.{known_swapped, known_beside}

@@ -1,6 +1,6 @@
 use Rattle.std.proofs.Common.{refl, ap, true, ◌∙◌}
 use Rattle.xa_disk.specs.Disk.{Only}
-use Rattle.xa_log.specs.Pair.{generation}
+use Rattle.xa_log.specs.Believed.Pair.{generation}
 use Rattle.xa_log.specs.Reading.{bodies_of}
 use Rattle.xa_log.proofs.Known.{measured}
 use Rattle.xa_log.proofs.Opens.{sound, opens}

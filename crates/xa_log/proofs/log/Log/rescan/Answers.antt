@@ -2,8 +2,8 @@ use Rattle.std.proofs.Common.{◌≡◌, ◌∙◌, ap, refl, subst, sym}
 use Rattle.xa_disk.specs.Disk.{Same, Only}
 use Rattle.xa_disk.specs.Time.{TimePasses}
 use Rattle.xa_log.specs.LogFields.{shown}
-use Rattle.xa_log.specs.LogStates.{IsCalmBeside, IsIn}
-use Rattle.xa_log.specs.Pair.{generation, logged_of}
+use Rattle.xa_log.specs.Believed.LogStates.{IsCalmBeside, IsIn}
+use Rattle.xa_log.specs.Believed.Pair.{generation, logged_of}
 use Rattle.xa_log.specs.Reading.{Explains, bodies_of}
 use Rattle.xa_log.proofs.Again.{explained, on_err}
 use Rattle.xa_log.proofs.Anew.{state_anew}

@@ -1,6 +1,6 @@
 use Rattle.std.proofs.Common.{inl, refl, List, ℕ}
 use Rattle.xa_log.specs.LogFields.{shown}
-use Rattle.xa_log.specs.LogView.{LogView}
+use Rattle.xa_log.specs.Believed.LogView.{LogView}
 use Rattle.xa_log.specs.Written.{HasWritten}
 use Rattle.xa_log.proofs.Room.{keeps_refilled}
 use Rattle.xa_log.proofs.Settled.{Settles, left, less, long, passed, within, settled_kept, settled_refused, settled_lost}

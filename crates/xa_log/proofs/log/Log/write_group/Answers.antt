@@ -1,10 +1,10 @@
 use Rattle.std.proofs.Common.{ap, List, ℕ, ◌∙◌, refl, cond, nat_eq, arith}
 use Rattle.std.specs.List.{AllByRecursion}
 use Rattle.xa_log.specs.Buffer.{Holds}
-use Rattle.xa_log.specs.Chain.{IsBody}
-use Rattle.xa_log.specs.Group.{as_one, bodies_in}
+use Rattle.xa_log.specs.Believed.Chain.{IsBody}
+use Rattle.xa_log.specs.Believed.Group.{as_one, bodies_in}
 use Rattle.xa_log.specs.LogFields.{shown}
-use Rattle.xa_log.specs.Pair.{number_in}
+use Rattle.xa_log.specs.Believed.Pair.{number_in}
 use Rattle.xa_log.proofs.Room.{keeps_refilled, refilled}
 use Rattle.xa_log.proofs.Viewed.{of_fields, written_seen}
 use Rattle.xa_log.proofs.Writing.{buffer_holds, has_written}

@@ -1,6 +1,6 @@
 use Rattle.std.proofs.Common.{ap, refl, ◌∙◌}
 use Rattle.xa_limits.specs.declared.TheConstants.{AROUND_CLOSED}
-use Rattle.xa_log.specs.Group.{as_one, bodies_in}
+use Rattle.xa_log.specs.Believed.Group.{as_one, bodies_in}
 use Rattle.xa_manager.specs.Turns.{doubt_after}
 use Rattle.xa_manager.proofs.Appending.{has_appended, never_full}
 use Rattle.xa_manager.proofs.manager.Manager.append.Goals as goal

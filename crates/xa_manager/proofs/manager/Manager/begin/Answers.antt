@@ -1,6 +1,6 @@
 use Rattle.std.proofs.Common.{◌<◌, Option, ap, sym, ◌∙◌, subst}
 use Rattle.std.specs.Prelude.{IfSome}
-use Rattle.xa_log.specs.Pair.{generation}
+use Rattle.xa_log.specs.Believed.Pair.{generation}
 use Rattle.xa_model.specs.Durable.{durable}
 use Rattle.xa_model.specs.Restarting.{restart_turn}
 use Rattle.xa_model.specs.Answer.{answer, detailed}
@@ -9,8 +9,8 @@ use Rattle.xa_model.specs.Turn.{taken}
 use Rattle.xa_model.specs.declared.outcome.Outcome.{Outcome}
 use Rattle.xa_codes.specs.declared.codes.TheConstants.{XAER_RMFAIL}
 use Rattle.xa_codes.specs.declared.detail.Detail.TheVariants as detail
-use Rattle.xa_manager.specs.Crash.{LeavesBoot}
-use Rattle.xa_manager.specs.LogStands.{HasRecords}
+use Rattle.xa_manager.specs.Believed.Crash.{LeavesBoot}
+use Rattle.xa_manager.specs.Believed.LogStands.{HasRecords}
 use Rattle.xa_manager.specs.declared.boots.NextBoot.{NextBoot}
 use Rattle.xa_manager.specs.Rereading.{HoldsNext}
 use Rattle.xa_manager.proofs.Beginnings.{next_sizes, next_short, next_keys, next_is, none_next, planned_fate}

@@ -1,17 +1,17 @@
 use Rattle.std.proofs.Common.{◌≤◌, List, arith, length, refl, rules, sym, subst, ◌∙◌, ap}
 use Rattle.std.specs.List.{AllByRecursion}
 use Rattle.std.proofs.lemmas.List.{length-map}
-use Rattle.xa_log.specs.Chain.{IsBody}
+use Rattle.xa_log.specs.Believed.Chain.{IsBody}
 use Rattle.xa_log.specs.Reading.{bodies_of}
 use Rattle.xa_log.specs.Written.{HasWritten}
 use Rattle.xa_log.specs.declared.format.Format.{Format}
 use Rattle.xa_manager.specs.declared.manager.Manager.{Manager}
 use Rattle.xa_manager.specs.declared.together.Asked.{Asked}
-use Rattle.xa_log.specs.LogView.{LogView}
+use Rattle.xa_log.specs.Believed.LogView.{LogView}
 use Rattle.xa_xid.specs.Triple.{Triple}
-use Rattle.xa_manager.specs.Answered.{StaysFor}
+use Rattle.xa_manager.specs.Believed.Answered.{StaysFor}
 use Rattle.xa_manager.specs.Acts.{AreDistinct, GiveRoomsBack}
-use Rattle.xa_manager.specs.Together.{AreReady, IsGroup, members_of}
+use Rattle.xa_manager.specs.Believed.Together.{AreReady, IsGroup, members_of}
 use Rattle.xa_manager.proofs.GroupFacts.{bodies_are, each_row, each_size, group_stands, prepares_distinct}
 use Rattle.xa_manager.proofs.Taking.{tables_up}
 use Rattle.xa_manager.proofs.GroupReplies.{group_up, some_bodies}

@@ -4,8 +4,8 @@ use Rattle.std.proofs.lemmas.Iterator.Consumers.{YieldsList-end}
 use Rattle.std.proofs.lemmas.List.{map-id}
 use Rattle.xa_model.specs.declared.event.Event.{Event}
 use Rattle.xa_model.specs.Events.{AreEvents}
-use Rattle.xa_manager.specs.Answered.{AnswersAll, RunsAll}
-use Rattle.xa_manager.specs.Counted.{CountsAll}
+use Rattle.xa_manager.specs.Believed.Answered.{AnswersAll, RunsAll}
+use Rattle.xa_manager.specs.Believed.Counted.{CountsAll}
 use Rattle.xa_manager.proofs.Counting.{counts_more}
 use Rattle.xa_manager.proofs.Driving.{answers_more, pinned_each, pinned_more, runs_more}
 use Rattle.xa_manager.proofs.Promised.{promises_all}

@@ -1,7 +1,7 @@
 use Rattle.std.proofs.Common.{◌+◌, ◌≤◌, vec_len, vec_capacity}
 use Rattle.xa_model.specs.Events.{AreEvents}
-use Rattle.xa_manager.specs.Answered.{AnswersAll, ArePinned, RunsAll}
-use Rattle.xa_manager.specs.Counted.{CountsAll}
+use Rattle.xa_manager.specs.Believed.Answered.{AnswersAll, ArePinned, RunsAll}
+use Rattle.xa_manager.specs.Believed.Counted.{CountsAll}
 use Rattle.xa_manager.proofs.manager.Manager.drive.Given as goal
 
 abbrev pub invariant-loop-event : goal.invariant-loop-event

@@ -1,7 +1,7 @@
 use Rattle.std.proofs.Common.{◌≡◌, List, map, refl, sym, subst}
 use Rattle.xa_log.specs.Calls.{SettlesBy}
-use Rattle.xa_log.specs.LogView.{LogView}
-use Rattle.xa_manager.specs.Answered.{as_appended}
+use Rattle.xa_log.specs.Believed.LogView.{LogView}
+use Rattle.xa_manager.specs.Believed.Answered.{as_appended}
 use Rattle.xa_manager.specs.declared.together.Joining.{Joining}
 use Rattle.xa_manager.specs.GroupAnswers.{told}
 use Rattle.xa_manager.specs.Once.{AreOnce}

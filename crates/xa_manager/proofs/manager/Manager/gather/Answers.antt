@@ -2,7 +2,7 @@ use Rattle.std.proofs.Common.{◌≡◌, sym, ◌∙◌, subst}
 use Rattle.std.proofs.lemmas.List.{get_or_read}
 use Rattle.xa_frame.specs.declared.request.Request.TheVariants as request
 use Rattle.xa_manager.specs.declared.together.Together.{Together}
-use Rattle.xa_manager.specs.Together.{asked_at, asks_prepare}
+use Rattle.xa_manager.specs.Believed.Together.{asked_at, asks_prepare}
 use Rattle.xa_manager.proofs.Grouping.{HasGrown, beq_same, none_grown, one_grown}
 use Rattle.xa_manager.proofs.manager.Manager.gather.Goals as goal
 use Rattle.xa_manager.proofs.manager.Manager.gather.Goals.{then-prepares+in_ok-take_in, else-prepares}

@@ -1,5 +1,5 @@
 use Rattle.std.proofs.Common.{◌≡◌, ◌+◌, ℕ, List, length, ap, ◌∙◌}
-use Rattle.xa_log.specs.Chain.{newest, text}
+use Rattle.xa_log.specs.Believed.Chain.{newest, text}
 use Rattle.xa_model.specs.Fold.{snapshot, sizes}
 use Rattle.xa_model.specs.Durable.{durable}
 use Rattle.xa_model.specs.Logging.{prepared_count, log_room}

@@ -1,6 +1,6 @@
 use Rattle.std.proofs.Common.{◌≡◌, ◌+◌, ℕ, List, map, Some, refl, ap, ◌∙◌, subst, ltb-true}
 use Rattle.xa_record.specs.Spelling.{spelled}
-use Rattle.xa_log.specs.TwoFiles.{Pair, MaySeal}
+use Rattle.xa_log.specs.Believed.TwoFiles.{Pair, MaySeal}
 use Rattle.xa_model.specs.declared.outcome.Appending.TheVariants.{Kept, Refused, Lost}
 use Rattle.xa_model.specs.Durable.{durable}
 use Rattle.xa_model.specs.Fold.{snapshot}

@@ -2,9 +2,9 @@ use Rattle.std.proofs.Common.{◌+◌, ℕ, List, length, map, refl, ap, sym, �
 use Rattle.xa_frame.specs.Made.{carrying}
 use Rattle.xa_frame.specs.declared.body.Body.TheVariants.{Number}
 use Rattle.xa_record.specs.Spelling.{spelled}
-use Rattle.xa_log.specs.Chain.{newest, text}
-use Rattle.xa_log.specs.Pair.{generation}
-use Rattle.xa_log.specs.TwoFiles.{Pair, MaySeal}
+use Rattle.xa_log.specs.Believed.Chain.{newest, text}
+use Rattle.xa_log.specs.Believed.Pair.{generation}
+use Rattle.xa_log.specs.Believed.TwoFiles.{Pair, MaySeal}
 use Rattle.xa_model.specs.declared.outcome.Appending.TheVariants.{Kept, Refused, Lost}
 use Rattle.xa_model.specs.Durable.{durable}
 use Rattle.xa_model.specs.Fold.{snapshot}

@@ -1,8 +1,8 @@
 use Rattle.std.proofs.Common.{ℕ, List, map, refl, ap, sym, ◌∙◌}
 use Rattle.xa_record.specs.Spelling.{spelled}
-use Rattle.xa_log.specs.Chain.{logged}
-use Rattle.xa_log.specs.LogStates.{Whole}
-use Rattle.xa_log.specs.Pair.{generation}
+use Rattle.xa_log.specs.Believed.Chain.{logged}
+use Rattle.xa_log.specs.Believed.LogStates.{Whole}
+use Rattle.xa_log.specs.Believed.Pair.{generation}
 use Rattle.xa_log.specs.Reading.{bodies_of}
 use Rattle.xa_manager.specs.Managed.{view}
 use Rattle.xa_manager.proofs.Results.{on_err, on_ok, if_ok, if_err, at_err, in_ok, in_err}

@@ -2,10 +2,10 @@ use Rattle.std.proofs.Common.{◌≡◌, ℕ, List, ap, sym, ◌∙◌, subst}
 use Rattle.std.specs.Prelude.{Vec, Err}
 use Rattle.std.specs.declared.alloc.Global.{Global}
 use Rattle.xa_log.specs.Reading.{bodies_of}
-use Rattle.xa_log.specs.TwoFiles.{first_of, second_of}
+use Rattle.xa_log.specs.Believed.TwoFiles.{first_of, second_of}
 use Rattle.xa_manager.specs.declared.fault.ManagerFault.TheVariants as fault
-use Rattle.xa_manager.specs.Opening.{IsFound}
-use Rattle.xa_manager.specs.Refused.{LeavesFinding}
+use Rattle.xa_manager.specs.Believed.Opening.{IsFound}
+use Rattle.xa_manager.specs.Believed.Refused.{LeavesFinding}
 use Rattle.xa_manager.proofs.CrashOpenings.{crash_opening}
 use Rattle.xa_manager.proofs.FoundLogs.{found_log}
 use Rattle.xa_manager.proofs.OpenedStates.{begun_on, begun_read, fresh_opened, reopens_opened}

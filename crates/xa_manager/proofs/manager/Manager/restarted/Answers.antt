@@ -3,7 +3,7 @@ use Rattle.xa_frame.specs.declared.request.Request.TheVariants.{Restart}
 use Rattle.xa_log.specs.Reading.{bodies_of}
 use Rattle.xa_manager.specs.Rereading.{Found, IsCounted, GoesOn, IsNext}
 use Rattle.xa_manager.specs.declared.doubt.Doubt.{Doubt}
-use Rattle.xa_manager.specs.LogStands.{Trusts}
+use Rattle.xa_manager.specs.Believed.LogStands.{Trusts}
 use Rattle.xa_manager.specs.Managed.{Doubts, ManagerStandsFor}
 use Rattle.xa_model.specs.State.{State}
 use Rattle.xa_manager.specs.Turns.{HasWanted}

@@ -2,7 +2,7 @@ use Rattle.std.proofs.Common.{◌≡◌, List, ap, subst, sym, ◌∙◌}
 use Rattle.xa_xid.specs.Triple.{Triple}
 use Rattle.xa_manager.specs.declared.manager.Manager.{Manager}
 use Rattle.xa_manager.specs.Acts.{GiveRoomsBack, MakeRooms, StaysIfDistinct}
-use Rattle.xa_manager.specs.Answered.{StaysFor}
+use Rattle.xa_manager.specs.Believed.Answered.{StaysFor}
 use Rattle.xa_manager.specs.declared.tables.Tables.{Tables}
 use Rattle.xa_manager.specs.View.{view_of}
 use Rattle.xa_manager.proofs.Finishing.{beside_rooms}

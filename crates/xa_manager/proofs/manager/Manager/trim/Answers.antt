@@ -3,14 +3,14 @@ use Rattle.std.specs.List.{AllByRecursion}
 use Rattle.xa_codes.specs.declared.codes.TheConstants.{XAER_RMERR}
 use Rattle.xa_codes.specs.declared.detail.Detail.TheVariants as detail
 use Rattle.xa_frame.specs.declared.reply.Reply.{Reply}
-use Rattle.xa_log.specs.Chain.{IsBody, newest}
-use Rattle.xa_log.specs.Pair.{generation}
+use Rattle.xa_log.specs.Believed.Chain.{IsBody, newest}
+use Rattle.xa_log.specs.Believed.Pair.{generation}
 use Rattle.xa_model.specs.Answer.{detailed}
 use Rattle.xa_model.specs.State.{State}
 use Rattle.xa_model.specs.Trimming.{trim_refusal}
 use Rattle.xa_model.specs.declared.outcome.Outcome.TheVariants.{Quiet}
 use Rattle.xa_manager.specs.Managed.{ManagerStandsFor}
-use Rattle.xa_manager.specs.LogStands.{snapshot_bodies}
+use Rattle.xa_manager.specs.Believed.LogStands.{snapshot_bodies}
 use Rattle.xa_manager.specs.Turns.{HasTrimmed}
 use Rattle.xa_manager.specs.declared.done.Done.{Done}
 use Rattle.xa_manager.proofs.Reserved.{reserved_stands}

@@ -2,7 +2,7 @@ use Rattle.std.proofs.Common.{◌≡◌, ℤ, None, ap, refl, rules, ◌∙◌, 
 use Rattle.xa_codes.specs.declared.detail.Detail.TheVariants as detail
 use Rattle.xa_model.specs.Answer.{detailed}
 use Rattle.xa_model.specs.declared.outcome.Outcome.TheVariants.{Quiet}
-use Rattle.xa_manager.specs.Answered.{may_want}
+use Rattle.xa_manager.specs.Believed.Answered.{may_want}
 use Rattle.xa_manager.proofs.BesideWork.{refused_beside, wanted_beside, work_done}
 use Rattle.xa_manager.proofs.Calling.{code_kept, wants}
 use Rattle.xa_manager.proofs.manager.Manager.work.Goals as goal

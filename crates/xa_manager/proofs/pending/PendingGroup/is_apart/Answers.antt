@@ -4,7 +4,7 @@ use Rattle.xa_frame.specs.declared.request.Request.{Request}
 use Rattle.xa_model.specs.Laws.Together.{is_work}
 use Rattle.xa_xid.specs.Triple.{xid_eq}
 use Rattle.xa_manager.specs.declared.together.Joining.{Joining}
-use Rattle.xa_manager.specs.Pending.{WorksApartFrom}
+use Rattle.xa_manager.specs.Believed.Pending.{WorksApartFrom}
 use Rattle.xa_manager.proofs.Grouping.{are_apart, found_apart}
 use Rattle.xa_manager.proofs.pending.PendingGroup.is_apart.Goals as goal
 

@@ -1,7 +1,7 @@
 use Rattle.std.proofs.Common.{◌≡◌, ◌+◌, ◌<◌, ◌∷◌, ◌∙◌, List, [], length, drop, ap, sym, subst, arith}
 use Rattle.std.proofs.lemmas.List.{at_drop_all, at_drop_more}
 use Rattle.xa_manager.specs.declared.together.Joining.{Joining}
-use Rattle.xa_manager.specs.Together.{member_of, members_of}
+use Rattle.xa_manager.specs.Believed.Together.{member_of, members_of}
 use Rattle.xa_manager.specs.View.{view_of}
 use Rattle.xa_manager.proofs.TookAnswers.{Took, all_took, took_next}
 use Rattle.xa_manager.proofs.tables.Tables.take_answers.Goals as goal

@@ -5,7 +5,7 @@ use Rattle.xa_assoc.specs.Company.{company_of}
 use Rattle.xa_manager.specs.declared.together.Asked.{Asked}
 use Rattle.xa_manager.specs.Stands.{StandsWithRooms}
 use Rattle.xa_manager.specs.GroupAnswers.{AreTogether}
-use Rattle.xa_manager.specs.Together.{members_of, prepares_of}
+use Rattle.xa_manager.specs.Believed.Together.{members_of, prepares_of}
 use Rattle.xa_manager.specs.View.{view_of}
 use Rattle.xa_manager.proofs.TookAnswers.{Took}
 use Rattle.xa_manager.proofs.tables.Tables.take_answers.Given as goal

@@ -1,6 +1,6 @@
 use Rattle.std.proofs.Common.{Some, ap, sym}
 use Rattle.std.specs.Option.{option_map}
-use Rattle.xa_reactor.specs.Tending.{sessions_of}
+use Rattle.xa_reactor.specs.Believed.Tending.{sessions_of}
 use Rattle.xa_reactor.proofs.Doing.{puts_slot, tends_connected, tends_none, tends_refused, tends_twice}
 use Rattle.xa_reactor.proofs.peers.Peers.add.Goals as goal
 

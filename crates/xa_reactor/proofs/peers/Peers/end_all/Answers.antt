@@ -1,7 +1,7 @@
 use Rattle.std.proofs.Common.{◌≡◌, ◌∙◌, None, arith, subst}
 use borrow.Author.Count.{below_more}
 use Rattle.slab.specs.Slab.{get}
-use Rattle.xa_reactor.specs.Tending.{Tends, sessions_of}
+use Rattle.xa_reactor.specs.Believed.Tending.{Tends, sessions_of}
 use Rattle.xa_reactor.proofs.Doing.{no_sessions, none_beyond, tends_twice}
 use Rattle.xa_reactor.proofs.peers.Peers.end_all.Goals as goal
 

@@ -1,6 +1,6 @@
 use Rattle.std.proofs.Common.{◌≡◌, ◌<◌, ℕ, None, length}
 use Rattle.slab.specs.Slab.{get}
-use Rattle.xa_reactor.specs.Tending.{Tends, sessions_of}
+use Rattle.xa_reactor.specs.Believed.Tending.{Tends, sessions_of}
 use Rattle.xa_reactor.proofs.peers.Peers.end_all.Given as goal
 
 abbrev pub invariant-loop-key : goal.invariant-loop-key

@@ -1,4 +1,4 @@
-use Rattle.xa_reactor.specs.Tending.{sessions_of}
+use Rattle.xa_reactor.specs.Believed.Tending.{sessions_of}
 use Rattle.xa_reactor.proofs.Doing.{same_table, tends_none, tends_twice}
 use Rattle.xa_reactor.proofs.peers.Peers.notice.Goals as goal
 

@@ -1,6 +1,6 @@
 use Rattle.std.proofs.Common.{ap, refl, sym}
 use Rattle.std.specs.Option.{option_map}
-use Rattle.xa_reactor.specs.Tending.{sessions_of}
+use Rattle.xa_reactor.specs.Believed.Tending.{sessions_of}
 use Rattle.xa_reactor.proofs.Asking.{opens_at}
 use Rattle.xa_reactor.proofs.Doing.{same_sessions, tends_none}
 use Rattle.xa_reactor.proofs.peers.Peers.open_turn.Goals as goal

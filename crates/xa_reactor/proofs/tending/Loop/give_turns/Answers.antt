@@ -1,4 +1,4 @@
-use Rattle.xa_reactor.specs.Tending.{sessions_of}
+use Rattle.xa_reactor.specs.Believed.Tending.{sessions_of}
 use Rattle.xa_reactor.proofs.Doing.{posting_tended}
 use Rattle.xa_reactor.proofs.Settled.{still_settled}
 use Rattle.xa_reactor.proofs.tending.Loop.give_turns.Goals as goal

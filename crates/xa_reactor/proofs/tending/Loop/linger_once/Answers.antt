@@ -2,7 +2,7 @@ use Rattle.std.proofs.Common.{◌≡◌, ◌∙◌, ℕ, Result, ap, subst, sym}
 use Rattle.xa_assoc.specs.declared.fault.ConnectFault.{ConnectFault}
 use Rattle.xa_frame.specs.declared.question.Question.{Question}
 use Rattle.xa_frame.specs.declared.reply.Reply.{Reply}
-use Rattle.xa_reactor.specs.Tending.{Table, Tends, TendsPosting, sessions_of}
+use Rattle.xa_reactor.specs.Believed.Tending.{Table, Tends, TendsPosting, sessions_of}
 use Rattle.xa_reactor.specs.Together.{HasLent}
 use Rattle.xa_reactor.proofs.Doing.{posting_tended, posting_twice}
 use Rattle.xa_reactor.proofs.tending.Loop.linger_once.Goals as goal

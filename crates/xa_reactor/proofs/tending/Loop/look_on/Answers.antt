@@ -1,4 +1,4 @@
-use Rattle.xa_reactor.specs.Tending.{Table, sessions_of}
+use Rattle.xa_reactor.specs.Believed.Tending.{Table, sessions_of}
 use Rattle.xa_reactor.proofs.Doing.{posting_twice}
 use Rattle.xa_reactor.proofs.tending.Loop.look_on.Goals as goal
 

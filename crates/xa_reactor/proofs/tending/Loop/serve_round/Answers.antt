@@ -1,4 +1,4 @@
-use Rattle.xa_reactor.specs.Tending.{Table, sessions_of}
+use Rattle.xa_reactor.specs.Believed.Tending.{Table, sessions_of}
 use Rattle.xa_reactor.proofs.Doing.{posting_tended, posting_thrice, tends_twice}
 use Rattle.xa_reactor.proofs.Settled.{still_settled}
 use Rattle.xa_reactor.proofs.tending.Loop.serve_round.Goals as goal

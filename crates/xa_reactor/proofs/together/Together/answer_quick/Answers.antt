@@ -1,7 +1,7 @@
 use Rattle.std.proofs.Common.{[], ap, arith, length}
 use Rattle.std.proofs.lemmas.List.Elements.{All-nil, All-same}
 use Rattle.xa_reactor.specs.Asking.{IsLent}
-use Rattle.xa_reactor.specs.Tending.{Table, sessions_of}
+use Rattle.xa_reactor.specs.Believed.Tending.{Table, sessions_of}
 use Rattle.xa_reactor.proofs.Asking.{lent_still}
 use Rattle.xa_reactor.proofs.together.Together.answer_quick.Goals as goal
 

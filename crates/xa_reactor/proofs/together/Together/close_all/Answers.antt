@@ -1,4 +1,4 @@
-use Rattle.xa_reactor.specs.Tending.{sessions_of}
+use Rattle.xa_reactor.specs.Believed.Tending.{sessions_of}
 use Rattle.xa_reactor.proofs.Asking.{lent_still}
 use Rattle.xa_reactor.proofs.Doing.{tends_thrice}
 use Rattle.xa_reactor.proofs.Settled.{still_settled}

@@ -3,7 +3,7 @@ use Rattle.std.specs.Prelude.{IsSomeAnd}
 use Rattle.xa_frame.specs.declared.request.Request.{Request}
 use Rattle.xa_reactor.specs.Reception.{IsPosted}
 use Rattle.xa_reactor.specs.Asking.{IsLent}
-use Rattle.xa_reactor.specs.Tending.{Table, Tends, sessions_of}
+use Rattle.xa_reactor.specs.Believed.Tending.{Table, Tends, sessions_of}
 use Rattle.xa_reactor.specs.declared.ask.Ask.{Ask}
 use Rattle.xa_reactor.proofs.Asking.{lent_more, lent_still}
 use Rattle.xa_reactor.proofs.Doing.{posting_posted, posting_tended}

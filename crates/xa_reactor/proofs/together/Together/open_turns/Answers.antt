@@ -1,5 +1,5 @@
 use Rattle.std.proofs.Common.{refl}
-use Rattle.xa_reactor.specs.Tending.{Table, sessions_of}
+use Rattle.xa_reactor.specs.Believed.Tending.{Table, sessions_of}
 use Rattle.xa_reactor.proofs.Doing.{posting_none, posting_twice}
 use Rattle.xa_reactor.proofs.together.Together.open_turns.Goals as goal
 

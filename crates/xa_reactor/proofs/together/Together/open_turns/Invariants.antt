@@ -1,4 +1,4 @@
-use Rattle.xa_reactor.specs.Tending.{TendsPosting, sessions_of}
+use Rattle.xa_reactor.specs.Believed.Tending.{TendsPosting, sessions_of}
 use Rattle.xa_reactor.specs.Together.{HasLent}
 use Rattle.xa_reactor.proofs.together.Together.open_turns.Given as goal
 

@@ -5,9 +5,9 @@ use Rattle.xa_assoc.specs.Refusals.{is_memory}
 use Rattle.xa_model.specs.declared.event.Event.TheVariants.{Call}
 use Rattle.xa_model.specs.Events.{IsAsked}
 use Rattle.xa_history.specs.declared.receipt.Receipt.{Receipt}
-use Rattle.xa_history.specs.Book.{placed}
-use Rattle.xa_room.specs.Told.{Adds, Told}
-use Rattle.xa_history.specs.Manages.{Acts}
+use Rattle.xa_history.specs.Believed.Book.{placed}
+use Rattle.xa_room.specs.Believed.Told.{Adds, Told}
+use Rattle.xa_history.specs.Believed.Manages.{Acts}
 use Rattle.xa_history.proofs.Longer.{kept_noted}
 use Rattle.xa_room.proofs.Adding.{adds_noted}
 use Rattle.xa_room.proofs.room.Room.call_copied.Goals as goal

@@ -3,9 +3,9 @@ use Rattle.xa_frame.specs.declared.reply.Reply.{Reply}
 use Rattle.xa_assoc.specs.Refusals.{is_memory}
 use Rattle.xa_model.specs.declared.event.Event.TheVariants.{Connect}
 use Rattle.xa_history.specs.declared.receipt.Receipt.{Receipt}
-use Rattle.xa_history.specs.Book.{placed}
-use Rattle.xa_history.specs.Manages.{Acts}
-use Rattle.xa_room.specs.Told.{Adds, Told}
+use Rattle.xa_history.specs.Believed.Book.{placed}
+use Rattle.xa_history.specs.Believed.Manages.{Acts}
+use Rattle.xa_room.specs.Believed.Told.{Adds, Told}
 use Rattle.xa_history.proofs.Longer.{kept_noted, connect_place, one_more}
 use Rattle.xa_room.proofs.Adding.{adds_noted}
 use Rattle.xa_room.proofs.room.Room.connect.Goals as goal

@@ -2,8 +2,8 @@ use Rattle.std.proofs.Common.{◌≡◌, true, refl, sym, ap, subst, arith}
 use Rattle.xa_frame.specs.declared.reply.Reply.{Reply}
 use Rattle.xa_assoc.specs.Refusals.{is_memory}
 use Rattle.xa_model.specs.declared.event.Event.TheVariants.{Hangup}
-use Rattle.xa_room.specs.Told.{Adds, Told}
-use Rattle.xa_history.specs.Manages.{Acts}
+use Rattle.xa_room.specs.Believed.Told.{Adds, Told}
+use Rattle.xa_history.specs.Believed.Manages.{Acts}
 use Rattle.xa_history.proofs.Longer.{kept_noted}
 use Rattle.xa_room.proofs.Adding.{adds_noted}
 use Rattle.xa_room.proofs.room.Room.hangup.Goals as goal

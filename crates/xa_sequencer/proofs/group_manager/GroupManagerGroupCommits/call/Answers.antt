@@ -2,7 +2,7 @@ use Rattle.std.proofs.Common.{ap}
 use Rattle.xa_model.specs.declared.event.Event.TheVariants.{Call}
 use Rattle.xa_history.proofs.Together.{if_ok}
 use Rattle.xa_sequencer.proofs.Pendings.{acted_alone, worked}
-use Rattle.xa_sequencer.specs.GroupManager.{calls_in}
+use Rattle.xa_sequencer.specs.Believed.GroupManager.{calls_in}
 use Rattle.xa_sequencer.proofs.group_manager.GroupManagerGroupCommits.call.Goals as goal
 
 pub returns-in-Some-clause-acts : goal.returns-in-Some-clause-acts

@@ -1,4 +1,4 @@
-use Rattle.xa_manager.specs.Answered.{connect_reply}
+use Rattle.xa_manager.specs.Believed.Answered.{connect_reply}
 use Rattle.xa_model.specs.declared.event.Event.TheVariants.{Connect}
 use Rattle.xa_sequencer.proofs.Pendings.{acted_alone}
 use Rattle.xa_sequencer.proofs.group_manager.GroupManagerGroupCommits.connect.Goals as goal

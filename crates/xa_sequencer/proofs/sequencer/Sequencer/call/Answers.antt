@@ -4,8 +4,8 @@ use Rattle.xa_frame.specs.declared.reply.Reply.{Reply}
 use Rattle.xa_model.specs.declared.event.Event.TheVariants.{Call}
 use Rattle.xa_sequencer.proofs.Adding.{added, so_false}
 use Rattle.xa_sequencer.proofs.Keeping.{keeps_on}
-use Rattle.xa_sequencer.specs.Numbers.{Called}
-use Rattle.xa_sequencer.specs.Stands.{Numbered}
+use Rattle.xa_sequencer.specs.Believed.Numbers.{Called}
+use Rattle.xa_sequencer.specs.Believed.Stands.{Numbered}
 use Rattle.xa_sequencer.proofs.sequencer.Sequencer.call.Goals as goal
 
 pub invariant_of-self-2 : goal.invariant_of-self-2

@@ -1,12 +1,12 @@
 use Rattle.std.proofs.Common.{◌+◌, ◌∙◌, refl, sym, ap, subst, arith}
 use Rattle.xa_assoc.specs.Refusals.{is_memory}
 use Rattle.xa_frame.specs.declared.reply.Reply.{Reply}
-use Rattle.xa_manager.specs.Answered.{connect_reply}
+use Rattle.xa_manager.specs.Believed.Answered.{connect_reply}
 use Rattle.xa_model.specs.declared.event.Event.TheVariants.{Connect}
 use Rattle.xa_sequencer.proofs.Adding.{connected, has_more, left_out, none_more, so_false}
 use Rattle.xa_sequencer.proofs.Keeping.{keeps_alone}
-use Rattle.xa_sequencer.specs.Numbers.{Connected}
-use Rattle.xa_sequencer.specs.Stands.{Numbered}
+use Rattle.xa_sequencer.specs.Believed.Numbers.{Connected}
+use Rattle.xa_sequencer.specs.Believed.Stands.{Numbered}
 use Rattle.xa_sequencer.proofs.sequencer.Sequencer.connect.Goals as goal
 
 pub invariant_of-self : goal.invariant_of-self

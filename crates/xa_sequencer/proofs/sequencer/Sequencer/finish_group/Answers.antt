@@ -2,14 +2,14 @@ use Rattle.std.proofs.Common.{◌+◌, ◌++◌, ℕ, List, Some, length, take, 
 use Rattle.std.specs.List.{AllByRecursion}
 use Rattle.xa_frame.specs.declared.reply.Reply.{Reply}
 use Rattle.xa_manager.specs.Once.{AreOnce}
-use Rattle.xa_history.specs.Together.{IsToldOf}
+use Rattle.xa_history.specs.Believed.Together.{IsToldOf}
 use Rattle.xa_frame.specs.Limits.{IsRequest}
 use Rattle.xa_manager.specs.declared.together.Asked.{Asked}
 use Rattle.xa_model.specs.Events.{IsAsked}
 use Rattle.xa_model.proofs.Inserts.{all_imply}
 use Rattle.xa_sequencer.specs.GroupCommits.{ArePending}
-use Rattle.xa_sequencer.specs.Stands.{Numbered}
-use Rattle.xa_sequencer.specs.Together.{CalledTogether}
+use Rattle.xa_sequencer.specs.Believed.Stands.{Numbered}
+use Rattle.xa_sequencer.specs.Believed.Together.{CalledTogether}
 use Rattle.xa_sequencer.proofs.Grouping.{all_told, called_together, has_history, have_numbers, placed_once, placed_told, placed_whole}
 use Rattle.xa_sequencer.proofs.Keeping.{keeps_alone}
 use Rattle.xa_sequencer.proofs.sequencer.Sequencer.finish_group.Goals as goal

@@ -1,8 +1,8 @@
 use Rattle.std.proofs.Common.{◌+◌, sym, subst, arith}
 use Rattle.xa_sequencer.proofs.Adding.{has_more, hung_up, so_true}
 use Rattle.xa_sequencer.proofs.Keeping.{keeps_alone}
-use Rattle.xa_sequencer.specs.Numbers.{Left}
-use Rattle.xa_sequencer.specs.Stands.{Numbered}
+use Rattle.xa_sequencer.specs.Believed.Numbers.{Left}
+use Rattle.xa_sequencer.specs.Believed.Stands.{Numbered}
 use Rattle.xa_sequencer.proofs.sequencer.Sequencer.hangup.Goals as goal
 
 pub overflow_add-self : goal.overflow_add-self

@@ -1,5 +1,5 @@
 use Rattle.std.proofs.Common.{subst, sym}
-use Rattle.xa_tokens.specs.Account.{Owes}
+use Rattle.xa_tokens.specs.Believed.Account.{Owes}
 use Rattle.xa_server.proofs.Watching.{called_owes, seen_then}
 use Rattle.xa_server.proofs.post.Post.answer.Goals as goal
 

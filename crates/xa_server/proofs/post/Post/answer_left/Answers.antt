@@ -3,7 +3,7 @@ use Rattle.std.specs.List.{AllWithin}
 use Rattle.std.proofs.lemmas.List.Elements.{All-from_all_within, All-get_or, AllWithin-more_set, AllWithin-none}
 use Rattle.xa_reactor.specs.Asking.{IsAnswered}
 use Rattle.xa_reactor.specs.declared.ask.Ask.{Ask}
-use Rattle.xa_server.specs.Loops.{Called}
+use Rattle.xa_server.specs.Believed.Loops.{Called}
 use Rattle.xa_server.specs.Rounds.{IsWithin}
 use Rattle.xa_server.proofs.Rounds.{left_within, tells_more, tells_none}
 use Rattle.xa_server.proofs.post.Post.answer_left.Goals as goal

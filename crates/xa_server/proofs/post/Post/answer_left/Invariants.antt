@@ -1,8 +1,8 @@
 use Rattle.std.proofs.Common.{◌≡◌, []}
 use Rattle.std.specs.List.{AllWithin}
 use Rattle.xa_reactor.specs.Asking.{IsAnswered, TellsSome}
-use Rattle.xa_server.specs.Loops.{Called}
-use Rattle.xa_tokens.specs.Account.{Owes}
+use Rattle.xa_server.specs.Believed.Loops.{Called}
+use Rattle.xa_tokens.specs.Believed.Account.{Owes}
 use Rattle.xa_server.proofs.post.Post.answer_left.Given as goal
 
 abbrev pub invariant-loop-ask : goal.invariant-loop-ask

@@ -1,9 +1,9 @@
 use Rattle.std.proofs.Common.{subst, sym}
 use Rattle.xa_reactor.specs.declared.seen.Seen.{Seen}
-use Rattle.xa_server.specs.Watching.{IsSeenLast}
+use Rattle.xa_server.specs.Believed.Watching.{IsSeenLast}
 use Rattle.xa_server.proofs.Watching.{seen_last}
 use Rattle.xa_server.proofs.post.Post.into_parts.Goals as goal
-use Rattle.xa_tokens.specs.Account.{Account}
+use Rattle.xa_tokens.specs.Believed.Account.{Account}
 
 pub returns-clause-seen : goal.returns-clause-seen
 returns-clause-seen g c =

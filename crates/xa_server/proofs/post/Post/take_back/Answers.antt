@@ -1,5 +1,5 @@
 use Rattle.std.proofs.Common.{◌∙◌}
-use Rattle.xa_server.specs.Loops.{Called}
+use Rattle.xa_server.specs.Believed.Loops.{Called}
 use Rattle.xa_server.proofs.Rounds.{none_still, takes_twice}
 use Rattle.xa_server.proofs.post.Post.take_back.Goals as goal
 

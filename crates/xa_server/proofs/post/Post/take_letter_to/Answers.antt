@@ -3,16 +3,16 @@ use Rattle.std.specs.Prelude.{IfSome}
 use Rattle.xa_frame.specs.Limits.{IsReply}
 use Rattle.xa_frame.specs.declared.reply.Reply.{Reply}
 use Rattle.xa_frame.specs.declared.request.Request.{Request}
-use Rattle.xa_handles.specs.Shared.{CalledBy}
+use Rattle.xa_handles.specs.Believed.Shared.{CalledBy}
 use Rattle.xa_reactor.specs.declared.ask.Ask.{Ask}
-use Rattle.xa_server.specs.Loops.{Called}
-use Rattle.xa_server.specs.Watching.{is_restart}
+use Rattle.xa_server.specs.Believed.Loops.{Called}
+use Rattle.xa_server.specs.Believed.Watching.{is_restart}
 use Rattle.xa_server.proofs.Letters.{letter_answered, letter_posted}
 use Rattle.xa_server.proofs.Rounds.{tells_answer}
 use Rattle.xa_server.proofs.Watching.{seen_then}
 use Rattle.xa_server.proofs.post.Post.take_letter_to.Goals.{in-Some, in-None, in-Answered, in-Posted}
 use Rattle.xa_server.proofs.post.Post.take_letter_to.Goals as goal
-use Rattle.xa_tokens.specs.Account.{Account}
+use Rattle.xa_tokens.specs.Believed.Account.{Account}
 
 pub invariant_of-self : goal.invariant_of-self
 invariant_of-self g c =

@@ -1,6 +1,6 @@
 use Rattle.std.proofs.Common.{◌∙◌, refl}
-use Rattle.xa_server.specs.Loops.{Called}
-use Rattle.xa_server.specs.Watching.{seen_of}
+use Rattle.xa_server.specs.Believed.Loops.{Called}
+use Rattle.xa_server.specs.Believed.Watching.{seen_of}
 use Rattle.xa_server.proofs.Letters.{OwesSome, owes_called}
 use Rattle.xa_server.proofs.Rounds.{have_requests, left_within, lifted, none_still, tells_twice}
 use Rattle.xa_server.proofs.post.PostReception.call_all.Goals as goal

@@ -1,6 +1,6 @@
 use Rattle.std.proofs.Common.{refl}
-use Rattle.xa_server.specs.Loops.{Called}
-use Rattle.xa_server.specs.Watching.{seen_of}
+use Rattle.xa_server.specs.Believed.Loops.{Called}
+use Rattle.xa_server.specs.Believed.Watching.{seen_of}
 use Rattle.xa_server.proofs.Letters.{OwesSome, owes_called}
 use Rattle.xa_server.proofs.Rounds.{have_requests, lifted}
 use Rattle.xa_server.proofs.post.PostReception.call_quick.Goals as goal

@@ -1,6 +1,6 @@
 use Rattle.std.proofs.Common.{◌∙◌, refl, sym}
 use Rattle.xa_assoc.specs.Refusals.{is_memory}
-use Rattle.xa_manager.specs.Answered.{connect_reply}
+use Rattle.xa_manager.specs.Believed.Answered.{connect_reply}
 use Rattle.xa_model.specs.declared.event.Event.TheVariants.{Connect}
 use Rattle.xa_server.proofs.Watching.{seen_at_once}
 use Rattle.xa_server.proofs.post.PostReception.connect.Goals as goal

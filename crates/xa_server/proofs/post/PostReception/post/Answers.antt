@@ -1,9 +1,9 @@
 use Rattle.std.proofs.Common.{◌≡◌, Option, ap, inl, inr, subst, sym}
 use Rattle.std.specs.Prelude.{IsSomeAnd}
 use Rattle.xa_frame.specs.declared.request.Request.{Request}
-use Rattle.xa_handles.specs.Accounts.{Posts}
+use Rattle.xa_handles.specs.Believed.Accounts.{Posts}
 use Rattle.xa_model.specs.declared.event.Event.TheVariants.{Call}
-use Rattle.xa_server.specs.Watching.{seen_of}
+use Rattle.xa_server.specs.Believed.Watching.{seen_of}
 use Rattle.xa_server.proofs.Watching.{one_proof}
 use Rattle.xa_server.proofs.post.PostReception.post.Goals as goal
 

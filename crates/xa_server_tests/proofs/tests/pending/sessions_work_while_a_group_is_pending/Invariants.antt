@@ -1,5 +1,5 @@
 use Rattle.xa_disk.specs.contracts.memory.MemDiskDisk.TheImpl.{ghosts as mem_disks}
-use Rattle.xa_sequencer.specs.GroupManager.{manages_of}
+use Rattle.xa_sequencer.specs.Believed.GroupManager.{manages_of}
 use Rattle.xa_server_tests.proofs.tests.pending.sessions_work_while_a_group_is_pending.Given as goal
 
 -- every state that the manager stands for

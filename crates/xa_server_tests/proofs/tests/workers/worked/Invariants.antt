@@ -1,7 +1,7 @@
-use Rattle.xa_manager.specs.Counted.{counted_by}
+use Rattle.xa_manager.specs.Believed.Counted.{counted_by}
 use Rattle.xa_play.specs.Disks.{StandsFor}
 use Rattle.xa_server_tests.proofs.tests.workers.worked.Given as goal
-use Rattle.xa_manager.specs.Parts.{log_of}
+use Rattle.xa_manager.specs.Believed.Parts.{log_of}
 
 -- every state that the manager stands for
 abbrev pub ghosts-worked_at-S-Start : goal.ghosts-worked_at-S-Start

@@ -1,4 +1,4 @@
-use Rattle.xa_tokens.specs.Receipts.{receipt_of}
+use Rattle.xa_tokens.specs.Believed.Receipts.{receipt_of}
 use Rattle.xa_tokens.proofs.tokens.Tokens.answer.Given as goal
 
 abbrev pub ghosts-answer_as : goal.ghosts-answer_as

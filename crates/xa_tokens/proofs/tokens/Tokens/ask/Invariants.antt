@@ -1,5 +1,5 @@
-use Rattle.xa_tokens.specs.Receipts.{ask_of}
-use Rattle.xa_tokens.specs.View.{no_receipt}
+use Rattle.xa_tokens.specs.Believed.Receipts.{ask_of}
+use Rattle.xa_tokens.specs.Believed.View.{no_receipt}
 use Rattle.xa_tokens.proofs.tokens.Tokens.ask.Given as goal
 
 -- the ask; a step that asks is about no reply

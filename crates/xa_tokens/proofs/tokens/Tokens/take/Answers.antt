@@ -1,8 +1,8 @@
 use Rattle.std.proofs.Common.{ℕ, List, ◌++◌, ap, ◌∙◌}
 use Rattle.xa_tokens.specs.declared.receipt.Receipt.{Receipt}
 use Rattle.xa_tokens.specs.declared.view.View.{View}
-use Rattle.xa_tokens.specs.Receipts.{last_or}
-use Rattle.xa_tokens.specs.View.{the_receipt}
+use Rattle.xa_tokens.specs.Believed.Receipts.{last_or}
+use Rattle.xa_tokens.specs.Believed.View.{the_receipt}
 use Rattle.xa_tokens.proofs.Keeps.{last_push}
 use Rattle.xa_tokens.proofs.tokens.Tokens.take.Goals as goal
 

@@ -1,0 +1,118 @@
+-- What a loop does at its door, from one thing to the next.
+use Rattle.std.specs.Prelude.{ℕ, ◌≡◌, ◌≢◌, ◌⊎◌, ◌<◌, length, slice_index_or, List, [], ◌∷◌, Option, Some, None, Result, Ok, Err}
+use Rattle.std.specs.Option.{option_map}
+use Rattle.slab.specs.Slab.{Slab, get}
+use Rattle.xa_assoc.specs.declared.fault.ConnectFault.{ConnectFault}
+use Rattle.xa_desk.specs.Believed.Serving.{AnswersAll}
+use Rattle.xa_frame.specs.declared.reply.Reply.{Reply}
+use Rattle.xa_frame.specs.declared.question.Question.{Question}
+use Rattle.xa_reactor.specs.declared.common.Settings.{Settings}
+use Rattle.xa_reactor.specs.declared.loops.Ended.{Ended}
+use Rattle.xa_reactor.specs.declared.loops.Seed.{Seed}
+use Rattle.xa_reactor.specs.declared.peer.Peer.{Peer}
+
+-- each loop did what these settings ask
+abbrev pub HaveObeyed : {D : Type 0} → Settings → List (Ended D) → Type 0
+HaveObeyed {D} settings ended =
+    (i : ℕ) (e : Ended D) → i < length ended → (slice_index_or ended i e).settings ≡ settings
+
+-- the session that is served under each key
+abbrev pub Table : Type 0
+Table = ℕ → Option ℕ
+
+abbrev pub nobody : Table
+nobody key = None
+
+abbrev pub sessions_of : Slab Peer → Table
+sessions_of peers key = option_map (λ p. p.session) (get peers key)
+
+-- the new table has this under the key, and else what the old one had
+pub record Puts (old new : Table) (key : ℕ) (session : Option ℕ) : Type 0 where
+  pub changed : new key ≡ session
+  pub others : (other : ℕ) → other ≢ key → new other ≡ old other
+
+-- a call of a session that is served was posted, to be answered later
+pub record Posts {D : Type 0} (posted : ℕ → D → D → Type 0) (old new : Table) (d e : D) : Type 0 where
+  pub key : ℕ
+  pub session : ℕ
+  pub has : old key ≡ Some session
+  pub posts : posted session d e
+  pub same : old ≡ new
+
+-- one thing behind the other, with the table and the door before each, the last one's first
+abbrev pub DoesAll : {D : Type 0} → (Table → Table → D → D → Type 0) → Table → D → List (Table × D) → Table → D → Type 0
+DoesAll does old d [] new e = (old ≡ new) × (d ≡ e)
+DoesAll does old d (m ∷ ms) new e = DoesAll does old d ms m.0 m.1 × does m.0 new m.1 e
+
+abbrev pub DoesSome : {D : Type 0} → (Table → Table → D → D → Type 0) → Table → D → Table → D → Type 0
+DoesSome {D} does old d new e = (before : List (Table × D)) × DoesAll does old d before new e
+
+-- by what a connect, a call of a session and its hang-up do at the door
+module _ {D : Type 0} (connected : D → Result ℕ ConnectFault → D → Type 0)
+    (called : ℕ → D → Question → Reply → D → Type 0) (left : ℕ → D → D → Type 0) where
+  -- a session was connected, and is served under a key that was free
+  pub record Connects (old new : Table) (d e : D) : Type 0 where
+    pub key : ℕ
+    pub session : ℕ
+    pub free : old key ≡ None
+    pub connects : connected d (Ok session) e
+    pub puts : Puts old new key (Some session)
+
+  -- no session was connected, and who asked is served under no key
+  pub record Refuses (old new : Table) (d e : D) : Type 0 where
+    pub fault : ConnectFault
+    pub refuses : connected d (Err fault) e
+    pub same : old ≡ new
+
+  -- a session that is served was answered, frame by frame
+  pub record Converses (old new : Table) (d e : D) : Type 0 where
+    pub key : ℕ
+    pub session : ℕ
+    pub has : old key ≡ Some session
+    pub contents : List (List ℕ)
+    pub replies : List Reply
+    pub answers : AnswersAll (called session) d contents replies e
+    pub same : old ≡ new
+
+  -- a session that is served was hung up, and is served no more
+  pub record Leaves (old new : Table) (d e : D) : Type 0 where
+    pub key : ℕ
+    pub session : ℕ
+    pub has : old key ≡ Some session
+    pub leaves : left session d e
+    pub puts : Puts old new key None
+
+  abbrev pub Does : Table → Table → D → D → Type 0
+  Does old new d e = Connects old new d e ⊎ (Refuses old new d e ⊎ (Converses old new d e ⊎ Leaves old new d e))
+
+  -- Whatever the loop did where it posts nothing, it was one of these things behind the other.
+  abbrev pub Tends : Table → D → Table → D → Type 0
+  Tends old d new e = DoesSome Does old d new e
+
+-- by what a post does, too
+module _ {D : Type 0} (posted : ℕ → D → D → Type 0) (connected : D → Result ℕ ConnectFault → D → Type 0)
+    (called : ℕ → D → Question → Reply → D → Type 0) (left : ℕ → D → D → Type 0) where
+  abbrev pub DoesOrPosts : Table → Table → D → D → Type 0
+  DoesOrPosts old new d e = Does connected called left old new d e ⊎ Posts posted old new d e
+
+  -- Whatever the loop did, it was one of these things behind the other. So from nobody to nobody each session that was
+  -- connected was hung up, once, and only in between it was answered, and its calls were posted.
+  abbrev pub TendsPosting : Table → D → Table → D → Type 0
+  TendsPosting old d new e = DoesSome DoesOrPosts old d new e
+
+  -- the same from nobody to nobody, and nothing that was posted is left to be answered, if there was nothing
+  pub record HasTended (is_settled : D → Type 0) (d e : D) : Type 0 where
+    pub tends : TendsPosting nobody d nobody e
+    pub settled : is_settled d → is_settled e
+
+  -- of each door what a loop has made of it
+  abbrev pub HaveTended : (D → Type 0) → List D → List (Ended D) → Type 0
+  HaveTended is_settled doors ended =
+      (i : ℕ) (d : D) (e : Ended D) → i < length doors
+      → HasTended is_settled (slice_index_or doors i d) (slice_index_or ended i e).door
+
+  -- the same of what loops began with
+  abbrev pub SeedsHaveTended : (D → Type 0) → List (Seed D) → List (Ended D) → Type 0
+  SeedsHaveTended is_settled seeds ended =
+      (i : ℕ) (s : Seed D) (e : Ended D) → i < length seeds
+      → HasTended is_settled (slice_index_or seeds i s).door (slice_index_or ended i e).door

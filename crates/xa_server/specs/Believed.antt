@@ -1,0 +1,5 @@
+-- what must be believed (docs/BELIEVE.md)
+pub mod Served
+pub mod Serves
+pub mod Loops
+pub mod Watching
