@@ -218,15 +218,31 @@ def is_cut(file):
 MOST_GROUP = 262_144
 
 
-def left_out(file):
-    """Behind a log's records, of which there is one at least: how far behind their end records chain, behind one that is shown there, and their
-    bodies."""
-    bodies, at, before = chain_from(file, FIRST, hashlib.sha256(file[:FIRST]).digest())
+def as_written(file, at, before):
+    """The length with which a record was written that doesn't chain behind this digest: the first of those that differ from the one there in a
+    bit with which it does, of at most 524,288 bytes. Else it is the one there; and also where that is 0, or shows a longer record."""
     size = int.from_bytes(file[at : at + 4], "big")
-    end = at + 4 + size
-    if not bodies or not 0 < size <= MOST[file[:FIRST]] or len(file) < end + 32:
+    if size == 0 or MOST_OF_ONE < size <= MOST[file[:FIRST]] and len(file) >= at + AROUND + size:
+        return size
+    for tried in (size ^ 1 << bit for bit in reversed(range(32))):
+        end = at + 4 + tried
+        if 0 < tried <= MOST_OF_ONE and len(file) >= end + 32:
+            if file[end : end + 32] == hashlib.sha256(before + number(tried) + file[at + 4 : end]).digest():
+                return tried
+    return size
+
+
+def left_out(file):
+    """Behind a log's records, of which there is one at least: how far behind their end records chain, behind one that is shown there with the
+    length with which it was written, and their bodies."""
+    bodies, at, before = chain_from(file, FIRST, hashlib.sha256(file[:FIRST]).digest())
+    if not bodies:
         return 0, []
-    for digest in (file[end : end + 32], hashlib.sha256(before + file[at:end]).digest()):
+    size = as_written(file, at, before)
+    end = at + 4 + size
+    if not 0 < size <= MOST[file[:FIRST]] or len(file) < end + 32:
+        return 0, []
+    for digest in (file[end : end + 32], hashlib.sha256(before + number(size) + file[at + 4 : end]).digest()):
         left = chain_from(file, end + 32, digest)[0]
         if left:
             return end + 32 - at, left
@@ -284,7 +300,7 @@ def documented(page):
     whole, _, behind = page.partition("\n### The same log after a checkpoint")
     files, file = [], bytearray()
     for part in (whole.partition("\n### A whole log")[2], behind):
-        for at, text in re.findall(r"^ +(\d+)  ((?:[0-9a-f]{2} )*[0-9a-f]{2})(?:  |$)", part, re.M):
+        for at, text in re.findall(r"^ +(\d+)  ((?:(?:[0-9a-f]{2})+ )*(?:[0-9a-f]{2})+)(?:  |$)", part, re.M):
             piece = bytes.fromhex(text)
             file[int(at) : int(at) + len(piece)] = piece
         files.append(bytes(file))

@@ -6,7 +6,7 @@ import functools
 import itertools
 
 from damage import flipped, instead
-from logs import AROUND, BOOT, CLEARED, CLOSED, MOST_GROUP, ends, over, stops_short
+from logs import AROUND, BOOT, CLEARED, CLOSED, MOST_BODY, MOST_GROUP, MOST_OF_ONE, ends, over, stops_short
 from outcomes import KEYS, State, base, branch, bytes_of, ended, opened, printed, taken
 
 # How many branches are committed in one phase or prepared, of each pair the second one completed, and the bytes of a value.
@@ -97,12 +97,20 @@ def stale():
         yield taken(f"stale: {written} bytes of the last append are written", (file, bytes_of(second) + CLEARED), records)
 
 
+def is_longer(place, bit, begin):
+    """Whether a bit of the length at this byte makes the record a longer one than a window has room for, which the file has."""
+    _, file = pair()[0]
+    size = int.from_bytes(file[begin : begin + 4], "big") ^ 1 << 8 * (begin + 3 - place) + bit
+    return MOST_OF_ONE < size <= MOST_BODY and begin + AROUND + size <= len(file)
+
+
 def checks():
-    """By the rules alone: of some records, which of their bits are changed untold: those of the length, of one whose harms are told."""
+    """By the rules alone: of some records, which of their bits are changed untold: of one whose harms are told, those alone of its length that make
+    it longer than a window has room for."""
     _, file = pair()[0]
     for at in some():
         begin, end = places()[at], places()[at + 1]
         tried = [*itertools.product([*range(begin, begin + 5), *range(begin + 5, end, 61), end - 1], range(8))]
         found = [(place, bit) for place, bit in tried if not stops_short(flipped(file, place, bit))]
-        wanted = [(place, bit) for place, bit in tried if not is_told(at) or place < begin + 4]
+        wanted = [(place, bit) for place, bit in tried if not is_told(at) or place < begin + 4 and is_longer(place, bit, begin)]
         yield f"long: appended record {at}: the bits that are changed untold", found, wanted
