@@ -11,7 +11,7 @@ import java.util.regex.Pattern;
 
 /** The bytes of docs/CLIENT.md: what it says is sent is sent, and what it says is answered is answered. */
 final class PageTests implements Suite {
-    private static final Pattern LINE = Pattern.compile(" {4}([<>!]) ((?:[0-9a-f]{2} )*[0-9a-f]{2}(?= {2}|$))?.*");
+    private static final Pattern LINE = Pattern.compile(" {4}([<>!]) ((?:(?:[0-9a-f]{2})+ )*(?:[0-9a-f]{2})+(?= {2}|$))?.*");
     private static final int READ_TIMEOUT = 20_000;
     private static final int LEAST_ANSWERS = 19;
 
@@ -71,10 +71,10 @@ final class PageTests implements Suite {
     }
 
     private static byte[] parsed(String hexadecimal) {
-        String[] words = hexadecimal.split(" ");
-        byte[] bytes = new byte[words.length];
-        for (int i = 0; i < words.length; i++) {
-            bytes[i] = (byte) Integer.parseInt(words[i], 16);
+        String digits = hexadecimal.replace(" ", "");
+        byte[] bytes = new byte[digits.length() / 2];
+        for (int i = 0; i < bytes.length; i++) {
+            bytes[i] = (byte) Integer.parseInt(digits.substring(2 * i, 2 * i + 2), 16);
         }
         return bytes;
     }
