@@ -8,6 +8,7 @@
 //! - `talking`: `talk`, a script goes to a server; `server`: `Server`, one on 127.0.0.1 or at a path; `stream`: `Stream`, a
 //!   connection to it
 //! - `ticking`: `tick`, a server is told what the clock says; `Watch`, the clock and standard error
+//! - `shutting`: `shutdown`, a server is asked to end
 //! - `ending`: `ended`, `served`, `checked` and `words_fault`, the status of an end, and its line on standard error
 #![tactic(auto)]
 
@@ -21,6 +22,7 @@ mod playing;
 mod scanning;
 mod scanning_fault;
 mod server;
+mod shutting;
 mod stream;
 mod talking;
 mod ticking;
@@ -34,6 +36,7 @@ pub use playing::play;
 pub use scanning::scan;
 pub use scanning_fault::ScanningFault;
 pub use server::{Reach, Server};
+pub use shutting::shutdown;
 pub use stream::Stream;
 pub use talking::talk;
 pub use ticking::{Watch, tick};

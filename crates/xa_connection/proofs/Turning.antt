@@ -5,6 +5,7 @@ use Rattle.xa_frame.specs.declared.question.Question.{Question}
 use Rattle.xa_frame.specs.declared.question.Question.TheVariants.{Call, Status as AsksStatus}
 use Rattle.xa_frame.specs.declared.reply.Reply.{Reply}
 use Rattle.xa_frame.specs.Made.{bad_frame}
+use Rattle.xa_frame.specs.Questions.{SpellsQuestion}
 use Rattle.xa_desk.specs.declared.served.Served.{Served}
 use Rattle.xa_desk.specs.declared.served.Served.TheVariants as served
 use Rattle.xa_desk.specs.Believed.Frames.{frame}
@@ -13,11 +14,13 @@ use Rattle.xa_connection.specs.declared.answering.Answering.{Answering}
 use Rattle.xa_connection.specs.declared.answering.Answering.TheVariants.{Idle, Answered, Memory}
 use Rattle.xa_connection.specs.declared.connection.Connection.{Connection}
 use Rattle.xa_connection.specs.Fronts.{BeginsTooLong, BeginsWhole}
-use Rattle.xa_connection.specs.declared.asked.Asked.TheVariants.{One, Refused}
+use Rattle.xa_connection.specs.declared.asked.Asked.{Asked}
+use Rattle.xa_connection.specs.declared.asked.Asked.TheVariants as asks
+use Rattle.xa_connection.specs.declared.asked.Asked.TheVariants.{One, Refused, Shutdown}
 use Rattle.xa_connection.specs.declared.front.Front.{Front}
 use Rattle.xa_connection.specs.declared.front.Front.TheVariants as front
 use Rattle.xa_connection.specs.declared.front.Front.TheVariants.{Whole, Cut}
-use Rattle.xa_connection.specs.Calls.{AnswersFront, Asks, Holds, IsPut, IsReady, IsRefused, Replies, Turns}
+use Rattle.xa_connection.specs.Calls.{AnswersFront, Asks, AsksBy, Holds, IsPut, IsReady, IsRefused, Replies, Turns}
 use Rattle.xa_connection.proofs.Fronts.{begins_short}
 
 -- it goes on
@@ -35,6 +38,24 @@ pub content-is : (count : ℕ) (front input : List ℕ) → front ≡ input → 
 content-is count front input is =
     let same : 4 + count - 4 ≡ count = omega arith in
     ap (λ (n : ℕ). take n (drop 4 front)) same ∙ ap (λ (bs : List ℕ). take count (drop 4 bs)) is
+
+-- what the content of a frame at the front asks for
+pub asks-by : (c : Connection) (count : ℕ) (content : List ℕ) (asked : Asked) → IsReady c → BeginsWhole c.input count
+    → content ≡ take count (drop 4 c.input) → AsksBy count content asked → Asks c asked
+asks-by c count content asks.Idle ready begins is h = absurd h
+asks-by c count content (One n q) ready begins is (same, spells) =
+    let said : content ≡ take n (drop 4 c.input) = is ∙ ap (λ (k : ℕ). take k (drop 4 c.input)) (sym same) in
+    (ready, subst (λ (k : ℕ). BeginsWhole c.input k) (sym same) begins, subst (λ (bs : List ℕ). SpellsQuestion bs q) said spells)
+asks-by c count content (Refused (Whole n) reply) ready begins is (same, refused, other) =
+    let said : content ≡ take n (drop 4 c.input) = is ∙ ap (λ (k : ℕ). take k (drop 4 c.input)) (sym same) in (
+      ready,
+      subst (λ (k : ℕ). BeginsWhole c.input k) (sym same) begins,
+      subst (λ (bs : List ℕ). IsRefused bs reply) said refused,
+      λ shut. other (said ∙ shut),
+    )
+asks-by c count content (Refused front.TooLong reply) ready begins is h = absurd h
+asks-by c count content (Refused Cut reply) ready begins is h = absurd h
+asks-by c count content Shutdown ready begins is h = (ready, (count, begins, sym is ∙ h))
 
 -- what is at the front was answered, and the reply was put
 turns-put : {D : Type 0} (called : D → Question → Reply → D → Type 0) (c x c' : Connection) (d e : D) (answering : Answering) (reply : Reply)
@@ -91,7 +112,7 @@ turns-called called c c' d e answering count AsksStatus reply (ready, begins, sp
 -- what is at the front reached no door, and was replied to
 pub turns-refused : {D : Type 0} (called : D → Question → Reply → D → Type 0) (c c' : Connection) (d : D) (answering : Answering) (front : Front) (reply : Reply)
     → Asks c (Refused front reply) → Replies c front reply answering c' → Turns called c d answering c' d
-turns-refused called c c' d answering (Whole count) reply (ready, begins, refused) h =
+turns-refused called c c' d answering (Whole count) reply (ready, begins, refused, other) h =
     let content : List ℕ = take count (drop 4 c.input) in
     turns-frame called c c' d d answering count content (drop (4 + count) c.input) reply ready begins refl (refused-answers called d content reply refused) refl h
 turns-refused called c c' d answering front.TooLong reply (ready, begins, bad) h = turns-length called c c' d answering reply ready begins bad h

@@ -1,5 +1,6 @@
 -- What each call does to a connection.
 use Rattle.std.specs.Prelude.{ℕ, ◌≡◌, ◌≢◌, ◌⊎◌, ◌+◌, ◌-◌, List, [], ◌∷◌, ◌++◌, length, take, drop, min, Option, Some, None, IsSome}
+use Rattle.xa_control.specs.Shutdown.{shutdown_content}
 use Rattle.xa_frame.specs.declared.question.Question.{Question}
 use Rattle.xa_frame.specs.declared.question.Question.TheVariants as question
 use Rattle.xa_frame.specs.declared.status.Status.{Status}
@@ -19,7 +20,7 @@ use Rattle.xa_connection.specs.declared.connection.Connection.{Connection}
 use Rattle.xa_connection.specs.declared.connection.TheConstants.{MOST_INPUT}
 use Rattle.xa_connection.specs.declared.asked.Asked.{Asked}
 use Rattle.xa_connection.specs.declared.asked.Asked.TheVariants as asked
-use Rattle.xa_connection.specs.declared.asked.Asked.TheVariants.{One, Refused}
+use Rattle.xa_connection.specs.declared.asked.Asked.TheVariants.{One, Refused, Shutdown}
 use Rattle.xa_connection.specs.declared.front.Front.{Front}
 use Rattle.xa_connection.specs.declared.front.Front.TheVariants as front
 use Rattle.xa_connection.specs.declared.front.Front.TheVariants.{Whole, Cut}
@@ -51,6 +52,10 @@ IsReady c = (c.end ≡ None) × (c.output ≡ [])
 abbrev pub IsIdle : Connection → Type 0
 IsIdle c = IsSome c.end ⊎ ((c.output ≢ []) ⊎ IsCut c.input)
 
+-- a frame is at the front that asks the server to end
+abbrev pub AsksToEnd : List ℕ → Type 0
+AsksToEnd input = (count : ℕ) × BeginsWhole input count × (take count (drop 4 input) ≡ shutdown_content)
+
 -- what is at the front is owed this reply: a content, which is taken with its length; or a length that is too great,
 -- which stays, and behind whose reply it is to end
 abbrev pub AnswersFront : {D : Type 0} → (D → Question → Reply → D → Type 0) → Connection → D → Reply → Option Served → List ℕ → D → Type 0
@@ -59,9 +64,9 @@ AnswersFront called c d reply end input e =
     × (end ≡ None))
     ⊎ (BeginsTooLong c.input × (input ≡ c.input) × (e ≡ d) × (reply ≡ bad_frame) × (end ≡ Some served.TooLong))
 
--- an answer: one reply was owed, and is to be sent, or found no memory
+-- an answer: one reply was owed, and is to be sent, or found no memory; none is owed where the server is asked to end
 abbrev pub Turns : {D : Type 0} → (D → Question → Reply → D → Type 0) → Connection → D → Answering → Connection → D → Type 0
-Turns called c d Idle c' e = IsIdle c × (c' ≡ c) × (e ≡ d)
+Turns called c d Idle c' e = (IsIdle c ⊎ AsksToEnd c.input) × (c' ≡ c) × (e ≡ d)
 Turns called c d Answered c' e =
     IsReady c × (reply : Reply) × AnswersFront called c d reply c'.end c'.input e × (c'.output ≡ reply_frame reply)
 Turns called c d Memory c' e =
@@ -74,20 +79,30 @@ IsRefused content reply =
     ((f : FrameFault) × (f ≢ faults.Memory) × (fault_of_question content ≡ Some f) × (reply ≡ bad_frame))
     ⊎ ((fault_of_question content ≡ None) × (reply ≡ without_memory))
 
--- what the front asks for: the question that the content of a frame spells, or nothing of a door
+-- what a content asks for, of so many bytes: that the server end, or the question that it spells, or nothing of a door
+abbrev pub AsksBy : ℕ → List ℕ → Asked → Type 0
+AsksBy count content (One n q) = (n ≡ count) × SpellsQuestion content q
+AsksBy count content (Refused (Whole n) reply) = (n ≡ count) × IsRefused content reply × (content ≢ shutdown_content)
+AsksBy count content Shutdown = content ≡ shutdown_content
+AsksBy count content _ = ⊥
+
+-- what the front asks for: what the content of a frame does, or nothing of a door
 abbrev pub Asks : Connection → Asked → Type 0
 Asks c asked.Idle = IsIdle c
 Asks c (One count q) = IsReady c × BeginsWhole c.input count × SpellsQuestion (take count (drop 4 c.input)) q
 Asks c (Refused (Whole count) reply) =
     IsReady c × BeginsWhole c.input count × IsRefused (take count (drop 4 c.input)) reply
+    × (take count (drop 4 c.input) ≢ shutdown_content)
 Asks c (Refused front.TooLong reply) = IsReady c × BeginsTooLong c.input × (reply ≡ bad_frame)
 Asks c (Refused Cut reply) = ⊥
+Asks c Shutdown = IsReady c × AsksToEnd c.input
 
 -- what is asked is within the limits
 abbrev pub IsAsked : Asked → Type 0
 IsAsked asked.Idle = Unit {0}
 IsAsked (One count q) = IsQuestion q
 IsAsked (Refused front reply) = IsReply reply
+IsAsked Shutdown = Unit {0}
 
 -- the door answered a question: of how it is doing it told, and stayed as it was
 abbrev pub IsPut : {D : Type 0} → (D → Question → Reply → D → Type 0) → D → Question → Reply → D → Type 0

@@ -1,7 +1,8 @@
 /// What an answer came to.
 #[derive(Clone, Copy, Debug, PartialEq, Eq)]
 pub enum Answering {
-    /// There is nothing to answer now: no whole frame came in, a reply is to be sent first, or the connection is to end.
+    /// There is nothing to answer now: no whole frame came in, a reply is to be sent first, the connection is to end, or the
+    /// server is.
     Idle,
     /// A frame was answered, and its reply is to be sent; or a length that is too great was.
     Answered,

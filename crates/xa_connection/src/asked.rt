@@ -10,4 +10,6 @@ pub enum Asked {
     One(usize, Question),
     /// Nothing of a door: this is at the front, and this reply is owed to it.
     Refused(Front, Reply),
+    /// That the server end, which nobody answers: it stays at the front.
+    Shutdown,
 }

@@ -1,6 +1,6 @@
-ghost use Rattle.std.specs.Prelude.{◌≡◌, ◌↔◌, [], drop, IfOk, IfErr, OnErr, IsSome, IsTrue};
+ghost use Rattle.std.specs.Prelude.{◌≡◌, ◌↔◌, [], drop, length, IfOk, IfErr, OnErr, IsSome, IsTrue};
 ghost use Rattle.xa_frame.specs.{Limits.IsReply, Questions.IsQuestion, Questions.SpellsQuestion};
-ghost use Rattle.xa_connection.specs.Calls.{Asks, Feeds, IsAsked, IsPut, IsRefused, Replies, Turns, new_connection, room_of};
+ghost use Rattle.xa_connection.specs.Calls.{Asks, AsksBy, Feeds, IsAsked, IsPut, IsRefused, Replies, Turns, new_connection, room_of};
 ghost use Rattle.xa_connection.specs.Fronts.{IsInsideFrame, IsShortFront};
 
 use crate::answering::Answering;
@@ -9,6 +9,7 @@ use crate::buffer::Buffer;
 use crate::front::{Front, front_of};
 use std::alloc::{AllocError, Global};
 use xa_codes::{Detail, XAER_RMFAIL};
+use xa_control::is_shutdown;
 use xa_desk::{Door, Served};
 use xa_frame::{Body, FrameFault, Question, Reply, decode_question};
 use xa_limits::MOST_CONTENT;
@@ -78,7 +79,7 @@ impl Connection {
         ensures { Turns (D.called session) self.old door.old result self.new door.new }
     {
         match asked {
-            Asked::Idle => Answering::Idle,
+            Asked::Idle | Asked::Shutdown => Answering::Idle,
             Asked::One(count, question) => {
                 let reply = put_to(door, session, question);
                 self.reply(Front::Whole(count), &reply)
@@ -99,10 +100,7 @@ impl Connection {
         match front_of(input) {
             Front::Cut => Asked::Idle,
             Front::TooLong => Asked::Refused(Front::TooLong, Reply::bad_frame()),
-            Front::Whole(count) => match question_of(alloc, &input[4..4 + count]) {
-                Ok(question) => Asked::One(count, question),
-                Err(reply) => Asked::Refused(Front::Whole(count), reply),
-            },
+            Front::Whole(count) => asked_by(alloc, count, &input[4..4 + count]),
         }
     }
 
@@ -165,6 +163,21 @@ impl Connection {
         ensures { IsTrue result ↔ (IsSome self.now.end × (self.now.output ≡ [])) }
     {
         self.is_closing() && self.output.len() == 0
+    }
+}
+
+// What a content of so many bytes at the front asks for.
+fn asked_by(alloc: Global, count: usize, content: &[u8]) -> Asked
+    requires { count ≡ length content.now }
+    ensures asks { AsksBy count content.now result }
+    ensures limits { IsAsked result }
+{
+    if is_shutdown(content) {
+        return Asked::Shutdown;
+    }
+    match question_of(alloc, content) {
+        Ok(question) => Asked::One(count, question),
+        Err(reply) => Asked::Refused(Front::Whole(count), reply),
     }
 }
 

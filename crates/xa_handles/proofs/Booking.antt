@@ -2,6 +2,7 @@
 use Rattle.std.proofs.Common.{◌≡◌, ◌∙◌, ℕ, ◌+◌, List, [], ◌∷◌, ◌++◌, length, map, refl, sym, ap, append-nil}
 use Rattle.std.proofs.lemmas.List.{length-map, map-append}
 use Rattle.xa_frame.specs.declared.reply.Reply.{Reply}
+use Rattle.xa_handles.specs.Believed.Shared.{HoldsAt}
 use Rattle.xa_handles.specs.Believed.Standing.{HasBook, shown}
 use Rattle.xa_model.specs.State.{State}
 use Rattle.xa_model.specs.declared.event.Event.{Event}
@@ -9,7 +10,8 @@ use Rattle.xa_history.specs.Believed.Book.{receipt_of}
 use Rattle.xa_history.specs.declared.entry.Entry.{Entry}
 use Rattle.xa_history.specs.declared.manages.Manages.{Ghosts}
 use Rattle.xa_sequencer.specs.Believed.Numbers.{Adds}
-use Rattle.xa_sequencer.specs.Believed.Stands.{GoesOn, HasHistory, Numbered, Stands}
+use Rattle.xa_sequencer.specs.Believed.Stands.{AllPromise, GoesOn, HasHistory, Numbered, Stands}
+use Rattle.xa_tokens.specs.Believed.Account.{Account, IsWithin}
 use Rattle.xa_tokens.specs.declared.ask.Ask.{Ask}
 use Rattle.xa_tokens.specs.declared.receipt.Receipt.{Receipt}
 use Rattle.xa_tokens.specs.Believed.Receipts as tokens
@@ -57,3 +59,15 @@ module _ {M : Type 0} (m : Ghosts M) (start : State → Type 0) (base : ℕ × �
   pub next_place : (old new : Numbered M) (history : List Receipt) (event : Event) (reply : Reply) → Adds m start base old event reply new
       → HasBook m start base old history → reply.place ≡ length history + 1
   next_place old new history event reply added book = added.place ∙ ap (λ n. n + 1) (counts old history book)
+
+  -- at a moment, by what was told of it
+  pub holds_at : (c : Numbered M) (receipts : List Receipt) (a : Account) → HasBook m start base c receipts → AllPromise m start base c
+      → IsWithin receipts a → HoldsAt m start base c a
+  holds_at c receipts a book promise within = record {
+    entries = book.entries;
+    receipts = receipts;
+    stands = book.stands;
+    promises = promise book.entries book.stands;
+    are = book.same;
+    within = within;
+  }

@@ -3,7 +3,7 @@ ghost use Rattle.xa_assoc.specs.Refusals.{is_memory};
 ghost use Rattle.xa_frame.specs.Limits.{IsReply};
 ghost use Rattle.xa_handles.specs.Believed.Accounts.{Ends};
 ghost use Rattle.xa_handles.specs.Mail.{IsCall, put_at};
-ghost use Rattle.xa_handles.specs.Believed.Shared.{ConnectedBy, DidCall, IsTold, LeftBy};
+ghost use Rattle.xa_handles.specs.Believed.Shared.{ConnectedBy, DidCall, HoldsAt, IsTold, LeftBy};
 ghost use Rattle.xa_handles.specs.Believed.Standing.{HasBook, KeepsMail, LeavesMail, TellsMail};
 ghost use Rattle.xa_sequencer.specs.Associates.{AssociatedBy, EndedBy};
 ghost use Rattle.xa_sequencer.specs.Believed.Stands.{Stands};
@@ -24,7 +24,7 @@ use xa_history::{Start, is_memory, placed};
 use xa_manager::{Asked, connect_reply};
 use xa_model::Event;
 use xa_sequencer::{GroupCommits, Sequencer};
-use xa_tokens::{Ask, Book, Keeper, Posted, Tokens};
+use xa_tokens::{Ask, Book, Keeper, Posted, Share, Tokens};
 
 /// What lies under the lock: a sequencer, the keeper of its history, and the letters that were taken out of the mailbox.
 #[derive(Drop)]
@@ -280,6 +280,15 @@ impl<M: GroupCommits, S: Start, B: Book> Locked<M, S, B> {
         ensures rest { (self.new.at ≡ self.old.at) × (self.new.history ≡ self.old.history) × (self.new.letters ≡ self.old.letters) }
     {
         self.trays.take(tray)
+    }
+
+    /// What holds of the history and of a share. It changes nothing.
+    pub(crate) fn look(&mut self, tokens: &Tokens<B>, share: Share<B>) -> Share<B>
+        ensures holds { HoldsAt M.manages S.start S.base self.old.at share }
+        ensures same { (self.new ≡ self.old) × (result ≡ share) }
+    {
+        self.sequencer.promises();
+        tokens.look(&mut self.keeper, share)
     }
 
     pub(crate) fn status(&self) -> Status

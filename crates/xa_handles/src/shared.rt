@@ -1,6 +1,6 @@
 ghost use Rattle.std.specs.Prelude.{◌≡◌, ◌≢◌, ◌-◌, ◌<◌, [], None};
-ghost use Rattle.xa_handles.specs.Believed.Shared.{IsWhole};
-ghost use Rattle.xa_sequencer.specs.Believed.Stands.{Stands};
+ghost use Rattle.xa_handles.specs.Believed.Shared.{HoldsAt, IsWhole};
+ghost use Rattle.xa_sequencer.specs.Believed.Stands.{Numbered, Stands};
 ghost use Rattle.xa_tokens.specs.Believed.Account.{Owes, account, merged};
 ghost use Rattle.xa_tokens.specs.Believed.View.{all_parts};
 
@@ -174,6 +174,15 @@ impl<M: GroupCommits, S: Start, B: Book> SharedSequencer<M, S, B> {
         self.syncing.store(0, Ordering::SeqCst);
         self.answered.notify_all();
         held
+    }
+
+    /// At any moment, also while others ask and groups are pending: what has been carried out is a legal history, with what
+    /// that promises, and what a share was told is in it. It waits for the lock, and changes nothing.
+    pub fn look<R: Wait>(&self, rt: &R, share: Share<B>) -> Share<B>
+        ensures holds { (c : Numbered M) × HoldsAt M.manages S.start S.base c share }
+        ensures same { result ≡ share }
+    {
+        take(rt, &self.lock).look(&self.tokens, share)
     }
 
     /// The sequencer. Its history is what the share of all parts was told, each entry once, since that owes nothing.

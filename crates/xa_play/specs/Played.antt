@@ -12,7 +12,7 @@ use Rattle.xa_manager.specs.declared.manager.Manager.{Manager}
 use Rattle.xa_manager.specs.Believed.Parts.{log_of}
 use Rattle.xa_xid.specs.Triple.{Triple}
 use Rattle.xa_script.specs.declared.line.Line.{Line}
-use Rattle.xa_script.specs.declared.line.Line.TheVariants.{Silent, Unknown, Connect, Hangup, Call, Status, Fail, Stop, Reopen, Crash}
+use Rattle.xa_script.specs.declared.line.Line.TheVariants.{Silent, Unknown, Connect, Hangup, Call, Status, Shutdown, Fail, Stop, Reopen, Crash}
 use Rattle.xa_script.specs.declared.log_file.LogFile.{LogFile}
 use Rattle.xa_output.specs.Output.{IsPart}
 use Rattle.xa_script.specs.Lines as lines
@@ -20,7 +20,7 @@ use Rattle.xa_script.specs.Replies as replies
 use Rattle.xa_script.specs.Requests.{ReadsTexts}
 use Rattle.xa_play.specs.Runs.{Run, IsRun, IsLawful}
 use Rattle.xa_play.specs.Disks.{StandsFor, Answered, Planned, Stopped, CrashesTo, OpenedOn, first_seen, second_seen, seen}
-use Rattle.xa_play.specs.Plays.{PlaysLine, CutsLine, IsOpening, Prints, lines_of, told_status}
+use Rattle.xa_play.specs.Plays.{PlaysLine, CutsLine, IsOpening, Prints, lines_of, told_end, told_status}
 use Rattle.xa_play.specs.declared.fault.PlayFault.{PlayFault}
 use Rattle.xa_play.specs.declared.fault.PlayFault.TheVariants as faults
 
@@ -56,6 +56,10 @@ ReplyEnds (Err _) answer text = ⊥
 abbrev pub Tells : Manager MemDisk → ℕ → ℕ → ℕ → Reply → Type 0
 Tells m n versions calls reply = (s : State) → StandsFor m s → reply ≡ told_status s n versions calls
 
+-- the same of what asks a server to end
+abbrev pub TellsEnd : Manager MemDisk → ℕ → Reply → Type 0
+TellsEnd m n reply = (s : State) → StandsFor m s → reply ≡ told_end s n
+
 -- over the settings
 module _ (name : List ℕ) (log_bytes : ℕ) where
   -- the manager was opened on what a crash left of its disks
@@ -74,6 +78,7 @@ module _ (name : List ℕ) (log_bytes : ℕ) where
       IsAsked request × IsSomeAnd answer (λ reply. Answered m (event.Call n request) reply m')
   LineAnswered m (Status n) answer m' =
       (versions : ℕ) × (calls : ℕ) × IsSomeAnd answer (λ reply. Tells m n versions calls reply) × (m' ≡ m)
+  LineAnswered m (Shutdown n) answer m' = IsSomeAnd answer (λ reply. TellsEnd m n reply) × (m' ≡ m)
   LineAnswered m (Fail file call effect) answer m' = (answer ≡ None) × Planned (Ok tt) file call effect m m'
   LineAnswered m (Stop file call) answer m' = (answer ≡ None) × Stopped file call m m'
   LineAnswered m Reopen answer m' =

@@ -5,7 +5,7 @@ ghost use Rattle.xa_model.specs.Events.{IsAsked};
 ghost use Rattle.xa_script.specs.Lines as lines;
 ghost use Rattle.xa_manager.specs.Believed.Opening.{IsBadSetting};
 ghost use Rattle.xa_play.specs.Disks.{Answered, Planned, Stopped};
-ghost use Rattle.xa_play.specs.Played.{AnswerFails, LineAnswered, Tells};
+ghost use Rattle.xa_play.specs.Played.{AnswerFails, LineAnswered, Tells, TellsEnd};
 ghost use Rattle.xa_manager.specs.Status.{versions_of};
 
 use crate::fault::PlayFault;
@@ -50,6 +50,10 @@ pub fn answer(
         }
         Line::Status(session) => {
             let reply = status(&manager, session, calls);
+            Ok((manager, Some(reply)))
+        }
+        Line::Shutdown(session) => {
+            let reply = shutdown(&manager, session);
             Ok((manager, Some(reply)))
         }
         Line::Fail { file, call, effect } => {
@@ -105,6 +109,17 @@ fn status(manager: &Manager<MemDisk>, session: u64, calls: u64) -> Reply
             calls,
             ..manager.status()
         }))
+    } else {
+        Reply::plain(XAER_PROTO)
+    }
+}
+
+/// What asks a server to end is answered to a session that is connected, since there is no server.
+fn shutdown(manager: &Manager<MemDisk>, session: u64) -> Reply
+    ensures { TellsEnd manager.now session result }
+{
+    if manager.has_session(session) {
+        Reply::plain(XA_OK)
     } else {
         Reply::plain(XAER_PROTO)
     }

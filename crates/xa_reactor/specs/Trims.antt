@@ -1,5 +1,5 @@
 -- When the log is trimmed.
-use Rattle.std.specs.Prelude.{ℕ, ◌≡◌, ◌-◌, ◌/◌, min, Bool, true, false, ◌&&◌, ◌||◌, nat_lt, nat_le, Option, Some, None, if◌then◌else◌}
+use Rattle.std.specs.Prelude.{ℕ, ◌≡◌, ◌-◌, ◌/◌, min, Bool, true, false, ◌&&◌, ◌||◌, nat_lt, nat_le, Option, Some, None, is_none, if◌then◌else◌}
 use Rattle.xa_reactor.specs.declared.common.Settings.{Settings}
 use Rattle.xa_reactor.specs.declared.trims.Refused.{Refused}
 use Rattle.xa_reactor.specs.declared.trims.TheConstants.{REST}
@@ -30,6 +30,10 @@ is_to_trim trims settings now end =
     nat_lt 0 settings.trim_bytes
     && is_due end trims.base (bound_of settings.trim_bytes settings.log_bytes) settings.log_bytes
     && may_try trims.refused now end
+
+-- none was refused, and the log grew by a MiB since the last snapshot
+abbrev pub has_grown : Trims → ℕ → Bool
+has_grown trims end = is_none trims.refused && nat_le 1048576 (end - trims.base)
 
 -- no end was seen
 abbrev pub new_trims : Trims

@@ -1,6 +1,8 @@
 //! What a loop does between its rounds.
 ghost use Rattle.std.specs.Prelude.{◌≡◌, IfOk, IfSome};
-ghost use Rattle.xa_reactor.specs.{Accepting.most_of, Believed.Tending.Tends, Believed.Tending.sessions_of};
+ghost use Rattle.xa_reactor.specs.{Accepting.most_of, Aside.IsAside, Believed.Tending.Tends};
+ghost use Rattle.xa_reactor.specs.Believed.Tending.{sessions_of};
+ghost use Rattle.xa_reactor.specs.declared.trimming.TheConstants.{TRIM};
 
 use crate::acceptor::Acceptor;
 use crate::clock::LoopClock;
@@ -10,6 +12,7 @@ use crate::peers::Peers;
 use crate::reception::Reception;
 use crate::round::Round;
 use crate::timing::wait_of;
+use crate::trimming::trim_last;
 use mio::Poll;
 use std::io;
 use std::rt::Clock;
@@ -111,6 +114,24 @@ pub(crate) fn tell<R: Eprint>(rt: &R, common: &Common<'_>) {
     let _ = eprintln!(rt; "xarm: manager down until a Restart or a restart of the server: {cause}");
     if common.settings.ends_when_down {
         common.stop();
+    }
+}
+
+/// Stops all loops, where a connection asked the server to end: no more is taken in of any, and what was asked is answered
+/// by then. The log is trimmed, where that is quick.
+pub(crate) fn stop<D: Reception, R: AllocGlobal + Clock + Eprint + Wait>(
+    rt: &R,
+    common: &Common<'_>,
+    peers: &Peers,
+    door: &mut D,
+    now: u64,
+)
+    ensures { IsAside D.connected D.called D.left TRIM door.old door.new }
+{
+    if peers.is_to_stop() {
+        common.stop();
+        let _ = eprintln!(rt; "xarm: shutdown");
+        trim_last(rt, common, door, now);
     }
 }
 

@@ -8,6 +8,7 @@ use crate::listener::Listener;
 use crate::mailbox::Mailbox;
 use crate::noticing::WAKER;
 use crate::reception::Reception;
+use crate::socket::Socket;
 use crate::tending::tend;
 use crate::watch::Watch;
 use mio::{Poll, Waker};
@@ -53,12 +54,14 @@ struct Seed<D> {
     door: D,
 }
 
-/// What a loop ended with: its door, whether it could wait for events to the end, and what was asked of it.
+/// What a loop ended with: its door, whether it could wait for events to the end, what was asked of it, and the connection
+/// that asked the server to end, if it came to this loop: it is closed as this is dropped.
 #[derive(Debug, Drop)]
 pub struct Ended<D> {
     pub door: D,
     pub is_whole: bool,
     pub settings: Settings,
+    pub stopper: Option<Socket>,
 }
 
 /// Serves the connections of a listener by a loop for each door, each in a thread of its own, or not at all where no
@@ -122,11 +125,12 @@ fn run_loop<D: Reception, R: AllocGlobal + Clock + Eprint + Wait>(
         poll,
         mut door,
     } = seed;
-    let is_whole = tend(rt, common, index, poll, &mut door);
+    let (is_whole, stopper) = tend(rt, common, index, poll, &mut door);
     Ended {
         door,
         is_whole,
         settings: common.settings,
+        stopper,
     }
 }
 

@@ -1,4 +1,4 @@
-ghost use Rattle.std.specs.Prelude.{◌≡◌, ◌-◌, ◌↔◌, IsTrue};
+ghost use Rattle.std.specs.Prelude.{◌≡◌, ◌-◌, ◌↔◌, IsTrue, if◌then◌else◌};
 ghost use Rattle.xa_connection.specs.Calls.{Asks, IsAsked, Turns, new_connection};
 ghost use Rattle.xa_connection.specs.declared.answering.Answering.{Answering};
 ghost use Rattle.xa_reactor.specs.{Asking.IsAnswered, Opening.Opens, Timing.IsRead, Timing.after_wait};
@@ -47,6 +47,8 @@ pub(crate) enum Step {
     Goes,
     /// The connection is over.
     Ends,
+    /// It asked the server to end.
+    Stops,
 }
 
 /// What a turn comes to that is opened.
@@ -111,8 +113,10 @@ impl Peer {
             return Step::Ends;
         }
         let asked = self.connection.asked(round.alloc);
+        let stops = asks_to_end(&asked);
         self.answer(clock, door, asked);
-        self.send(rt, round, clock, key)
+        let step = self.send(rt, round, clock, key);
+        stop_or(stops, step)
     }
 
     /// A turn up to a request, which is answered together with those of other connections, by the connection that is lent
@@ -146,8 +150,10 @@ impl Peer {
                 })
             }
             asked => {
+                let stops = asks_to_end(&asked);
                 self.answer(clock, door, asked);
-                Opened::Over(self.send(rt, round, clock, key))
+                let step = self.send(rt, round, clock, key);
+                Opened::Over(stop_or(stops, step))
             }
         }
     }
@@ -288,6 +294,12 @@ impl Peer {
         }
     }
 
+    /// The socket.
+    pub(crate) fn into_socket(self) -> Socket {
+        let Peer { socket, .. } = self;
+        socket
+    }
+
     /// Whether it owes the rest of a frame, and is owed nothing itself: while a reply isn't sent nothing is read of it.
     pub(crate) fn is_inside_frame(&self) -> bool
         ensures { IsTrue result ↔ OwesFrame self.now.connection }
@@ -306,6 +318,18 @@ impl Peer {
     fn is_asked(&self) -> bool {
         self.connection.room() < MOST_INPUT && !self.connection.is_inside_frame()
     }
+}
+
+// Whether the server is asked to end.
+fn asks_to_end(asked: &Asked) -> bool {
+    matches!(asked, Asked::Shutdown)
+}
+
+// What comes behind a turn that was asked to stop the server, or else this.
+fn stop_or(stops: bool, step: Step) -> Step
+    ensures { result ≡ if stops then Step.Stops else step }
+{
+    if stops { Step::Stops } else { step }
 }
 
 // Whether a read or a write that failed so may go on later.

@@ -26,6 +26,8 @@ pub(crate) struct Peers {
     pub(crate) all: Slab<Peer>,
     /// The keys of those that have a turn next, in their order.
     queue: VecDeque<usize>,
+    /// The key of one that asked the server to end.
+    stopper: Option<usize>,
 }
 
 impl Peers {
@@ -35,6 +37,7 @@ impl Peers {
         Peers {
             all: Slab::new(alloc),
             queue: VecDeque::new(alloc),
+            stopper: None,
         }
     }
 
@@ -175,6 +178,10 @@ impl Peers {
             Step::Waits => false,
             Step::Goes => self.queue.push_back(key).is_err(),
             Step::Ends => true,
+            Step::Stops => {
+                self.stopper = Some(key);
+                false
+            }
         };
         if ends {
             end_in(&mut self.all, door, key);
@@ -188,6 +195,18 @@ impl Peers {
         for key in 0..self.all.capacity() {
             end_if_overdue(&mut self.all, door, key, now, settings);
         }
+    }
+
+    /// Whether one of them asked the server to end.
+    pub(crate) fn is_to_stop(&self) -> bool {
+        self.stopper.is_some()
+    }
+
+    /// Hangs the session of one that asked the server to end up; its socket stays open until it is dropped.
+    pub(crate) fn part_stopper<D: Reception>(&mut self, door: &mut D) -> Option<Socket>
+        ensures { Tends D.connected D.called D.left (sessions_of self.old.all) door.old (sessions_of self.new.all) door.new }
+    {
+        part_in(&mut self.all, door, self.stopper?)
     }
 
     /// Ends all of them.
@@ -276,6 +295,15 @@ fn is_to_end<D: Reception>(
         return true;
     }
     is_too_quiet(quiet, settings.idle_seconds) && !door.has_association(session)
+}
+
+// Hangs the session of the connection under this key up, if there is one, and gives its socket.
+fn part_in<D: Reception>(all: &mut Slab<Peer>, door: &mut D, key: usize) -> Option<Socket>
+    ensures { Tends D.connected D.called D.left (sessions_of all.old) door.old (sessions_of all.new) door.new }
+{
+    let peer = all.try_remove(key)?;
+    door.hangup(peer.session);
+    Some(peer.into_socket())
 }
 
 // Ends the connection under this key, if there is one, and hangs its session up.

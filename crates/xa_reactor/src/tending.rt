@@ -6,13 +6,14 @@ ghost use Rattle.xa_reactor.specs.Believed.Tending.{HasTended, TendsPosting, ses
 ghost use Rattle.xa_reactor.specs.Together.{HasLent, IsOver};
 
 use crate::acceptor::Acceptor;
-use crate::beside::{accept, begin, goes_on, look, take_in, tell, wait_for};
+use crate::beside::{accept, begin, goes_on, look, stop, take_in, tell, wait_for};
 use crate::clock::LoopClock;
 use crate::common::Common;
 use crate::noticing::{note_all, notice_all};
 use crate::peers::Peers;
 use crate::reception::Reception;
 use crate::round::Round;
+use crate::socket::Socket;
 use crate::timing::{FEW_EVENTS, GATHERS, gather_wait, looks_of};
 use crate::tools::{Tools, give_each};
 use crate::trimming::{begin_trims, keep_short};
@@ -27,14 +28,15 @@ use std::time::Duration;
 const MOST_EVENTS: usize = 256;
 
 /// Serves the connections that are handed to a loop, at a door, until no more come, or all loops are stopped. The first
-/// loop that begins accepts them. Whether nothing failed; else all loops are stopped.
+/// loop that begins accepts them. Whether nothing failed, else all loops are stopped; and the connection that asked the
+/// server to end, if one of them did.
 pub(crate) fn tend<D: Reception, R: AllocGlobal + Clock + Eprint + Wait>(
     rt: &R,
     common: &Common<'_>,
     index: usize,
     poll: Poll,
     door: &mut D,
-) -> bool
+) -> (bool, Option<Socket>)
     ensures { HasTended D.posted D.connected D.called D.left D.is_settled door.old door.new }
 {
     let mut peers = Peers::new(rt.alloc());
@@ -43,8 +45,9 @@ pub(crate) fn tend<D: Reception, R: AllocGlobal + Clock + Eprint + Wait>(
         common.stop();
     }
     common.leave(peers.len() as u64);
+    let stopper = peers.part_stopper(door);
     peers.end_all(door);
-    is_whole
+    (is_whole, stopper)
 }
 
 // Rounds behind one another.
@@ -138,6 +141,7 @@ impl Loop {
         let round = Round::new(&self.poll, rt.alloc());
         take_in(rt, common, self.index, round, &mut self.clock, peers, door);
         tell(rt, common);
+        stop(rt, common, peers, door, now);
         Ok(goes_on(common, is_over, peers))
     }
 

@@ -66,6 +66,30 @@ pub(crate) fn keep_short<D: Reception, R: AllocGlobal + Clock + Eprint + Wait>(
     }
 }
 
+/// The most bytes of a log that is trimmed as the server ends: it takes less than a second.
+const QUICK: u64 = 67_108_864;
+
+/// Trims the log as the server ends, where that is quick and makes it shorter: so the next start reads less.
+pub(crate) fn trim_last<D: Reception, R: AllocGlobal + Clock + Eprint + Wait>(
+    rt: &R,
+    common: &Common<'_>,
+    door: &mut D,
+    now: u64,
+)
+    ensures { IsAside D.connected D.called D.left TRIM door.old door.new }
+{
+    if common.settings.trim_bytes == 0 || common.watch.is_down() {
+        return;
+    }
+    let Some(mut trims) = common.trims.try_lock() else {
+        return;
+    };
+    let end = door.log_end();
+    if end <= QUICK && trims.has_grown(end) {
+        trim(rt, door, &mut trims, now, end);
+    }
+}
+
 // Whether to ask for the log's end, so many calls after it was asked for.
 fn is_to_look<D: Reception>(door: &D, calls: u64) -> bool {
     calls >= SLOW_PACE || calls >= PACE && door.is_free()

@@ -1,11 +1,14 @@
 //! When the log is trimmed, by where it ends. Times are in milliseconds, as a loop's clock has them.
 ghost use Rattle.std.specs.Prelude.{◌≡◌};
-ghost use Rattle.xa_reactor.specs.Trims.{after_look, after_trim, bound_of, is_due, is_news, is_to_trim, may_try, new_trims, refused_by};
+ghost use Rattle.xa_reactor.specs.Trims.{after_look, after_trim, bound_of, has_grown, is_due, is_news, is_to_trim, may_try, new_trims, refused_by};
 
 use crate::common::Settings;
 
 /// For how long a trim that was refused isn't tried again, unless the log grows by a quarter, and no other one is told.
 pub(crate) const REST: u64 = 60_000;
+
+/// By how much a log has grown that is trimmed as the server ends.
+const GROWN: u64 = 1_048_576;
 
 /// Above which end a log may be trimmed: what was asked for, if that is at most half of its greatest size, so that much
 /// comes before the log is full; else a quarter of that.
@@ -96,6 +99,14 @@ impl Trims {
         settings.trim_bytes > 0
             && is_due(end, self.base, bound, settings.log_bytes)
             && may_try(self.refused, now, end)
+    }
+
+    /// Whether the log, which ends there, has grown by so much since the last snapshot that a start is shorter behind another
+    /// one; not where a trim was refused since.
+    pub(crate) fn has_grown(&self, end: u64) -> bool
+        ensures { result ≡ has_grown self.now end }
+    {
+        self.refused.is_none() && GROWN <= end.saturating_sub(self.base)
     }
 
     /// The log was trimmed to this end.

@@ -10,7 +10,7 @@ use Rattle.xa_script.specs.declared.call_effect.CallEffect.TheVariants.{Kept, Lo
 use Rattle.xa_script.specs.declared.log_file.LogFile.{LogFile}
 use Rattle.xa_script.specs.declared.log_file.LogFile.TheVariants.{Current, Other}
 use Rattle.xa_script.specs.declared.line.Line.{Line}
-use Rattle.xa_script.specs.declared.line.Line.TheVariants.{Silent, Unknown, Connect, Hangup, Call, Status, Fail, Stop, Reopen, Crash}
+use Rattle.xa_script.specs.declared.line.Line.TheVariants.{Silent, Unknown, Connect, Hangup, Call, Status, Shutdown, Fail, Stop, Reopen, Crash}
 use Rattle.xa_frame.specs.Limits.{IsRequest}
 use Rattle.xa_xid.specs.Triple.{Triple}
 
@@ -74,6 +74,7 @@ module _ (xid_of : List ℕ → Option Triple) where
       option_and_then
       (λ n. if bytes_eq name (codes "hangup") then alone (Hangup n) arguments
       else if bytes_eq name (codes "status") then alone (Status n) arguments
+      else if bytes_eq name (codes "shutdown") then alone (Shutdown n) arguments
       else call_of n name arguments)
       (number_of session)
 

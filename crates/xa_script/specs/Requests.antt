@@ -70,6 +70,10 @@ open_by words =
     (λ w. if is_name w.1 then option_map (λ flags. Open flags w.1) (flags_of w.0) else None)
     (two_of words)
 
+-- what the words behind `put` ask
+abbrev pub put_by : List (List ℕ) → Option Request
+put_by words = by_two key_of value_of (λ key value. Put key value) words
+
 abbrev pub direction_of : List ℕ → Option Direction
 direction_of word =
     if bytes_eq word (codes "commit") then Some direction.Commit
@@ -110,7 +114,7 @@ module _ (xid_of : List ℕ → Option Triple) where
   request_of call.Forget words = option_map (λ pair. Forget pair.0 pair.1) (branch_pair words)
   request_of call.Recover words = by_two flags_of count_of (λ flags count. Recover flags count) words
   request_of call.Get words = by_one key_of (λ key. Get key) words
-  request_of call.Put words = by_two key_of value_of (λ key value. Put key value) words
+  request_of call.Put words = put_by words
   request_of call.Delete words = by_one key_of (λ key. Delete key) words
   request_of call.Decide words = by_two direction_of xid_of (λ direction xid. Decide direction xid) words
   request_of call.Doom words = by_one xid_of (λ xid. Doom xid) words

@@ -1,8 +1,8 @@
 //! The script of `xarm play`: what each line of it asks, and the line that shows a reply.
 //!
-//! A line is `connect`, or the number of a session and what it asks: a hang-up, a request of any kind, or how the server
-//! is doing; or it speaks of the log's disks: a device call that is to fail, a stop, a reopening, a crash. Any other is
-//! `Line::Unknown`.
+//! A line is `connect`, or the number of a session and what it asks: a hang-up, a request of any kind, how the server is
+//! doing, or that the server end; or it speaks of the log's disks: a device call that is to fail, a stop, a reopening, a
+//! crash. Any other is `Line::Unknown`.
 //!
 //! - `line`: `Line` and `read_line`
 //! - `verb`: the call that a word names; `request`: the request of a call and the words behind it

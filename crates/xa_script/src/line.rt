@@ -1,7 +1,8 @@
 ghost use Rattle.std.specs.Option.{option_copied};
 ghost use Rattle.std.specs.Prelude.{◌≡◌, ◌≢◌, ◌∷◌, [], ℕ, IfOk, IfSome, List, Option, false, unwrap_or};
 ghost use Rattle.xa_xid.specs.Triple.{Triple};
-ghost use Rattle.xa_script.specs.Lines.{IsWithinLimits, asked_of, by_file, by_words, crash_of, fail_of, file_of, line_of, sole_of, stop_of};
+ghost use Rattle.xa_script.specs.Lines.{IsWithinLimits, asked_of, by_file, by_words, call_of, crash_of, fail_of, file_of, line_of, sole_of};
+ghost use Rattle.xa_script.specs.Lines.{stop_of};
 ghost use Rattle.xa_script.specs.Parts.{alone, words, words_behind};
 ghost use Rattle.xa_script.specs.Requests.{ReadsTexts};
 
@@ -28,6 +29,8 @@ pub enum Line {
     Call(u64, Request),
     /// A session asks how the server is doing.
     Status(u64),
+    /// A session asks the server to end.
+    Shutdown(u64),
     /// A device call of a log file's disk is to fail.
     Fail {
         file: LogFile,
@@ -164,6 +167,23 @@ fn read_call(alloc: Global, session: &[u8], call: &[u8]) -> Result<Line, AllocEr
     if verb == b"status".as_slice() {
         return Ok(read_bare(Line::Status(session), words));
     }
+    if verb == b"shutdown".as_slice() {
+        return Ok(read_bare(Line::Shutdown(session), words));
+    }
+    read_request_of(alloc, session, verb, words)
+}
+
+/// What a session asks by the verb of a request, and the words behind it.
+fn read_request_of(
+    alloc: Global,
+    session: u64,
+    verb: &[u8],
+    words: Option<&[u8]>,
+) -> Result<Line, AllocError>
+    ensures value { (xid_of : List ℕ → Option Triple) → ReadsTexts xid_of →
+        IfOk result (λ said. said ≡ unwrap_or (call_of xid_of session verb.now (words_behind (option_copied words.entry))) Line.Unknown) }
+    ensures limits { IfOk result IsWithinLimits }
+{
     let Some(verb) = read_verb(verb) else {
         return Ok(Line::Unknown);
     };

@@ -6,7 +6,7 @@ ghost use Rattle.xa_xid.specs.Triple.{Triple};
 ghost use Rattle.xa_script.specs.{Flags.flags_of, Numbers.count_of, Numbers.moment_of};
 ghost use Rattle.xa_script.specs.Parts.{alone, by_one, by_two, one_of, words_behind};
 ghost use Rattle.xa_script.specs.Requests.{ReadsTexts, branch_pair, branches_by, cursor_of, direction_of, is_graphic};
-ghost use Rattle.xa_script.specs.Requests.{is_name, key_of, open_by, request_of, value_of};
+ghost use Rattle.xa_script.specs.Requests.{is_name, key_of, open_by, put_by, request_of, value_of};
 
 use crate::flags::read_flags;
 use crate::hexadecimal::read_bytes;
@@ -216,7 +216,7 @@ fn read_only_key(alloc: Global, words: Option<&[u8]>) -> Result<Option<Key>, All
 }
 
 fn read_put(alloc: Global, words: Option<&[u8]>) -> Result<Option<Request>, AllocError>
-    ensures value { IfOk result (λ request. request ≡ by_two key_of value_of (λ key value. Request.Put key value) (words_behind (option_copied words.entry))) }
+    ensures value { IfOk result (λ request. request ≡ put_by (words_behind (option_copied words.entry))) }
     ensures limits { IfOk result (λ request. IfSome request IsRequest) }
 {
     let Some((key, value)) = two_words(words) else {

@@ -6,6 +6,7 @@ use Rattle.xa_manager.proofs.Promised as promised
 use Rattle.xa_model.specs.State.{State}
 use Rattle.xa_history.specs.declared.manages.Manages.{Ghosts}
 use Rattle.xa_server.specs.Believed.Loops.{LoopedPromises}
+use Rattle.xa_server.specs.Believed.Moments.{MomentPromises}
 use Rattle.xa_server.specs.Believed.Serves.{ServedPromises}
 
 -- of a manager that is what `stands` says, where that says no less than the manager's own relation
@@ -38,5 +39,20 @@ looped_promises disks manager bodies name log_bytes begun base loops told serves
       calls_are = serves.calls_are;
       promised = λ trusted.
           let after = serves.promises opened.0 opened.2 opened.1.opens trusted in
+          (after.0, after.1, after.3, after.4, after.5);
+    }
+
+-- and at each moment
+pub moment_promises : {D : Type 0} (disks : disk.Ghosts D) → MomentPromises disks
+moment_promises disks manager bodies name log_bytes begun base c a holds =
+    let opened = promised.begun_is_reached disks manager bodies name log_bytes begun in
+    record {
+      first = opened.0;
+      opens = opened.1.opens;
+      stood = opened.2;
+      entries = holds.entries;
+      calls_are = holds.stands.count_is;
+      promised = λ trusted.
+          let after = holds.promises opened.0 opened.2 opened.1.opens trusted in
           (after.0, after.1, after.3, after.4, after.5);
     }

@@ -3,3 +3,4 @@ pub mod Served
 pub mod Serves
 pub mod Loops
 pub mod Watching
+pub mod Moments

@@ -1,5 +1,5 @@
 //! What is promised of what a server served.
-ghost use Rattle.xa_server.specs.{Believed.Loops.LoopedPromises, Believed.Serves.ServedPromises};
+ghost use Rattle.xa_server.specs.Believed.{Loops.LoopedPromises, Moments.MomentPromises, Serves.ServedPromises};
 
 use std::sync::ledger::Ledger;
 use xa_disk::Disk;
@@ -16,4 +16,10 @@ pub fn served_promises<D: Disk, L: Ledger>()
 /// The same of what loops served.
 pub fn looped_promises<D: Disk>()
     ensures { LoopedPromises D.Disk }
+{}
+
+/// The same at each moment, as [`xa_handles::SharedSequencer::look`] has it of the share of each loop: also of a server that
+/// doesn't come to an end, or by a signal.
+pub fn serves_at_each_moment<D: Disk>()
+    ensures { MomentPromises D.Disk }
 {}

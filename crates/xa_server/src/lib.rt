@@ -12,7 +12,8 @@
 //! - `audited`: `Audited`, what it tells of the history; `audited_lines`, the lines that show it
 //! - `serve_fault`: `ServeFault`, why nothing was served; `log_file`: `LogFile`, a file that it names; `fault`:
 //!   `ServerFault`, why nothing is told of it
-//! - `laws`: `served_promises`, `looped_promises`, what is promised of what was served
+//! - `laws`: `served_promises`, `looped_promises`, what is promised of what was served; `serves_at_each_moment`, of what was
+//!   served by then
 #![tactic(auto)]
 
 mod audited;
@@ -32,7 +33,7 @@ mod serving;
 pub use audited::{Audited, audited_lines};
 pub use engine::{Looped, loop_manager};
 pub use fault::ServerFault;
-pub use laws::{looped_promises, served_promises};
+pub use laws::{looped_promises, served_promises, serves_at_each_moment};
 pub use listens::Listens;
 pub use log_file::LogFile;
 pub use looping::serve_loops;

@@ -1,4 +1,4 @@
--- A call over the connection of a number, and of a number that has none.
+-- A call, or a shutdown, over the connection of a number, and of a number that has none.
 use Rattle.std.proofs.Common.{◌≡◌, ℕ, zero, suc, ◌<◌, List, [], ◌∷◌, length, Option, Some, None, Result, Ok, arith, ap, sym, ◌∙◌, slice_index_or, slice_set}
 use Rattle.std.specs.Prelude.{option_and_then}
 use Rattle.xa_codes.specs.declared.codes.TheConstants.{XAER_PROTO}
@@ -6,7 +6,7 @@ use Rattle.xa_frame.specs.Made.{plain}
 use Rattle.xa_frame.specs.declared.reply.Reply.{Reply}
 use Rattle.xa_frame.specs.declared.question.Question.{Question}
 use Rattle.xa_talk.specs.declared.fault.TalkFault.{TalkFault}
-use Rattle.xa_talk.specs.Answers.{CallAnswered}
+use Rattle.xa_talk.specs.Answers.{CallAnswered, EndAnswered, EndAsked, left_open}
 use Rattle.xa_talk.specs.Exchanges.{Exchanged}
 use Rattle.xa_talk.specs.Numbers.{connection_at, index_of, there, with_at}
 
@@ -20,13 +20,27 @@ kept_at [] index x d lt is = absurd (omega (arith, lt))
 kept_at (y ∷ numbered) zero x d lt is = ap (λ z. z ∷ numbered) (sym is)
 kept_at (y ∷ numbered) (suc index) x d lt is = ap (λ l. y ∷ l) (kept_at numbered index x d (omega (arith, lt)) is)
 
-module _ {C : Type 0} (sent left : C → Option (List ℕ)) (n index : ℕ) (question : Question) (answer : Result Reply TalkFault) (numbered : List (Option C)) (is : index_of n ≡ Some index) where
+module _ {C : Type 0} (n index : ℕ) (numbered : List (Option C)) (is : index_of n ≡ Some index) where
   found : (x : Option C) → there numbered index ≡ x → connection_at n numbered ≡ x
   found x at = ap (λ (o : Option ℕ). option_and_then (λ p. there numbered p) o) is ∙ at
 
+  set_at : (x : Option C) → slice_set numbered index x ≡ with_at (index_of n) x numbered
+  set_at x = sym (ap (λ (o : Option ℕ). with_at o x numbered) is)
+
+module _ {C : Type 0} (sent left : C → Option (List ℕ)) (n index : ℕ) (question : Question) (answer : Result Reply TalkFault) (numbered : List (Option C)) (is : index_of n ≡ Some index) where
   pub call_over : (c c' : C) → there numbered index ≡ Some c → Exchanged question answer (sent c) (sent c') (left c) (left c') →
       CallAnswered sent left n question answer numbered (slice_set numbered index (Some c'))
-  call_over c c' at done = rw (found (Some c) at) (c', sym (ap (λ (o : Option ℕ). with_at o (Some c') numbered) is), done)
+  call_over c c' at done = rw (found n index numbered is (Some c) at) (c', set_at n index numbered is (Some c'), done)
 
   pub call_none : (numbered' : List (Option C)) → there numbered index ≡ None → answer ≡ Ok (plain XAER_PROTO) → numbered' ≡ numbered → CallAnswered sent left n question answer numbered numbered'
-  call_none numbered' at refused same = rw (found None at) (refused, same)
+  call_none numbered' at refused same = rw (found n index numbered is None at) (refused, same)
+
+module _ {C : Type 0} (sent left : C → Option (List ℕ)) (n index : ℕ) (answer : Result Reply TalkFault) (numbered : List (Option C)) (is : index_of n ≡ Some index) where
+  pub end_answered : (x x' d : Option C) → index < length numbered → slice_index_or numbered index d ≡ x → EndAsked sent left x answer x' →
+      EndAnswered sent left n answer numbered (slice_set numbered index x')
+  end_answered None x' d lt at asked =
+      rw (found n index numbered is None (there_at numbered index None d lt at))
+      (asked.0, ap (λ (x : Option C). slice_set numbered index x) asked.1 ∙ kept_at numbered index None d lt at)
+  end_answered (Some c) x' d lt at asked =
+      rw (found n index numbered is (Some c) (there_at numbered index (Some c) d lt at))
+      (asked.0, asked.1, asked.2, ap (λ (x : Option C). slice_set numbered index x) asked.3 ∙ set_at n index numbered is (left_open asked.1 asked.0), asked.4)

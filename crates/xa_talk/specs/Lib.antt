@@ -3,3 +3,4 @@ pub mod Numbers
 pub mod Answers
 pub mod Talks
 pub mod Ticks
+pub mod Shutdowns

@@ -2,11 +2,11 @@
 ghost use Rattle.std.specs.Prelude.{◌≡◌, ◌+◌, pos};
 ghost use Rattle.xa_frame.specs.Questions.{IsQuestion};
 ghost use Rattle.xa_script.specs.Lines as lines;
-ghost use Rattle.xa_talk.specs.Answers.{CallAnswered, ConnectAnswered, LineAnswered, shown};
+ghost use Rattle.xa_talk.specs.Answers.{CallAnswered, ConnectAnswered, EndAnswered, EndAsked, LineAnswered, shown};
 
 use crate::connections::{Connections, index_of};
-use crate::dial::Dial;
-use crate::exchanging::exchange;
+use crate::dial::{Connection, Dial};
+use crate::exchanging::{ask_end, exchange};
 use crate::fault::TalkFault;
 use std::alloc::Global;
 use std::io::{Read, Write};
@@ -39,6 +39,7 @@ pub fn answer<R: Read + Drop, W: Write + Drop, D: Dial<R, W>>(
             shown(call(alloc, connections, number, &Question::Call(request)))
         }
         Line::Status(number) => shown(call(alloc, connections, number, &Question::Status)),
+        Line::Shutdown(number) => shown(end(alloc, connections, number)),
         Line::Unknown | Line::Fail { .. } | Line::Stop { .. } | Line::Reopen | Line::Crash { .. } =>
             Ok(Some(Reply::bad_frame())),
     }
@@ -95,5 +96,43 @@ fn call<R: Read + Drop, W: Write + Drop>(
     match &mut connections.numbered[index] {
         Some(connection) => exchange(alloc, connection, question),
         None => Ok(Reply::plain(XAER_PROTO)),
+    }
+}
+
+/// Asks the server to end over the connection of a number, which is gone if the server closes it.
+fn end<R: Read + Drop, W: Write + Drop>(
+    alloc: Global,
+    connections: &mut Connections<R, W>,
+    number: u64,
+) -> Result<Reply, TalkFault>
+    ensures { EndAnswered (λ c. W.contents c.writer) (λ c. R.remaining c.reader) number result
+        connections.old.numbered.items connections.new.numbered.items }
+{
+    let Some(index) = index_of(number) else {
+        return Ok(Reply::plain(XAER_PROTO));
+    };
+    if index >= connections.numbered.len() {
+        return Ok(Reply::plain(XAER_PROTO));
+    }
+    end_over(alloc, &mut connections.numbered[index])
+}
+
+/// Asks the server to end over this connection, if there is one.
+fn end_over<R: Read + Drop, W: Write + Drop>(
+    alloc: Global,
+    connection: &mut Option<Connection<R, W>>,
+) -> Result<Reply, TalkFault>
+    ensures { EndAsked (λ c. W.contents c.writer) (λ c. R.remaining c.reader) connection.old result connection.new }
+{
+    let Some(open) = connection else {
+        return Ok(Reply::plain(XAER_PROTO));
+    };
+    match ask_end(alloc, open) {
+        Ok(Some(reply)) => Ok(reply),
+        Ok(None) => {
+            *connection = None;
+            Ok(Reply::plain(XA_OK))
+        }
+        Err(fault) => Err(fault),
     }
 }

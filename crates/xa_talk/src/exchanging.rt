@@ -1,15 +1,17 @@
-//! A question goes over a connection, and its reply comes back.
+//! A frame goes over a connection, and its reply comes back.
 ghost use Rattle.std.specs.Io.KnownBytes.{Consumes};
-ghost use Rattle.std.specs.Prelude.{◌≡◌, Err, IfOk, MatchResult};
+ghost use Rattle.std.specs.Prelude.{◌≡◌, Err, IfOk, MatchOption, MatchResult, length};
 ghost use Rattle.xa_desk.specs.Believed.Frames.{frame};
 ghost use Rattle.xa_frame.specs.Questions.{IsQuestion};
-ghost use Rattle.xa_talk.specs.Exchanges.{Exchanged, Receives, Sends, question_frame};
+ghost use Rattle.xa_talk.specs.Exchanges.{Asked, Closes, Exchanged, LacksContent, ReadsLength, Receives, Sends, question_frame};
+ghost use Rattle.xa_talk.specs.Exchanges.{shutdown_frame};
 
 use crate::dial::Connection;
 use crate::fault::TalkFault;
 use std::alloc::{AllocError, Global};
 use std::io::{Read, Write};
 use xa_bytes::{number_of, put_u32};
+use xa_control::SHUTDOWN;
 use xa_frame::{FrameFault, Question, Reply, decode_reply, encode_question};
 use xa_limits::MOST_CONTENT;
 use xa_output::write_text;
@@ -25,17 +27,46 @@ pub fn exchange<R: Read, W: Write>(
         (W.contents connection.old.writer) (W.contents connection.new.writer)
         (R.remaining connection.old.reader) (R.remaining connection.new.reader) }
 {
-    send(alloc, &mut connection.writer, question)?;
+    let frame = frame_of(alloc, question)?;
+    match ask(alloc, connection, frame.as_slice()) {
+        Ok(Some(reply)) => Ok(reply),
+        Ok(None) => Err(TalkFault::Broken),
+        Err(fault) => Err(fault),
+    }
+}
+
+/// Asks a server to end: none where it closes the connection, which is the answer, else the reply that comes back.
+pub fn ask_end<R: Read, W: Write>(
+    alloc: Global,
+    connection: &mut Connection<R, W>,
+) -> Result<Option<Reply>, TalkFault>
+    ensures { Asked shutdown_frame result
+        (W.contents connection.old.writer) (W.contents connection.new.writer)
+        (R.remaining connection.old.reader) (R.remaining connection.new.reader) }
+{
+    let [version, operation] = SHUTDOWN;
+    ask(alloc, connection, &[0, 0, 0, 2, version, operation])
+}
+
+/// Sends a frame, and gives the reply that comes back, or none where the connection ends before it.
+fn ask<R: Read, W: Write>(
+    alloc: Global,
+    connection: &mut Connection<R, W>,
+    frame: &[u8],
+) -> Result<Option<Reply>, TalkFault>
+    ensures { Asked frame.now result
+        (W.contents connection.old.writer) (W.contents connection.new.writer)
+        (R.remaining connection.old.reader) (R.remaining connection.new.reader) }
+{
+    send(&mut connection.writer, frame)?;
     receive(alloc, &mut connection.reader)
 }
 
-/// Writes the frame of a question.
-fn send<W: Write>(alloc: Global, writer: &mut W, question: &Question) -> Result<(), TalkFault>
-    requires { IsQuestion question.now }
-    ensures { Sends question.now result (W.contents writer.old) (W.contents writer.new) }
+/// Writes a frame.
+fn send<W: Write>(writer: &mut W, frame: &[u8]) -> Result<(), TalkFault>
+    ensures { Sends frame.now result (W.contents writer.old) (W.contents writer.new) }
 {
-    let frame = frame_of(alloc, question)?;
-    if write_text(writer, frame.as_slice()) {
+    if write_text(writer, frame) {
         Ok(())
     } else {
         Err(TalkFault::Broken)
@@ -54,33 +85,63 @@ fn frame_of(alloc: Global, question: &Question) -> Result<Vec<u8>, AllocError>
     Ok(bytes)
 }
 
-/// Reads the frame of a reply.
-fn receive<R: Read>(alloc: Global, reader: &mut R) -> Result<Reply, TalkFault>
+/// Reads the frame of a reply, or finds none.
+fn receive<R: Read>(alloc: Global, reader: &mut R) -> Result<Option<Reply>, TalkFault>
     ensures { Receives result (R.remaining reader.old) (R.remaining reader.new) }
 {
-    let content = read_content(alloc, reader)?;
+    let Some(content) = read_content(alloc, reader)? else {
+        return Ok(None);
+    };
     match decode_reply(alloc, content.as_slice()) {
-        Ok(reply) => Ok(reply),
+        Ok(reply) => Ok(Some(reply)),
         Err(FrameFault::Memory) => Err(TalkFault::Memory),
         Err(_) => Err(TalkFault::NoReply),
     }
 }
 
-/// Reads the content of a frame.
-fn read_content<R: Read>(alloc: Global, reader: &mut R) -> Result<Vec<u8>, TalkFault>
+/// Reads the content of a frame, or finds none.
+fn read_content<R: Read>(alloc: Global, reader: &mut R) -> Result<Option<Vec<u8>>, TalkFault>
     ensures { MatchResult result
-        (λ content. Consumes (R.remaining reader.old) (R.remaining reader.new) (frame content.items))
+        (λ content. MatchOption content (Closes (R.remaining reader.old) (R.remaining reader.new))
+        (λ bytes. Consumes (R.remaining reader.old) (R.remaining reader.new) (frame bytes.items)))
         (λ fault. Receives (Err fault) (R.remaining reader.old) (R.remaining reader.new)) }
 {
-    let mut front = [0u8; 4];
-    if reader.read_exact(&mut front).is_err() {
-        return Err(TalkFault::Broken);
+    let Some(count) = read_length(reader)? else {
+        return Ok(None);
+    };
+    match read_bytes(alloc, reader, count) {
+        Ok(content) => Ok(Some(content)),
+        Err(fault) => Err(fault),
     }
-    let length = number_of(front[0], front[1], front[2], front[3]);
-    if length as usize > MOST_CONTENT {
+}
+
+/// Reads the length of a frame, or finds none.
+fn read_length<R: Read>(reader: &mut R) -> Result<Option<u32>, TalkFault>
+    ensures { ReadsLength result (R.remaining reader.old) (R.remaining reader.new) }
+{
+    let mut front = [0u8; 4];
+    let count = match reader.read(&mut front) {
+        Ok(0) => return Ok(None),
+        Ok(count) => count,
+        Err(_) => return Err(TalkFault::Broken),
+    };
+    match reader.read_exact(&mut front[count..]) {
+        Ok(()) => Ok(Some(number_of(front[0], front[1], front[2], front[3]))),
+        Err(_) => Err(TalkFault::Broken),
+    }
+}
+
+/// Reads so many bytes, the content of a frame.
+fn read_bytes<R: Read>(alloc: Global, reader: &mut R, count: u32) -> Result<Vec<u8>, TalkFault>
+    ensures { MatchResult result
+        (λ content. (length content.items ≡ count)
+        × Consumes (R.remaining reader.old) (R.remaining reader.new) content.items)
+        (λ fault. LacksContent count fault (R.remaining reader.old) (R.remaining reader.new)) }
+{
+    if count as usize > MOST_CONTENT {
         return Err(TalkFault::NoReply);
     }
-    let mut content = vec![in alloc; 0u8; length as usize]?;
+    let mut content = vec![in alloc; 0u8; count as usize]?;
     match reader.read_exact(content.as_mut_slice()) {
         Ok(()) => Ok(content),
         Err(_) => Err(TalkFault::Broken),

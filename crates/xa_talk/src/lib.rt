@@ -1,16 +1,19 @@
-//! The lines of a script against a live server, and moments that it is told.
+//! The lines of a script against a live server, moments that it is told, and its end.
 //!
 //! - `talk`: `talk_run`, which reads a script line by line, sends each line's question over a connection, and writes the
 //!   line of its reply as soon as it is there
 //! - `answer`: what one line is answered; `MOST_CONNECTIONS`
 //! - `connections`: the script's connections by their numbers
-//! - `exchanging`: `exchange`, a question that goes over a connection, and its reply that comes back
+//! - `exchanging`: `exchange`, a question that goes over a connection, and its reply that comes back; `ask_end`, what asks
+//!   a server to end
 //! - `dial`: `Dial`, what opens connections, and `Connection`
 //! - `fault`: `TalkFault`, why a script wasn't talked to its end
 //!
 //! - `tick`: `tick_run`, which tells a server each moment that a ticker gives; `MOST_EVERY`
 //! - `ticker`: `Ticker`, what gives moments and tells refusals; `refusal`: `refusal_text`, what a refusal comes to
 //! - `tick_fault`: `TickFault`, why no more moments are told
+//!
+//! - `shutdown`: `shutdown_run`, which asks a server to end; `shutdown_fault`: `ShutdownFault`, why it isn't known to have
 #![tactic(auto)]
 
 mod answer;
@@ -19,6 +22,8 @@ mod dial;
 mod exchanging;
 mod fault;
 mod refusal;
+mod shutdown;
+mod shutdown_fault;
 mod talk;
 mod tick;
 mod tick_fault;
@@ -26,9 +31,11 @@ mod ticker;
 
 pub use answer::MOST_CONNECTIONS;
 pub use dial::{Connection, Dial};
-pub use exchanging::exchange;
+pub use exchanging::{ask_end, exchange};
 pub use fault::TalkFault;
 pub use refusal::refusal_text;
+pub use shutdown::shutdown_run;
+pub use shutdown_fault::ShutdownFault;
 pub use talk::talk_run;
 pub use tick::{MOST_EVERY, tick_run};
 pub use tick_fault::TickFault;

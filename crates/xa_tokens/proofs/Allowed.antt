@@ -5,12 +5,12 @@ use Rattle.atomic_table.specs.Table.{State, Me, Splits, Joins, Allows, keeps}
 use Rattle.xa_tokens.specs.declared.ask.Ask.{Ask}
 use Rattle.xa_tokens.specs.declared.receipt.Receipt.{Receipt}
 use Rattle.xa_tokens.specs.declared.view.View.{View}
-use Rattle.xa_tokens.specs.Believed.Account.{HasHistory, Owes, account_of}
+use Rattle.xa_tokens.specs.Believed.Account.{HasHistory, IsWithin, Owes, account_of}
 use Rattle.xa_tokens.specs.Believed.Receipts.{IsInOrder, last_or}
 use Rattle.xa_tokens.specs.Believed.Rule.{Kept}
 use Rattle.xa_tokens.specs.Steps.{answering, asking, giving_up, joined}
 use Rattle.xa_tokens.specs.Believed.View.{all_parts, no_view}
-use Rattle.xa_tokens.proofs.Audited.{has_history}
+use Rattle.xa_tokens.proofs.Audited.{has_history, is_within}
 use Rattle.xa_tokens.proofs.Keeps.{Cuts, answers, asked_before, asks, cuts, gives, joins}
 
 abbrev pub Rule : State (Unit {0}) View → Type 0
@@ -46,3 +46,8 @@ may_audit slots id me i kept parts s k homes at small = (
   subst Kept (sym (set_again s.views id me.0 at)) k,
   (refl, refl, λ owes. has_history s.views id me.0 kept parts owes k at),
 )
+
+pub may_look : (slots id : ℕ) (me : Me (Unit {0}) View) (i : ℕ) → me.0.keeps ≡ true
+    → Allows Rule slots id me i (λ n. n) (λ _ n. (n.0 ≡ me.0) × (n.1 ≡ me.1) × IsWithin me.0.history (account_of me.0))
+may_look slots id me i kept s k homes at small =
+    (me.0, keeps, tt, subst Kept (sym (set_again s.views id me.0 at)) k, (refl, refl, is_within s.views id me.0 kept k at))

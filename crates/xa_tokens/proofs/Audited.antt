@@ -6,7 +6,7 @@ use lib.ListN.{get_elem?}
 use Rattle.xa_tokens.specs.declared.ask.Ask.{Ask}
 use Rattle.xa_tokens.specs.declared.receipt.Receipt.{Receipt}
 use Rattle.xa_tokens.specs.declared.view.View.{View}
-use Rattle.xa_tokens.specs.Believed.Account.{HasHistory, IsSettled, Owes, account_of}
+use Rattle.xa_tokens.specs.Believed.Account.{HasHistory, IsSettled, IsWithin, Owes, account_of}
 use Rattle.xa_tokens.specs.Believed.Receipts.{AreNumbered, AreSame}
 use Rattle.xa_tokens.specs.Believed.Rule.{Kept}
 use Rattle.xa_tokens.specs.Believed.View.{all_parts}
@@ -59,3 +59,12 @@ has_history views by v keeps parts owes k at = record { told = told; numbered = 
         none_else (λ (u : View). sum_by each_ask u.tickets) (λ (u : View). sum_by weigh u.tickets) views (λ j u e none. weigh_none weigh u.tickets none) counts.1 in
         let answered : sum_by (λ (r : Receipt). weigh r.ask) k.history ≡ sum_by (λ (r : Receipt). weigh r.ask) v.told = ap (λ l. sum_by (λ (r : Receipt). weigh r.ask) l) (sym history) ∙ told (λ r. weigh r.ask) in
         omega (arith, asked weigh, given_up weigh, tickets, answered, k.asked weigh)
+
+-- What the keeper was told weighs no more than what all were told, which is its history.
+pub is_within : (views : List View) (by : ℕ) (v : View) → v.keeps ≡ true → Kept views → get_elem? views by ≡ some v → IsWithin v.history (account_of v)
+is_within views by v keeps k at =
+    let history : v.history ≡ k.history = (k.knows by v at keeps).1 in
+    record {
+      told = λ weigh. omega (arith, at_most (λ (u : View). sum_by weigh u.told) views by v at, k.told weigh, ap (λ l. sum_by weigh l) history);
+      numbered = subst (AreNumbered 0) (sym history) k.numbered;
+    }

@@ -1,12 +1,14 @@
 //! What happens to one token or to two, each a load of the table's word.
 ghost use Rattle.std.specs.Prelude.{◌≡◌, ◌+◌, ◌<◌, true, [], ◌∷◌, length};
-ghost use Rattle.xa_tokens.specs.Believed.Account.{HasHistory, Owes, account_of};
+ghost use Rattle.xa_tokens.specs.Believed.Account.{HasHistory, IsWithin, Owes, account_of};
 ghost use Rattle.xa_tokens.specs.Believed.Receipts.{IsInOrder, last_or};
 ghost use Rattle.xa_tokens.specs.Steps.{answering, asking, giving_up, joined, kept_part, less_one, one_part, only_tickets, other_part, without_tickets};
 ghost use Rattle.xa_tokens.specs.Believed.View.{all_parts};
 
 use crate::book::Book;
-use crate::steps::{About, Answers, Asks, Audits, GivesUp, Joined, KeptPart, OnePart, OnlyTickets};
+use crate::steps::{
+    About, Answers, Asks, Audits, GivesUp, Joined, KeptPart, Looks, OnePart, OnlyTickets,
+};
 use crate::tokens::Tokens;
 use crate::view::Token;
 
@@ -90,5 +92,15 @@ impl<B: Book> Tokens<B> {
         ensures { HasHistory seat.old.me.0.history (account_of seat.old.me.0) }
     {
         self.table.shared.load::<Audits>(seat, 0);
+    }
+
+    /// The keeper's history has what it was told.
+    pub(crate) fn step_looks(&self, seat: &mut Token)
+        requires own { seat.old.table_id ≡ B.table }
+        requires keeps { seat.old.me.0.keeps ≡ true }
+        ensures same { (seat.new.table_id ≡ B.table) × (seat.new.me ≡ seat.old.me) }
+        ensures within { IsWithin seat.old.me.0.history (account_of seat.old.me.0) }
+    {
+        self.table.shared.load::<Looks>(seat, 0);
     }
 }

@@ -56,6 +56,15 @@ impl Play<(), View> for Audits {
         × (Owes (account_of m.0) 0 → HasHistory m.0.history (account_of m.0)) };
 }
 
+/// It learns what the rule comes to of what it was told.
+pub struct Looks;
+
+impl Play<(), View> for Looks {
+    ghost use Rattle.xa_tokens.specs.Believed.Account.{IsWithin, account_of};
+
+    ghost then = { λ _ m _ n. (n.0 ≡ m.0) × (n.1 ≡ m.1) × IsWithin m.0.history (account_of m.0) };
+}
+
 /// The keeper, and what else there is.
 pub struct KeptPart;
 

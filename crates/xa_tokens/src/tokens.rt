@@ -1,5 +1,5 @@
 ghost use Rattle.std.specs.Prelude.{◌≡◌, ◌+◌, ◌-◌, ◌<◌, [], ◌∷◌, ◌++◌, length};
-ghost use Rattle.xa_tokens.specs.Believed.Account.{HasHistory, Owes, account, merged};
+ghost use Rattle.xa_tokens.specs.Believed.Account.{HasHistory, IsWithin, Owes, account, merged};
 ghost use Rattle.xa_tokens.specs.Believed.Receipts.{IsInOrder, ask_of, last_or, receipt_of};
 ghost use Rattle.xa_tokens.specs.Believed.View.{all_parts};
 
@@ -98,6 +98,21 @@ impl<B: Book> Tokens<B> {
         let Share { seat: other, of: _ } = all;
         self.join(&mut seat, other);
         self.step_audits(&mut seat);
+    }
+
+    /// What a share was told is in the history, whatever others ask and are told. It changes nothing.
+    pub fn look(&self, keeper: &mut Keeper<B>, share: Share<B>) -> Share<B>
+        ensures within { IsWithin keeper.old share }
+        ensures same { (keeper.new ≡ keeper.old) × (result ≡ share) }
+    {
+        let Share { seat, of: _ } = share;
+        self.join(&mut keeper.seat, seat);
+        self.step_looks(&mut keeper.seat);
+        let seat = self.cut_keeper(&mut keeper.seat);
+        Share {
+            seat,
+            of: PhantomData,
+        }
     }
 
     fn ask_as<P: About>(&self, share: &mut Share<B>, event: &Event, after: u64) -> Ticket<B>

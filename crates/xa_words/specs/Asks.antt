@@ -13,7 +13,7 @@ use Rattle.xa_service.specs.declared.at.At.{At}
 use Rattle.xa_service.specs.declared.at.At.TheVariants as at
 use Rattle.xa_service.specs.declared.service.TheConstants.{MOST_SERVED}
 use Rattle.xa_words.specs.declared.asked.Asked.{Asked}
-use Rattle.xa_words.specs.declared.asked.Asked.TheVariants.{Play, Scan, Check, Serve, Loop, Talk, Tick, Nowhere}
+use Rattle.xa_words.specs.declared.asked.Asked.TheVariants.{Play, Scan, Check, Serve, Loop, Talk, Tick, Shutdown, Nowhere}
 
 -- the text of an argument, or the one that stands for none
 abbrev pub text_in : List Row → Text → Text → Text
@@ -46,13 +46,14 @@ pub record IsSet (text : Option Text) (flag : Bool) : Type 0 where
   pub set : text ≡ Some (codes "true") → flag ≡ true
   pub unset : text ≡ Some (codes "false") → flag ≡ false
 
--- the command is one of the six
+-- the command is one of the seven
 abbrev pub IsCommand : Text → Type 0
 IsCommand command =
     (command ≡ codes "check")
     ⊎ ((command ≡ codes "play")
     ⊎ ((command ≡ codes "scan")
-    ⊎ ((command ≡ codes "serve") ⊎ ((command ≡ codes "talk") ⊎ (command ≡ codes "tick")))))
+    ⊎ ((command ≡ codes "serve")
+    ⊎ ((command ≡ codes "shutdown") ⊎ ((command ≡ codes "talk") ⊎ (command ≡ codes "tick"))))))
 
 -- no path is given, and this port is, which is 0 where none is
 abbrev pub IsPort : List Row → ℕ → Type 0
@@ -77,7 +78,7 @@ IsNowhere command rows =
     ((command ≡ codes "serve") × (number_in rows (codes "workers") most_64 0 ≢ 0)
     × (number_in rows (codes "port") most_16 0 ≡ 0))
     ⊎ ((((command ≡ codes "serve") × (number_in rows (codes "workers") most_64 0 ≡ 0))
-    ⊎ ((command ≡ codes "talk") ⊎ (command ≡ codes "tick")))
+    ⊎ ((command ≡ codes "shutdown") ⊎ ((command ≡ codes "talk") ⊎ (command ≡ codes "tick"))))
     × IsPort rows 0)
 
 -- each field of what a command asks for is that of its own argument
@@ -95,6 +96,7 @@ AsksBy command rows (Talk reach style) =
 AsksBy command rows (Tick reach every) =
     (command ≡ codes "tick") × IsReachIn rows (Some reach)
     × (every ≡ number_in rows (codes "every") most_64 1)
+AsksBy command rows (Shutdown reach) = (command ≡ codes "shutdown") × IsReachIn rows (Some reach)
 -- by workers, where their number is given
 AsksBy command rows (Serve service accepts) =
     (command ≡ codes "serve")

@@ -119,6 +119,9 @@ serve_shape =
     ∷ socket_rule ∷ frame_seconds_rule ∷ idle_seconds_rule ∷ trim_rule ∷ exit_when_down_rule ∷ accept_damage_rule
     ∷ [])
 
+abbrev pub shutdown_shape : Shape
+shutdown_shape = command_of (codes "shutdown") (port_rule ∷ socket_rule ∷ [])
+
 abbrev pub talk_shape : Shape
 talk_shape = command_of (codes "talk") (port_rule ∷ socket_rule ∷ names_rule ∷ [])
 
@@ -129,11 +132,11 @@ tick_shape = command_of (codes "tick") (port_rule ∷ socket_rule ∷ every_rule
 abbrev pub bare : App
 bare = record { top = record (new_app (codes "xarm")).top { has_version = true; subcommand_required = true }; subs = [] }
 
--- the whole command line: one of the six, and its version
+-- the whole command line: one of the seven, and its version
 abbrev pub xarm : App
 xarm = record {
   top = record (new_app (codes "xarm")).top { has_version = true; subcommand_required = true; is_leaf = false };
-  subs = check_shape ∷ play_shape ∷ scan_shape ∷ serve_shape ∷ talk_shape ∷ tick_shape ∷ [];
+  subs = check_shape ∷ play_shape ∷ scan_shape ∷ serve_shape ∷ shutdown_shape ∷ talk_shape ∷ tick_shape ∷ [];
 }
 
 -- ---- what is built

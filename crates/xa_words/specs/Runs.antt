@@ -16,12 +16,14 @@ use Rattle.xa_disk.specs.declared.file_fault.FileFault.{FileFault}
 use Rattle.xa_manager.specs.Believed.Opening.{IsBadSetting}
 use Rattle.xa_play.specs.declared.fault.PlayFault.{PlayFault}
 use Rattle.xa_play.specs.declared.fault.PlayFault.TheVariants as play
+use Rattle.xa_talk.specs.Shutdowns.{ShutsDown}
 use Rattle.xa_talk.specs.declared.fault.TalkFault.{TalkFault}
+use Rattle.xa_talk.specs.declared.shutdown_fault.ShutdownFault.{ShutdownFault}
 use Rattle.xa_talk.specs.declared.tick_fault.TickFault.{TickFault}
 use Rattle.xa_words.specs.Asks.{AsksOf}
 use Rattle.xa_words.specs.Line.{xarm}
 use Rattle.xa_words.specs.declared.asked.Asked.{Asked}
-use Rattle.xa_words.specs.declared.asked.Asked.TheVariants.{Play, Scan, Check, Serve, Loop, Talk, Tick, Nowhere}
+use Rattle.xa_words.specs.declared.asked.Asked.TheVariants.{Play, Scan, Check, Serve, Loop, Talk, Tick, Shutdown, Nowhere}
 use Rattle.xa_words.specs.declared.ran.Ran.{Ran}
 use Rattle.xa_words.specs.declared.ran.Ran.TheVariants.{Ended, Serves, Loops}
 
@@ -63,6 +65,8 @@ module _ {I D C : Type 0} (T : Type 0) (remaining : I → Option Text) (honest :
       (end : Result (Unit {0}) TalkFault) × HasTalked style remaining sent left end × (exit_status code ≡ status_of end)
   HasDone (Tick reach every) (Ended code) =
       (end : Result (Unit {0}) TickFault) × HasTicked T sent left end × (exit_status code ≡ status_of end)
+  HasDone (Shutdown reach) (Ended code) =
+      (end : Result (Unit {0}) ShutdownFault) × ShutsDown sent left end × (exit_status code ≡ status_of end)
   HasDone Nowhere (Ended code) = exit_status code ≡ 2
   HasDone (Serve service accepts) (Serves served) = served ≡ service
   HasDone (Serve service accepts) (Ended code) = (accepts ≡ true) × (exit_status code ≡ 1)

@@ -28,6 +28,9 @@ pub enum Asked<'a> {
         /// How many seconds there are from one moment to the next.
         every: u64,
     },
+    Shutdown {
+        reach: Reach<'a>,
+    },
     /// By workers, with an audit.
     Serve {
         service: Service<'a>,

@@ -19,7 +19,7 @@ use std::process::ExitCode;
 use std::rt::{Clock, Env};
 use std::{env, io};
 use xa_commands::{
-    Stream, accept_damage, check, checked, ended, play, scan, talk, tick, words_fault,
+    Stream, accept_damage, check, checked, ended, play, scan, shutdown, talk, tick, words_fault,
 };
 use xa_disk::Opens;
 use xa_play::PlayFault;
@@ -74,6 +74,7 @@ fn done<
         },
         Asked::Talk { reach, style } => ended(rt, &talk(rt, reach, style)),
         Asked::Tick { reach, every } => ended(rt, &tick(rt, reach, every)),
+        Asked::Shutdown { reach } => ended(rt, &shutdown(rt, reach)),
         Asked::Nowhere => nowhere(rt),
     })
 }

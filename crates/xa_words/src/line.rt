@@ -1,7 +1,7 @@
 //! The command line, as `clap` reads it.
 ghost use Rattle.std.specs.Prelude.{IfOk};
 ghost use Rattle.xa_words.specs.Line.{HasShape, IsApp, bare, check_shape, play_shape, scan_shape, serve_shape};
-ghost use Rattle.xa_words.specs.Line.{talk_shape, tick_shape, xarm};
+ghost use Rattle.xa_words.specs.Line.{shutdown_shape, talk_shape, tick_shape, xarm};
 
 use crate::arguments::{
     accept_damage, connections, every, exit_when_down, first_path, frame_seconds, idle_seconds,
@@ -11,7 +11,7 @@ use crate::arguments::{
 use clap::Command;
 use std::alloc::{AllocError, Global};
 
-/// The command line with its six commands.
+/// The command line with its seven commands.
 pub fn command_line<'a>(alloc: Global) -> Result<Command<'a>, AllocError>
     ensures { IfOk result (IsApp xarm) }
 {
@@ -20,6 +20,7 @@ pub fn command_line<'a>(alloc: Global) -> Result<Command<'a>, AllocError>
         .subcommand(play_command(alloc)?)?
         .subcommand(scan_command(alloc)?)?
         .subcommand(serve_command(alloc)?)?
+        .subcommand(shutdown_command(alloc)?)?
         .subcommand(talk_command(alloc)?)?
         .subcommand(tick_command(alloc)?)
 }
@@ -68,6 +69,21 @@ fn scan_command<'a>(alloc: Global) -> Result<Command<'a>, AllocError>
         .about("Prints the records of a log, one per line, and where the next one would begin")
         .after_help("Example: xarm scan bank.log")
         .arg(path(alloc))
+}
+
+fn shutdown_command<'a>(alloc: Global) -> Result<Command<'a>, AllocError>
+    ensures { IfOk result (HasShape shutdown_shape) }
+{
+    Command::new(alloc, "shutdown")
+        .about(
+            "Ends a server once it has answered what was asked, and waits until it has closed the connection",
+        )
+        .after_help(
+            "Example: xarm shutdown --port 4187\nStatus 0: it has closed the connection. 1: it takes no shutdown, as one with \
+             --workers, or can't be reached.",
+        )
+        .arg(port(alloc))?
+        .arg(socket(alloc))
 }
 
 fn talk_command<'a>(alloc: Global) -> Result<Command<'a>, AllocError>

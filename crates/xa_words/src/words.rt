@@ -53,6 +53,7 @@ fn read_command<'a>(command: &str, matches: &ArgMatches<'a>) -> Asked<'a>
             path: text_of(matches, "path", ""),
         },
         "serve" => serve_of(matches),
+        "shutdown" => shutdown_of(matches),
         "talk" => talk_of(matches),
         "tick" => tick_of(matches),
         _ => play_of(matches),
@@ -134,6 +135,15 @@ fn tick_of<'a>(matches: &ArgMatches<'a>) -> Asked<'a>
     let every = number_of(matches, "every", 1);
     match reach_of(matches) {
         Some(reach) => Asked::Tick { reach, every },
+        None => Asked::Nowhere,
+    }
+}
+
+fn shutdown_of<'a>(matches: &ArgMatches<'a>) -> Asked<'a>
+    ensures { AsksBy (codes "shutdown") (rows_of (found_of matches.now)) result }
+{
+    match reach_of(matches) {
+        Some(reach) => Asked::Shutdown { reach },
         None => Asked::Nowhere,
     }
 }

@@ -1,5 +1,5 @@
 -- What a call says of a sequencer that many threads share.
-use Rattle.std.specs.Prelude.{ℕ, ◌≡◌, ◌⊎◌, ◌+◌, Bool, not, List, Result, Some, pos, slice_get}
+use Rattle.std.specs.Prelude.{ℕ, ◌≡◌, ◌⊎◌, ◌+◌, Bool, not, List, map, Result, Some, pos, slice_get}
 use Rattle.xa_assoc.specs.Refusals.{is_memory}
 use Rattle.xa_assoc.specs.declared.fault.ConnectFault.{ConnectFault}
 use Rattle.xa_frame.specs.Made.{doing}
@@ -9,20 +9,23 @@ use Rattle.xa_frame.specs.declared.reply.Reply.{Reply}
 use Rattle.xa_frame.specs.declared.request.Request.{Request}
 use Rattle.xa_frame.specs.declared.status.Status.{Status}
 use Rattle.xa_handles.specs.Believed.Accounts.{AsksAtOnce, Ends, HasAsked}
-use Rattle.xa_handles.specs.Believed.Standing.{HasBook}
+use Rattle.xa_handles.specs.Believed.Standing.{HasBook, shown}
 use Rattle.xa_manager.specs.Believed.Answered.{connect_reply}
 use Rattle.xa_manager.specs.Believed.Together.{asked_at}
 use Rattle.xa_manager.specs.declared.together.Asked.{Asked}
 use Rattle.xa_model.specs.Answer.{plain}
 use Rattle.xa_model.specs.State.{State}
 use Rattle.xa_model.specs.declared.event.Event.TheVariants.{Connect, Hangup, Call}
+use Rattle.xa_history.specs.Believed.Book as entry
 use Rattle.xa_history.specs.Believed.Book.{placed}
+use Rattle.xa_history.specs.Believed.Promises.{Promises}
 use Rattle.xa_history.specs.Status.{Tells}
+use Rattle.xa_history.specs.declared.entry.Entry.{Entry}
 use Rattle.xa_history.specs.declared.manages.Manages.{Ghosts}
 use Rattle.xa_sequencer.specs.Believed.Numbers.{Called, Connected, Left}
-use Rattle.xa_sequencer.specs.Believed.Stands.{HasHistory, Numbered}
+use Rattle.xa_sequencer.specs.Believed.Stands.{HasHistory, Numbered, Stands}
 use Rattle.xa_sequencer.specs.Believed.Together.{CalledTogether}
-use Rattle.xa_tokens.specs.Believed.Account.{Account, HasHistory as IsWholeOf}
+use Rattle.xa_tokens.specs.Believed.Account.{Account, HasHistory as IsWholeOf, IsWithin}
 use Rattle.xa_tokens.specs.declared.ask.Ask.{Ask}
 use Rattle.xa_tokens.specs.declared.receipt.Receipt.{Receipt}
 
@@ -105,3 +108,14 @@ pub record IsWhole {M : Type 0} (m : Ghosts M) (start : State → Type 0) (base 
   pub receipts : List Receipt
   pub book : HasBook m start base c receipts
   pub whole : IsWholeOf receipts all
+
+-- At a moment when no thread has the lock: the sequencer stands for a history, with what that promises, and the entries that
+-- a share was told are among it. So it is with each share, whatever others ask at that time.
+pub record HoldsAt {M : Type 0} (m : Ghosts M) (start : State → Type 0) (base : ℕ × ℕ) (c : Numbered M) (a : Account)
+    : Type 0 where
+  pub entries : List Entry
+  pub receipts : List Receipt
+  pub stands : Stands m start base c entries
+  pub promises : Promises m start c.now entries
+  pub are : map entry.receipt_of entries ≡ map shown receipts
+  pub within : IsWithin receipts a

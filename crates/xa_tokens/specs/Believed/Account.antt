@@ -3,7 +3,7 @@ use Rattle.std.specs.Prelude.{ℕ, ◌≡◌, ◌+◌, List, ◌++◌, length, s
 use Rattle.xa_tokens.specs.declared.ask.Ask.{Ask}
 use Rattle.xa_tokens.specs.declared.receipt.Receipt.{Receipt}
 use Rattle.xa_tokens.specs.declared.view.View.{View}
-use Rattle.xa_tokens.specs.Believed.Receipts.{AreNumbered, AreSame}
+use Rattle.xa_tokens.specs.Believed.Receipts.{AreAmong, AreNumbered, AreSame}
 
 -- what was asked by it, the entries that it was told, and what it gave up
 pub record Account : Type 0 where
@@ -37,3 +37,8 @@ pub record HasHistory (history : List Receipt) (all : Account) : Type 0 where
   pub told : AreSame history all.told
   pub numbered : AreNumbered 0 history
   pub settled : IsSettled all
+
+-- The history, at any moment: the entries that it was told are among its entries, which have the places from 1 on.
+pub record IsWithin (history : List Receipt) (a : Account) : Type 0 where
+  pub told : AreAmong a.told history
+  pub numbered : AreNumbered 0 history

@@ -1,5 +1,5 @@
 -- Asks, and entries of a history.
-use Rattle.std.specs.Prelude.{ℕ, ◌≡◌, ◌+◌, ◌<◌, List, [], ◌∷◌, sum_by}
+use Rattle.std.specs.Prelude.{ℕ, ◌≡◌, ◌+◌, ◌<◌, ◌≤◌, List, [], ◌∷◌, sum_by}
 use Rattle.xa_frame.specs.declared.reply.Reply.{Reply}
 use Rattle.xa_model.specs.declared.event.Event.{Event}
 use Rattle.xa_tokens.specs.declared.ask.Ask.{Ask}
@@ -28,3 +28,7 @@ AreNumbered k (r ∷ rs) = (r.reply.place ≡ k + 1) × AreNumbered (k + 1) rs
 -- the same entries, each as often, in whatever order: they weigh the same, however entries are weighed
 abbrev pub AreSame : List Receipt → List Receipt → Type 0
 AreSame rs qs = (weigh : Receipt → ℕ) → sum_by weigh rs ≡ sum_by weigh qs
+
+-- These entries are among those, each at most as often: they weigh no more, however entries are weighed.
+abbrev pub AreAmong : List Receipt → List Receipt → Type 0
+AreAmong rs qs = (weigh : Receipt → ℕ) → sum_by weigh rs ≤ sum_by weigh qs

@@ -12,3 +12,11 @@ returns-in-Status-clause-answered c =
     let told : LineAnswered name log_bytes c.args.manager (line.Status c.in-Status.session) (Some c.status-reply.result) c.args.manager
     = (versions_of c.args.manager, c.args.calls, c.status-reply.ensures, refl) in
     subst (λ (said : Line). LineAnswered name log_bytes c.args.manager said (Some c.status-reply.result) c.args.manager) (sym c.in-Status.is) told
+
+pub returns-in-Shutdown-clause-answered : goal.returns-in-Shutdown-clause-answered
+returns-in-Shutdown-clause-answered c =
+    let name = c.args.settings.now.name in
+    let log_bytes = c.args.settings.now.log_bytes in
+    let told : LineAnswered name log_bytes c.args.manager (line.Shutdown c.in-Shutdown.session) (Some c.shutdown-reply.result) c.args.manager
+    = (c.shutdown-reply.ensures, refl) in
+    subst (λ (said : Line). LineAnswered name log_bytes c.args.manager said (Some c.shutdown-reply.result) c.args.manager) (sym c.in-Shutdown.is) told

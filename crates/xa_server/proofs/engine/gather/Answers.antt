@@ -22,8 +22,21 @@ loop-door-init g c = record {
   seen = c.into_parts-share.ensures.seen;
 }
 
-pub loop-door-preserved-then-is_whole : goal.loop-door-preserved-then-is_whole
-loop-door-preserved-then-is_whole g c =
+pub loop-door-preserved-after-is_whole : goal.loop-door-preserved-after-is_whole
+loop-door-preserved-after-is_whole g c =
+    let other = c.into_parts-other in
+    record {
+      gathers =
+          gathers_more (λ d. d.handle.asker) c.loop-door.share c.merge.new.share c.loop-door.ended.items c.pop-in-loop-door.new.self.items
+          c.args.ended.items c.in-Some-pop.field-0 c.loop-door.invariant.gathers c.in-Some-pop.ensures.items
+          (c.merge.ensures ∙ ap (λ (a : Account). merged c.loop-door.share a) other.ensures.share);
+      seen =
+          seen_more c.loop-door.share other.result.0 c.merge.new.share c.loop-door.seen other.result.1 c.with-seen.result c.merge.ensures
+          c.with-seen.ensures c.loop-door.invariant.seen other.ensures.seen;
+    }
+
+pub loop-door-preserved-after-is_whole-2 : goal.loop-door-preserved-after-is_whole-2
+loop-door-preserved-after-is_whole-2 g c =
     let other = c.into_parts-other in
     record {
       gathers =

@@ -1,4 +1,4 @@
-use Rattle.xa_words.specs.Line.{bare, check_shape, play_shape, scan_shape, serve_shape, talk_shape, tick_shape}
+use Rattle.xa_words.specs.Line.{bare, check_shape, play_shape, scan_shape, serve_shape, shutdown_shape, talk_shape, tick_shape}
 use Rattle.xa_words.proofs.Building.{adds_command, last_command}
 use Rattle.xa_words.proofs.line.command_line.Goals as goal
 
@@ -8,5 +8,6 @@ returns c =
     let two = adds_command c.in_ok-subcommand.field-0 c.in_ok-play_command.field-0 c.in_ok-subcommand-2.field-0 _ play_shape one c.in_ok-play_command.ensures c.in_ok-subcommand-2.ensures in
     let three = adds_command c.in_ok-subcommand-2.field-0 c.in_ok-scan_command.field-0 c.in_ok-subcommand-3.field-0 _ scan_shape two c.in_ok-scan_command.ensures c.in_ok-subcommand-3.ensures in
     let four = adds_command c.in_ok-subcommand-3.field-0 c.in_ok-serve_command.field-0 c.in_ok-subcommand-4.field-0 _ serve_shape three c.in_ok-serve_command.ensures c.in_ok-subcommand-4.ensures in
-    let five = adds_command c.in_ok-subcommand-4.field-0 c.in_ok-talk_command.field-0 c.in_ok-subcommand-5.field-0 _ talk_shape four c.in_ok-talk_command.ensures c.in_ok-subcommand-5.ensures in
-    last_command c.in_ok-subcommand-5.field-0 c.in_ok-tick_command.field-0 c.subcommand-6.result _ tick_shape five c.in_ok-tick_command.ensures c.subcommand-6.ensures
+    let five = adds_command c.in_ok-subcommand-4.field-0 c.in_ok-shutdown_command.field-0 c.in_ok-subcommand-5.field-0 _ shutdown_shape four c.in_ok-shutdown_command.ensures c.in_ok-subcommand-5.ensures in
+    let six = adds_command c.in_ok-subcommand-5.field-0 c.in_ok-talk_command.field-0 c.in_ok-subcommand-6.field-0 _ talk_shape five c.in_ok-talk_command.ensures c.in_ok-subcommand-6.ensures in
+    last_command c.in_ok-subcommand-6.field-0 c.in_ok-tick_command.field-0 c.subcommand-7.result _ tick_shape six c.in_ok-tick_command.ensures c.subcommand-7.ensures

@@ -16,9 +16,9 @@ returns-in_default-clause-opens g c =
       subst (λ (s : ℕ). HasAnswered (g.D.Door.called s) c.args.door.now c.answer.new.door) c.take_turn.ensures.session
           (has_answered (g.D.Door.called c.take_turn.new.self.session) c.answer.ensures.turns.0 c.take_turn.new.self.connection c.answer.new.self.connection
           c.args.door.now c.answer.new.door c.answer.ensures.turns.1),
-      subst (λ (s : ℕ). CarriesOn (g.D.Door.called s) c.args.self.now.connection c.args.door.now c.send.new.self.connection c.answer.new.door)
+      subst (λ (s : ℕ). CarriesOn (g.D.Door.called s) c.args.self.now.connection c.args.door.now c.send-step.new.self.connection c.answer.new.door)
           c.take_turn.ensures.session
           (carries_on (g.D.Door.called c.take_turn.new.self.session) c.args.self.now.connection taken.0 c.take_turn.new.self.connection
-          c.answer.new.self.connection c.send.new.self.connection c.args.door.now c.answer.new.door c.answer.ensures.turns.0
-          taken.1 taken.2 c.answer.ensures.turns.1 c.send.ensures.sent),
+          c.answer.new.self.connection c.send-step.new.self.connection c.args.door.now c.answer.new.door c.answer.ensures.turns.0
+          taken.1 taken.2 c.answer.ensures.turns.1 c.send-step.ensures.sent),
     )

@@ -1,5 +1,6 @@
 use Rattle.xa_reactor.specs.Believed.Tending.{Table, sessions_of}
-use Rattle.xa_reactor.proofs.Doing.{posting_tended, posting_thrice, tends_twice}
+use Rattle.xa_reactor.proofs.Aside.{tends_aside}
+use Rattle.xa_reactor.proofs.Doing.{posting_tended, posting_thrice, tends_thrice}
 use Rattle.xa_reactor.proofs.Settled.{still_settled}
 use Rattle.xa_reactor.proofs.tending.Loop.serve_round.Goals as goal
 
@@ -10,18 +11,21 @@ returns-clause-tends g c =
     let given : Table = sessions_of c.give_turns-gathered.new.peers.all in
     let after : Table = sessions_of c.take_in.new.peers.all in
     posting_thrice g.D.Reception.posted g.D.Reception.connected g.D.Door.called g.D.Door.left before noticed given after
-    c.args.door.now c.notice_all-noticed.new.door c.give_turns-gathered.new.door c.take_in.new.door
+    c.args.door.now c.notice_all-noticed.new.door c.give_turns-gathered.new.door c.stop.new.door
     (posting_tended g.D.Reception.posted g.D.Reception.connected g.D.Door.called g.D.Door.left before noticed
     c.args.door.now c.notice_all-noticed.new.door c.notice_all-noticed.ensures)
     c.give_turns-gathered.ensures.tends
-    (posting_tended g.D.Reception.posted g.D.Reception.connected g.D.Door.called g.D.Door.left given after c.give_turns-gathered.new.door c.take_in.new.door
-    (tends_twice g.D.Reception.connected g.D.Door.called g.D.Door.left given (sessions_of c.look.new.peers.all) after
-    c.give_turns-gathered.new.door c.look.new.door c.take_in.new.door c.look.ensures c.take_in.ensures))
+    (posting_tended g.D.Reception.posted g.D.Reception.connected g.D.Door.called g.D.Door.left given after c.give_turns-gathered.new.door c.stop.new.door
+    (tends_thrice g.D.Reception.connected g.D.Door.called g.D.Door.left given (sessions_of c.look.new.peers.all) after after
+    c.give_turns-gathered.new.door c.look.new.door c.take_in.new.door c.stop.new.door c.look.ensures c.take_in.ensures
+    (tends_aside g.D.Reception.connected g.D.Door.called g.D.Door.left c.take_in.new.peers.all _ c.take_in.new.door c.stop.new.door c.stop.ensures)))
 
 pub returns-clause-settled : goal.returns-clause-settled
 returns-clause-settled g c was =
     let still = still_settled g.D.Reception.connected g.D.Door.called g.D.Door.left g.D.Reception.is_settled g.met.D.Reception.keeps_settled in
-    still _ _ c.look.new.door c.take_in.new.door c.take_in.ensures
+    still _ _ c.take_in.new.door c.stop.new.door
+    (tends_aside g.D.Reception.connected g.D.Door.called g.D.Door.left c.take_in.new.peers.all _ c.take_in.new.door c.stop.new.door c.stop.ensures)
+    (still _ _ c.look.new.door c.take_in.new.door c.take_in.ensures
     (still _ _ c.give_turns-gathered.new.door c.look.new.door c.look.ensures
     (c.give_turns-gathered.ensures.settled
-    (still _ _ c.args.door.now c.notice_all-noticed.new.door c.notice_all-noticed.ensures was)))
+    (still _ _ c.args.door.now c.notice_all-noticed.new.door c.notice_all-noticed.ensures was))))

@@ -1,0 +1,20 @@
+ghost use Rattle.xa_talk.specs.Shutdowns.{ShutsDown};
+ghost use Rattle.xa_talk.specs.declared.dial.Connection.{Connection};
+
+use crate::server::{Reach, Server};
+use crate::stream::Stream;
+use std::io::{Read, Write};
+use std::net::{Net, TcpStream};
+use xa_talk::{ShutdownFault, shutdown_run};
+
+/// Asks a server to end, and waits until it has closed the connection.
+pub fn shutdown<R: AllocGlobal + Net<Stream = TcpStream>>(
+    rt: &R,
+    reach: Reach<'_>,
+) -> Result<(), ShutdownFault>
+    ensures { ShutsDown {C = Connection Stream Stream}
+        (λ c. ⟦<Stream as Write>⟧.contents c.writer)
+        (λ c. ⟦<Stream as Read>⟧.remaining c.reader) result }
+{
+    shutdown_run(rt.alloc(), &mut Server { rt, reach })
+}

@@ -1,0 +1,12 @@
+use Rattle.std.proofs.Common.{rules, codes}
+use Rattle.clap.specs.Simple.{new_app}
+use Rattle.xa_words.specs.Line.{IsApp, port_rule, socket_rule}
+use Rattle.xa_words.proofs.Building.{adds_rule, last_rule}
+use Rattle.xa_words.proofs.line.shutdown_command.Goals as goal
+
+pub returns : goal.returns
+returns c =
+    let none = new_app (codes "shutdown") in
+    let first : IsApp none c.after_help.result = record { app_is = search rules; local = search rules } in
+    let one = adds_rule c.after_help.result c.port.result c.in_ok-arg.field-0 none port_rule first c.port.ensures c.in_ok-arg.ensures in
+    last_rule c.in_ok-arg.field-0 c.socket.result c.arg-2.result _ socket_rule one c.socket.ensures c.arg-2.ensures
