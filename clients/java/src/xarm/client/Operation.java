@@ -15,7 +15,8 @@ enum Operation {
     GET(10),
     PUT(11),
     DELETE(12),
-    TIMEOUT(16);
+    TIMEOUT(16),
+    STATUS(67);
 
     private final int number;
 
@@ -40,6 +41,8 @@ enum Operation {
                 return reply.code() >= 0
                         ? reply.kind() == Reply.XIDS && reply.xids().size() == reply.code()
                         : reply.kind() == Reply.NOTHING;
+            case STATUS:
+                return reply.kind() == (reply.code() == XA_OK ? Reply.STATUS : Reply.NOTHING);
             default:
                 return reply.kind() == Reply.NOTHING;
         }

@@ -6,20 +6,23 @@ import java.nio.ByteBuffer;
 import java.util.ArrayList;
 import java.util.List;
 
-/** A reply: the code, the detail, and a body of one of five kinds. */
+/** A reply: the code, the detail, the place, and a body of one of those kinds that the driver asks for. */
 final class Reply {
     static final int NOTHING = 0;
     static final int NUMBER = 1;
     static final int VALUE = 2;
     static final int ABSENT = 3;
     static final int XIDS = 4;
+    static final int STATUS = 6;
 
     private static final byte VERSION = 1;
     private static final int MOST_VALUE = 16_384;
     private static final int MOST_XIDS = 256;
+    private static final int STATUS_NUMBERS = 10;
 
     private final int code;
     private final Detail detail;
+    private final long place;
     private final int kind;
     private byte[] value;
     private final List<XarmXid> xids = new ArrayList<>();
@@ -30,7 +33,7 @@ final class Reply {
         int number = content.get();
         require(0 <= number && number < Detail.values().length, "its detail");
         detail = Detail.values()[number];
-        content.getLong(); // the place, which is for those who compare histories
+        place = content.getLong();
         kind = content.get();
         readBody(content);
         require(!content.hasRemaining(), "bytes behind it");
@@ -72,6 +75,11 @@ final class Reply {
                     xids.add(XarmXid.read(content));
                 }
                 break;
+            case STATUS:
+                for (int i = 0; i < STATUS_NUMBERS; i++) {
+                    content.getLong();
+                }
+                break;
             default:
                 require(false, "its kind");
         }
@@ -89,6 +97,11 @@ final class Reply {
 
     Detail detail() {
         return detail;
+    }
+
+    /** Where the call is in the server's history, unsigned and ascending; 0 where it isn't there. */
+    long place() {
+        return place;
     }
 
     int kind() {

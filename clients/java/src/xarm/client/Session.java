@@ -1,59 +1,83 @@
 package xarm.client;
 
+import static javax.transaction.xa.XAResource.TMJOIN;
 import static javax.transaction.xa.XAResource.TMNOFLAGS;
+import static javax.transaction.xa.XAResource.TMSUCCESS;
 import static javax.transaction.xa.XAResource.XA_OK;
 
-import java.io.EOFException;
 import java.io.IOException;
-import java.io.InputStream;
-import java.net.InetSocketAddress;
 import java.net.ProtocolException;
-import java.net.Socket;
 import java.net.SocketException;
-import java.net.SocketTimeoutException;
 import java.nio.ByteBuffer;
+import java.nio.charset.StandardCharsets;
 import java.util.concurrent.TimeUnit;
+import java.util.concurrent.atomic.AtomicLong;
 import javax.transaction.xa.XAException;
 
 /**
  * A connection to a server, which is one session there. Its first request opens the resource manager, and where it broke, the
  * next call connects and opens anew.
  *
- * <p>One request is under way at a time, so that its frame is in the socket's buffer whatever the server does: a write
- * doesn't wait, and a read ends with the time-out.
+ * <p>One request is under way at a time, and whatever is thrown between a request and its reply ends the connection: the reply would
+ * be taken for that of the next one.
  */
 final class Session {
-    private static final int LENGTH_BYTES = 4;
-    private static final int MOST_CONTENT = 65_535;
-
-    private final String host;
-    private final int port;
-    private final byte[] name;
-    private int readTimeout;
-    private final Branches branches = new Branches();
-    private Socket socket; // null where there is no connection
-    private int timeLimit; // what the server was told of this connection
-    private boolean isClosed;
-
-    /** A session that isn't connected yet. The time-out is in milliseconds, and is one call's, its connect included. */
-    Session(String host, int port, byte[] name, int readTimeout) {
-        this.host = host;
-        this.port = port;
-        this.name = name;
-        this.readTimeout = readTimeout;
+    /** Makes a transport that isn't connected yet. */
+    interface Connector {
+        Transport transport() throws IOException;
     }
 
-    /** To be looked at, and changed, by who has this session's lock. */
+    private static final int LENGTH_BYTES = 4;
+    private static final int MOST_CONTENT = 65_535;
+    private static final AtomicLong COUNT = new AtomicLong();
+
+    private final long number = COUNT.incrementAndGet();
+    private final Endpoint endpoint;
+    private final Connector connector;
+    private final int validationInterval;
+    private final Branches branches;
+    private volatile int readTimeout;
+    private volatile Transport transport; // null where there is no connection
+    private volatile boolean isClosed;
+    private boolean isSent; // of the last call
+    private long place; // of the last reply
+    private long answered; // when the last reply came
+    private int timeLimit; // what the server was told of this connection
+
+    /**
+     * A session that isn't connected yet. The time-out is in milliseconds, and is one call's, its connect included; so is how long a
+     * connection may be idle before a branch begins on it unasked.
+     */
+    Session(Endpoint endpoint, int readTimeout, int validationInterval) {
+        this(endpoint, endpoint::transport, readTimeout, validationInterval);
+    }
+
+    Session(Endpoint endpoint, Connector connector, int readTimeout, int validationInterval) {
+        this.endpoint = endpoint;
+        this.connector = connector;
+        this.readTimeout = readTimeout;
+        this.validationInterval = validationInterval;
+        branches = Branches.of(endpoint);
+    }
+
+    long number() {
+        return number;
+    }
+
+    Endpoint endpoint() {
+        return endpoint;
+    }
+
     Branches branches() {
         return branches;
     }
 
-    synchronized int readTimeout() {
+    int readTimeout() {
         return readTimeout;
     }
 
     /** From the next call on. */
-    synchronized void setReadTimeout(int milliseconds) {
+    void setReadTimeout(int milliseconds) {
         readTimeout = checkedTimeout(milliseconds);
     }
 
@@ -74,17 +98,23 @@ final class Session {
         timeLimit = seconds;
     }
 
-    synchronized boolean isConnected() {
-        return socket != null;
+    boolean isConnected() {
+        return transport != null && !isClosed;
     }
 
-    /** Connects and opens the resource manager, as the first call does. */
-    synchronized void open() throws XarmException {
-        try {
-            connect(deadline());
-        } catch (IOException fault) {
-            throw broken(Operation.OPEN, fault);
-        }
+    /** Of a session that {@link #close} was called of. */
+    boolean isClosed() {
+        return isClosed;
+    }
+
+    /** Whether the last call's request may have reached the server. */
+    synchronized boolean isSent() {
+        return isSent;
+    }
+
+    /** Connects within so many milliseconds, and opens the resource manager, as the first call does. */
+    synchronized void open(int milliseconds) throws XarmException {
+        run(Operation.OPEN, milliseconds, deadline -> null);
     }
 
     /**
@@ -93,30 +123,79 @@ final class Session {
      * @throws XarmException XAER_RMFAIL: there is no connection, or it broke, and whether the call was done isn't known
      */
     synchronized Reply call(Request request) throws XarmException {
-        long deadline = deadline();
-        try {
-            if (socket == null) {
-                connect(deadline);
-            }
+        isSent = false;
+        return run(request.operation(), readTimeout, deadline -> {
+            isSent = true;
             return exchange(request, deadline);
-        } catch (IOException fault) {
-            throw broken(request.operation(), fault);
+        });
+    }
+
+    /**
+     * Before a branch begins, or a recovery scan: asks a connection that was idle for a while whether it stands (Status, which changes
+     * nothing), and makes it anew if it doesn't. The server may have closed it, or been started anew. And looks after lost starts.
+     */
+    synchronized void refresh(XarmXid branch) throws XarmException {
+        long idle = TimeUnit.NANOSECONDS.toMillis(System.nanoTime() - answered);
+        if (isConnected() && idle >= validationInterval) {
+            try {
+                call(new Request(Operation.STATUS));
+            } catch (XarmException broken) {
+                // the next call connects
+            }
+        }
+        if (branches.hasLostStarts() && !branches.isAtWork(number)) {
+            run(Operation.ROLLBACK, readTimeout, deadline -> {
+                settle(branch, deadline);
+                return null;
+            });
         }
     }
 
-    /** Connects no more. The server hangs the session up. */
-    synchronized void close() {
+    /**
+     * Connects no more, and doesn't wait for a call that is under way, which throws. The server hangs the session up.
+     */
+    void close() {
         isClosed = true;
-        disconnect();
+        Transport open = transport;
+        if (open != null) {
+            open.close();
+        }
+        branches.hangUp(number);
+    }
+
+    private interface Exchange {
+        Reply run(long deadline) throws IOException;
+    }
+
+    private Reply run(Operation operation, int milliseconds, Exchange exchange) throws XarmException {
+        long deadline = System.nanoTime() + TimeUnit.MILLISECONDS.toNanos(milliseconds);
+        boolean isDone = false;
+        try {
+            if (isClosed) {
+                throw new SocketException("the connection was closed");
+            }
+            if (transport == null) {
+                connect(deadline);
+            }
+            Reply reply = exchange.run(deadline);
+            isDone = true;
+            return reply;
+        } catch (IOException fault) {
+            throw new XarmException(operation + " at " + endpoint, fault);
+        } finally {
+            if (!isDone) {
+                disconnect();
+            }
+        }
     }
 
     private void connect(long deadline) throws IOException {
+        transport = connector.transport();
         if (isClosed) {
             throw new SocketException("the connection was closed");
         }
-        socket = new Socket();
-        socket.setTcpNoDelay(true);
-        socket.connect(new InetSocketAddress(host, port), millisecondsUntil(deadline));
+        transport.connect(deadline);
+        byte[] name = endpoint.name().getBytes(StandardCharsets.UTF_8);
         Reply reply = exchange(new Request(Operation.OPEN).flags(TMNOFLAGS).name(name), deadline);
         if (reply.code() != XA_OK) {
             throw new ProtocolException(
@@ -124,64 +203,66 @@ final class Session {
                             ? "the resource manager has another name"
                             : "open was answered " + Codes.name(reply.code()));
         }
-    }
-
-    private XarmException broken(Operation operation, IOException fault) {
-        disconnect();
-        return new XarmException(operation + " at " + host + ":" + port, fault);
+        settle(null, deadline);
     }
 
     private void disconnect() {
-        if (socket != null) {
-            try {
-                socket.close();
-            } catch (IOException fault) {
-                // it is gone all the same
-            }
-            socket = null;
+        if (transport != null) {
+            transport.close();
+            transport = null;
         }
         timeLimit = 0;
-        branches.hangUp();
+        place = 0;
+        branches.hangUp(number);
     }
 
     private Reply exchange(Request request, long deadline) throws IOException {
-        socket.getOutputStream().write(request.frame());
-        int length = ByteBuffer.wrap(read(LENGTH_BYTES, deadline)).getInt();
+        transport.write(request.frame(), deadline);
+        int length = ByteBuffer.wrap(transport.read(LENGTH_BYTES, deadline)).getInt();
         if (length < 0 || length > MOST_CONTENT) {
             throw new ProtocolException("no reply of an xarm server: its length");
         }
-        Reply reply = Reply.read(read(length, deadline));
+        Reply reply = Reply.read(transport.read(length, deadline));
         if (!request.operation().isAnsweredBy(reply)) {
             throw new ProtocolException("no reply of an xarm server: to " + request.operation());
         }
+        // a call that wasn't recorded has place 0
+        if (reply.place() != 0 && Long.compareUnsigned(reply.place(), place) <= 0) {
+            throw new ProtocolException("no reply of an xarm server: its place is " + reply.place() + ", after " + place);
+        }
+        place = reply.place() == 0 ? place : reply.place();
+        answered = System.nanoTime();
         return reply;
     }
 
-    private byte[] read(int count, long deadline) throws IOException {
-        InputStream input = socket.getInputStream();
-        byte[] bytes = new byte[count];
-        int at = 0;
-        while (at < count) {
-            // a peer that sends a byte now and then doesn't hold a call longer than one that is silent
-            socket.setSoTimeout(millisecondsUntil(deadline));
-            int some = input.read(bytes, at, count - at);
-            if (some < 0) {
-                throw new EOFException("the server ended the connection");
+    /** Looks after the lost starts: of each, or of this one, the branch is rolled back if there is one. */
+    private void settle(XarmXid wanted, long deadline) throws IOException {
+        for (XarmXid branch : branches.lostStarts(wanted)) {
+            settleOne(branch, deadline);
+        }
+    }
+
+    /**
+     * A branch of a start whose reply was lost is marked once its session was hung up, which a join tells. What isn't marked may be
+     * another one of this XID, or that session is still connected: it isn't rolled back, but looked after later.
+     */
+    private void settleOne(XarmXid branch, long deadline) throws IOException {
+        int code = exchange(asked(Operation.START, TMJOIN, branch), deadline).code();
+        if (Codes.isRollback(code)) {
+            code = exchange(asked(Operation.ROLLBACK, TMNOFLAGS, branch), deadline).code();
+            if (Codes.isRollback(code) || code == XA_OK || code == XAException.XAER_NOTA) {
+                branches.settle(branch);
             }
-            at += some;
+        } else if (code == XAException.XAER_NOTA) {
+            branches.settleUnknown(branch);
+        } else if (code == XA_OK) {
+            exchange(asked(Operation.END, TMSUCCESS, branch), deadline);
+        } else if (code == XAException.XAER_PROTO) {
+            branches.settle(branch); // prepared, or completed by the operator
         }
-        return bytes;
     }
 
-    private long deadline() {
-        return System.nanoTime() + TimeUnit.MILLISECONDS.toNanos(readTimeout);
-    }
-
-    private int millisecondsUntil(long deadline) throws SocketTimeoutException {
-        long left = TimeUnit.NANOSECONDS.toMillis(deadline - System.nanoTime());
-        if (left <= 0) {
-            throw new SocketTimeoutException("no answer in " + readTimeout + " ms");
-        }
-        return (int) left;
+    private static Request asked(Operation operation, int flags, XarmXid branch) {
+        return new Request(operation).flags(flags).xid(branch);
     }
 }

@@ -19,7 +19,7 @@ public class XarmException extends Exception {
     }
 
     XarmException(String asked, Throwable cause) {
-        super(asked + ": XAER_RMFAIL: " + cause.getMessage(), cause);
+        super(asked + ": XAER_RMFAIL: " + (cause.getMessage() == null ? cause : cause.getMessage()), cause);
         code = XAException.XAER_RMFAIL;
         detail = Detail.NOTHING;
     }
@@ -32,6 +32,14 @@ public class XarmException extends Exception {
     /** What the refusal is about. */
     public Detail detail() {
         return detail;
+    }
+
+    static XAException refusal(Operation operation, XarmXid branch, Reply reply) {
+        return refusal(operation, branch, reply.code(), reply.detail());
+    }
+
+    static XAException refusal(Operation operation, XarmXid branch, int code, Detail detail) {
+        return new XarmException(branch == null ? operation.toString() : operation + " " + branch, code, detail).toXAException();
     }
 
     XAException toXAException() {

@@ -5,16 +5,16 @@ package xarm.client;
  * and writes for the branch that it works for.
  *
  * <p>Threads may share it, and wait for each other's calls; it works for one branch at a time. Where its connection breaks,
- * the next call of the resource makes a new one.
+ * the next call of the resource makes a new one. An interrupt ends no call.
  */
 public final class XarmXAConnection implements AutoCloseable {
     private final Session session;
     private final XarmXAResource resource;
     private final Records records;
 
-    XarmXAConnection(Session session) {
+    XarmXAConnection(Session session, boolean isJoinable) {
         this.session = session;
-        resource = new XarmXAResource(session);
+        resource = new XarmXAResource(session, isJoinable);
         records = new Records(session);
     }
 
@@ -42,8 +42,8 @@ public final class XarmXAConnection implements AutoCloseable {
 
     /**
      * Closes the connection, and sends nothing: the server hangs the session up. A branch that it was at work for can only be
-     * rolled back from then on; one whose work was ended, and one that is prepared, stays as it is. Calls that come later are
-     * XAER_RMFAIL.
+     * rolled back from then on; one whose work was ended, and one that is prepared, stays as it is. Doesn't wait for another thread's
+     * call that is under way: that one is XAER_RMFAIL, and so are calls that come later.
      */
     @Override
     public void close() {

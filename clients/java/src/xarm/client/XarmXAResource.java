@@ -5,12 +5,10 @@ import static javax.transaction.xa.XAException.XAER_NOTA;
 import static javax.transaction.xa.XAException.XAER_PROTO;
 import static javax.transaction.xa.XAException.XAER_RMERR;
 import static javax.transaction.xa.XAException.XAER_RMFAIL;
-import static javax.transaction.xa.XAException.XA_RBCOMMFAIL;
 import static javax.transaction.xa.XAException.XA_RBROLLBACK;
 
 import java.util.ArrayList;
 import java.util.List;
-import java.util.concurrent.TimeUnit;
 import javax.transaction.xa.XAException;
 import javax.transaction.xa.XAResource;
 import javax.transaction.xa.Xid;
@@ -30,55 +28,54 @@ import javax.transaction.xa.Xid;
  */
 public final class XarmXAResource implements XAResource {
     private static final int MOST_XIDS = 256;
-    private static final int LONGEST_PAUSE = 100;
+    private static final int TMMIGRATE = 0x00100000; // which C193 has, and JTA hasn't
 
     private final Session session;
+    private final Calls calls;
+    private final Branches branches;
+    private final boolean isJoinable;
     private boolean isScanning;
     private int timeLimit;
 
-    XarmXAResource(Session session) {
+    XarmXAResource(Session session, boolean isJoinable) {
         this.session = session;
+        this.isJoinable = isJoinable;
+        branches = session.branches();
+        calls = new Calls(session);
     }
 
     /**
      * Sends Start: the session begins work for a branch, joins it (TMJOIN) or resumes it (TMRESUME). Sends Timeout before it, where
-     * a branch begins with another time limit than this connection's last one.
+     * a branch begins with another time limit than this connection's last one; and, but for a resume, Status where the connection was idle
+     * for a while: if that isn't answered, it connects anew, so that a pooled connection begins, or joins, as a new one would.
      *
      * <p>Throws XAER_DUPID where the server knows the XID, XAER_RMERR where it knows 4,096 XIDs or has given all its timestamps,
      * and XA_RB* where the branch to be joined or resumed is marked: it can only be rolled back.
      *
      * <p>A start whose answer is lost is XAER_RMFAIL, and may leave a branch that wrote nothing and that is marked XA_RBCOMMFAIL. Most
-     * managers take it for none and don't ask for its rollback; then the server knows it until an operator's Restart, or its next
-     * start.
+     * managers take it for none and don't ask for its rollback; so the next connection to the server does, by itself.
      */
     @Override
     public void start(Xid xid, int flags) throws XAException {
         XarmXid branch = checked(xid);
+        boolean isNew = (flags & (TMJOIN | TMRESUME)) == 0;
         synchronized (session) {
-            if ((flags & (TMJOIN | TMRESUME)) == 0) {
-                sendTimeLimit();
-            }
-            Branches branches = session.branches();
-            Reply reply;
-            try {
-                reply = ask(Operation.START, flags, branch);
-            } catch (XAException broken) {
-                // the branch may have begun, and is marked by the hang-up then
-                branches.mark(branch, XA_RBCOMMFAIL);
-                throw broken;
-            }
+            Reply reply = calls.start(branch, flags, timeLimit);
             int code = reply.code();
             if (code == XA_OK) {
-                branches.begin(branch);
+                branches.begin(session.number(), branch, isNew);
+                if (session.isClosed()) {
+                    branches.hangUp(session.number()); // it was closed meanwhile
+                }
                 return;
             }
             if (Codes.isRollback(code)) {
-                branches.mark(branch, code);
-            } else if (isGone(code) && (flags & (TMJOIN | TMRESUME)) != 0) {
+                branches.mark(session.number(), branch, code);
+            } else if (isGone(code) && !isNew) {
                 // its work was ended by the mark, which says more than that nothing is left to resume
                 code = branches.markOr(branch, code);
             }
-            throw refusal(Operation.START, branch, code, reply.detail());
+            throw XarmException.refusal(Operation.START, branch, code, reply.detail());
         }
     }
 
@@ -95,14 +92,13 @@ public final class XarmXAResource implements XAResource {
     public void end(Xid xid, int flags) throws XAException {
         XarmXid branch = checked(xid);
         synchronized (session) {
-            Branches branches = session.branches();
-            boolean isAtWork = branches.isAtWork(branch);
-            if (!isAtWork && branches.isMarked(branch)) {
+            boolean isAtWork = branches.isAtWork(session.number(), branch);
+            if (branches.isOver(session.number(), branch)) {
                 return; // the work was ended by the mark, so there is nothing to send
             }
             Reply reply;
             try {
-                reply = ask(Operation.END, flags, branch);
+                reply = calls.ask(Operation.END, flags, branch);
             } catch (XAException broken) {
                 if (branches.isMarked(branch)) {
                     return;
@@ -112,14 +108,16 @@ public final class XarmXAResource implements XAResource {
             int code = reply.code();
             if (code == XA_OK) {
                 if ((flags & TMSUSPEND) == 0) {
-                    branches.end(branch);
+                    branches.end(session.number(), branch);
+                } else if ((flags & TMMIGRATE) != 0) {
+                    branches.migrate(session.number(), branch);
                 }
             } else if (Codes.isRollback(code)) {
-                branches.mark(branch, code);
+                branches.mark(session.number(), branch, code);
             } else if (code == XAER_NOTA && isAtWork) {
-                branches.mark(branch, XA_RBROLLBACK);
+                branches.mark(session.number(), branch, XA_RBROLLBACK);
             } else {
-                throw refusal(Operation.END, branch, code, reply.detail());
+                throw XarmException.refusal(Operation.END, branch, code, reply.detail());
             }
         }
     }
@@ -135,13 +133,17 @@ public final class XarmXAResource implements XAResource {
     public int prepare(Xid xid) throws XAException {
         XarmXid branch = checked(xid);
         synchronized (session) {
-            Reply reply = complete(Operation.PREPARE, TMNOFLAGS, branch);
+            Reply reply = calls.complete(Operation.PREPARE, TMNOFLAGS, branch);
             int code = reply.code();
-            if (code == XA_OK || code == XA_RDONLY) {
-                session.branches().unmark(branch);
+            if (code == XA_OK) {
+                branches.prepared(branch);
                 return code;
             }
-            throw refusal(Operation.PREPARE, branch, rolledBack(branch, code), reply.detail());
+            if (code == XA_RDONLY) {
+                branches.forget(branch);
+                return code;
+            }
+            throw XarmException.refusal(Operation.PREPARE, branch, rolledBack(branch, code), reply.detail());
         }
     }
 
@@ -161,24 +163,24 @@ public final class XarmXAResource implements XAResource {
         synchronized (session) {
             Reply reply;
             try {
-                reply = complete(Operation.COMMIT, onePhase ? TMONEPHASE : TMNOFLAGS, branch);
+                reply = calls.complete(Operation.COMMIT, onePhase ? TMONEPHASE : TMNOFLAGS, branch);
             } catch (XAException broken) {
-                session.branches().unmark(branch); // it may be committed, so a mark says nothing any more
+                branches.forget(branch); // it may be committed, so a mark says nothing any more
                 throw broken;
             }
             int code = reply.code();
             if (code == XA_OK || code == XAER_RMFAIL) {
-                session.branches().unmark(branch);
+                branches.forget(branch);
             }
             if (code == XA_OK) {
                 return;
             }
             if (onePhase && code == XAER_RMERR) {
-                session.branches().mark(branch, XA_RBROLLBACK);
+                branches.mark(session.number(), branch, XA_RBROLLBACK);
             } else if (onePhase) {
                 code = rolledBack(branch, code);
             }
-            throw refusal(Operation.COMMIT, branch, code, reply.detail());
+            throw XarmException.refusal(Operation.COMMIT, branch, code, reply.detail());
         }
     }
 
@@ -186,38 +188,39 @@ public final class XarmXAResource implements XAResource {
      * Sends Rollback: of a branch for which nobody works, or that is prepared.
      *
      * <p>Throws XA_RB* where the branch was marked: it is rolled back, as was asked, and the code says why. Is answered XA_OK where
-     * the server doesn't know the branch (XAER_NOTA) and this session does, as one that was rolled back: by a {@code prepare} or a
-     * commit in one phase, or with a server that was killed. XA_HEURCOM, XA_HEURRB: the operator completed the branch; {@code forget}
+     * the server doesn't know the branch (XAER_NOTA) and a session of this process does, as one that was rolled back: by a {@code prepare}
+     * or a commit in one phase, or with a server that was killed. XA_HEURCOM, XA_HEURRB: the operator completed the branch; {@code forget}
      * it. XAER_RMERR: the log's device refused it, and nothing changed.
      */
     @Override
     public void rollback(Xid xid) throws XAException {
         XarmXid branch = checked(xid);
         synchronized (session) {
-            Reply reply = complete(Operation.ROLLBACK, TMNOFLAGS, branch);
+            Reply reply = calls.complete(Operation.ROLLBACK, TMNOFLAGS, branch);
             int code = reply.code();
-            boolean isDone = code == XA_OK || code == XAER_NOTA && session.branches().isMarked(branch);
-            if (isDone || Codes.isRollback(code)) {
-                session.branches().unmark(branch);
+            boolean isDone = code == XA_OK || code == XAER_NOTA && branches.isMarked(branch);
+            if (isDone || Codes.isRollback(code) || code == XAER_NOTA) {
+                branches.forget(branch);
             }
             if (!isDone) {
-                throw refusal(Operation.ROLLBACK, branch, code, reply.detail());
+                throw XarmException.refusal(Operation.ROLLBACK, branch, code, reply.detail());
             }
         }
     }
 
     /**
-     * Sends Forget, of a branch that the operator completed: behind XA_HEURCOM, XA_HEURRB and XA_HEURMIX.
+     * Sends Forget, of a branch that the operator completed: after XA_HEURCOM and XA_HEURRB.
      *
      * <p>Throws XAER_PROTO where the operator didn't complete it, XAER_RMERR where the log's device refused it.
      */
     @Override
     public void forget(Xid xid) throws XAException {
         XarmXid branch = checked(xid);
-        Reply reply = ask(Operation.FORGET, TMNOFLAGS, branch);
+        Reply reply = calls.ask(Operation.FORGET, TMNOFLAGS, branch);
         if (reply.code() != XA_OK) {
-            throw refusal(Operation.FORGET, branch, reply.code(), reply.detail());
+            throw XarmException.refusal(Operation.FORGET, branch, reply.code(), reply.detail());
         }
+        branches.forget(branch);
     }
 
     /**
@@ -225,17 +228,21 @@ public final class XarmXAResource implements XAResource {
      *
      * <p>With TMSTARTRSCAN it sends Recover with TMSTARTRSCAN and a count of 256, and then with TMNOFLAGS until a page isn't full:
      * managers ask for further pages only while one shows something of their own, so all pages are in the first. Without it
-     * nothing is sent. Throws XAER_INVAL for other flags, and where no scan is open.
+     * nothing is sent. Before it, as {@code start}, it connects anew where an idle connection doesn't stand any more. Throws XAER_INVAL
+     * for other flags, and where no scan is open.
      */
     @Override
     public Xid[] recover(int flags) throws XAException {
         if ((flags & ~(TMSTARTRSCAN | TMENDRSCAN)) != 0) {
-            throw refusal(Operation.RECOVER, null, XAER_INVAL, Detail.NOTHING);
+            throw XarmException.refusal(Operation.RECOVER, null, XAER_INVAL, Detail.NOTHING);
         }
         synchronized (session) {
             boolean isStart = (flags & TMSTARTRSCAN) != 0;
             if (!isStart && !isScanning) {
-                throw refusal(Operation.RECOVER, null, XAER_INVAL, Detail.NOTHING);
+                throw XarmException.refusal(Operation.RECOVER, null, XAER_INVAL, Detail.NOTHING);
+            }
+            if (isStart) {
+                calls.refresh(null);
             }
             List<XarmXid> found = isStart ? listed() : List.of();
             isScanning = (flags & TMENDRSCAN) == 0;
@@ -248,9 +255,9 @@ public final class XarmXAResource implements XAResource {
         int flags = TMSTARTRSCAN;
         Reply page;
         do {
-            page = call(new Request(Operation.RECOVER).flags(flags).count(MOST_XIDS));
+            page = calls.call(new Request(Operation.RECOVER).flags(flags).count(MOST_XIDS));
             if (page.code() < 0) {
-                throw refusal(Operation.RECOVER, null, page.code(), page.detail());
+                throw XarmException.refusal(Operation.RECOVER, null, page.code(), page.detail());
             }
             found.addAll(page.xids());
             flags = TMNOFLAGS;
@@ -259,12 +266,19 @@ public final class XarmXAResource implements XAResource {
     }
 
     /**
-     * Whether the other one is this session's. Sends nothing. Of two sessions a manager would have the second join the first one's
-     * branch; so each has a branch of its own in a global transaction, and one that breaks doesn't mark the other's work.
+     * Whether the other one is this session's, or, with {@link XarmXADataSource#setUseTmJoin}, one of the same server and name. Sends
+     * nothing.
      */
     @Override
     public boolean isSameRM(XAResource other) {
-        return this == other;
+        if (this == other) {
+            return true;
+        }
+        if (!(other instanceof XarmXAResource)) {
+            return false;
+        }
+        XarmXAResource resource = (XarmXAResource) other;
+        return isJoinable && resource.isJoinable && session.endpoint().equals(resource.session.endpoint());
     }
 
     /**
@@ -278,7 +292,7 @@ public final class XarmXAResource implements XAResource {
     @Override
     public boolean setTransactionTimeout(int seconds) throws XAException {
         if (seconds < 0) {
-            throw refusal(Operation.TIMEOUT, null, XAER_INVAL, Detail.NOTHING);
+            throw XarmException.refusal(Operation.TIMEOUT, null, XAER_INVAL, Detail.NOTHING);
         }
         synchronized (session) {
             timeLimit = seconds;
@@ -294,67 +308,19 @@ public final class XarmXAResource implements XAResource {
         }
     }
 
-    /** A branch that begins has the time limit that was set. */
-    private void sendTimeLimit() throws XAException {
-        if (session.timeLimit() == timeLimit) {
-            return;
-        }
-        Reply reply = call(new Request(Operation.TIMEOUT).seconds(timeLimit));
-        if (reply.code() != XA_OK) {
-            throw refusal(Operation.TIMEOUT, null, reply.code(), reply.detail());
-        }
-        session.setTimeLimit(timeLimit);
-    }
-
-    /**
-     * Asks for the completion of a branch. The server hangs a broken session up once it sees that its peer is gone, perhaps behind
-     * this call of the next session; until then it answers XAER_PROTO, since the old one still works for the branch. So it is asked
-     * again then, with pauses, for the read time-out at most.
-     */
-    private Reply complete(Operation operation, int flags, XarmXid branch) throws XAException {
-        long deadline = System.nanoTime() + TimeUnit.MILLISECONDS.toNanos(session.readTimeout());
-        Reply reply = ask(operation, flags, branch);
-        int pause = 1;
-        while (reply.code() == XAER_PROTO
-                && session.branches().markOr(branch, XA_OK) == XA_RBCOMMFAIL
-                && System.nanoTime() - deadline < 0) {
-            try {
-                session.wait(pause); // nobody notifies: it lets others use the session meanwhile
-            } catch (InterruptedException interrupted) {
-                Thread.currentThread().interrupt();
-                return reply;
-            }
-            pause = Math.min(2 * pause, LONGEST_PAUSE);
-            reply = ask(operation, flags, branch);
-        }
-        return reply;
-    }
-
     /**
      * What an answer to a prepare, or to a commit in one phase, says of a branch: by XA_RB* it is rolled back and gone, which is noted,
      * and so is one that the server doesn't know any more and that was marked.
      */
     private int rolledBack(XarmXid branch, int code) {
         if (Codes.isRollback(code)) {
-            session.branches().mark(branch, code);
+            branches.mark(session.number(), branch, code);
         }
-        return code == XAER_NOTA ? session.branches().markOr(branch, code) : code;
+        return code == XAER_NOTA ? branches.markOr(branch, code) : code;
     }
 
     private static boolean isGone(int code) {
         return code == XAER_NOTA || code == XAER_PROTO;
-    }
-
-    private Reply ask(Operation operation, int flags, XarmXid branch) throws XAException {
-        return call(new Request(operation).flags(flags).xid(branch));
-    }
-
-    private Reply call(Request request) throws XAException {
-        try {
-            return session.call(request);
-        } catch (XarmException broken) {
-            throw broken.toXAException();
-        }
     }
 
     private static XarmXid checked(Xid xid) throws XAException {
@@ -366,9 +332,5 @@ public final class XarmXAResource implements XAResource {
             invalid.initCause(none);
             throw invalid;
         }
-    }
-
-    private static XAException refusal(Operation operation, XarmXid branch, int code, Detail detail) {
-        return new XarmException(branch == null ? operation.toString() : operation + " " + branch, code, detail).toXAException();
     }
 }

@@ -7,17 +7,25 @@ import java.net.InetAddress;
 import java.net.ServerSocket;
 import java.net.Socket;
 import java.nio.ByteBuffer;
+import java.util.ArrayList;
+import java.util.List;
 import java.util.concurrent.BlockingQueue;
 import java.util.concurrent.LinkedBlockingQueue;
+import java.util.concurrent.atomic.AtomicLong;
 import xarm.client.Detail;
 import xarm.client.XarmXAConnection;
 import xarm.client.XarmXADataSource;
 
-/** Answers each Open with XA_OK, and each other frame with the bytes that a test has put down, as they stand. */
+/** Answers each Open with XA_OK, and each other frame with the bytes that a test has put down, with the next place where they have none. */
 final class Fake implements AutoCloseable {
     private final ServerSocket listener = new ServerSocket(0, 50, InetAddress.getByName("127.0.0.1"));
+    private static final int PLACE_AT = 10;
+
     private final BlockingQueue<byte[]> answers = new LinkedBlockingQueue<>();
+    private final BlockingQueue<Integer> asked = new LinkedBlockingQueue<>();
+    private final AtomicLong place = new AtomicLong();
     private final long pause;
+    private volatile byte[] always;
 
     Fake() throws IOException {
         this(0);
@@ -34,10 +42,23 @@ final class Fake implements AutoCloseable {
         });
     }
 
-    XarmXAConnection connect(int readTimeout) throws Exception {
+    /** Whose connections are never asked whether they stand. */
+    XarmXADataSource source(int readTimeout) {
         XarmXADataSource source = new XarmXADataSource("127.0.0.1", listener.getLocalPort(), "fake");
         source.setReadTimeout(readTimeout);
-        return source.getXAConnection();
+        source.setValidationInterval(Server.NEVER);
+        return source;
+    }
+
+    XarmXAConnection connect(int readTimeout) throws Exception {
+        return source(readTimeout).getXAConnection();
+    }
+
+    /** The operations that it was asked for, but Open, since this was called last. */
+    List<Integer> asked() {
+        List<Integer> since = new ArrayList<>();
+        asked.drainTo(since);
+        return since;
     }
 
     /** The next frame is answered so. */
@@ -49,11 +70,27 @@ final class Fake implements AutoCloseable {
         answer(reply(code, detail, 0, new byte[0]));
     }
 
-    /** A reply's frame. */
+    /** Each frame from now on is answered so. */
+    void always(int code) {
+        always = reply(code, Detail.NOTHING, 0, new byte[0]);
+    }
+
+    /** A reply's frame, without a place. */
     static byte[] reply(int code, Detail detail, int kind, byte[] body) {
+        return reply(code, detail, 0, kind, body);
+    }
+
+    static byte[] reply(int code, Detail detail, long place, int kind, byte[] body) {
         return ByteBuffer.allocate(19 + body.length)
-                .putInt(15 + body.length).put((byte) 1).putInt(code).put((byte) detail.ordinal()).putLong(1).put((byte) kind)
+                .putInt(15 + body.length).put((byte) 1).putInt(code).put((byte) detail.ordinal()).putLong(place).put((byte) kind)
                 .put(body).array();
+    }
+
+    private byte[] placed(byte[] frame) {
+        if (frame.length < PLACE_AT + Long.BYTES || ByteBuffer.wrap(frame).getLong(PLACE_AT) != 0) {
+            return frame;
+        }
+        return ByteBuffer.wrap(frame.clone()).putLong(PLACE_AT, place.incrementAndGet()).array();
     }
 
     private void serve(Socket client) throws IOException {
@@ -64,10 +101,11 @@ final class Fake implements AutoCloseable {
             while (true) {
                 byte[] content = input.readNBytes(input.readInt());
                 if (content[1] == 1) {
-                    output.write(reply(0, Detail.NOTHING, 0, new byte[0]));
+                    output.write(placed(reply(0, Detail.NOTHING, 0, new byte[0])));
                     continue;
                 }
-                for (byte it : answers.take()) {
+                asked.add((int) content[1]);
+                for (byte it : placed(always == null ? answers.take() : always)) {
                     Thread.sleep(pause);
                     output.write(it);
                 }

@@ -60,7 +60,6 @@ final class ResourceTests implements Suite {
         tests.test("two sessions of one global transaction are two branches", this::twoBranches);
         tests.test("an end with TMFAIL is told by prepare, and the rollback behind it is XA_OK", this::failed);
         tests.test("recover is a scan, whose first call lists all", this::scans);
-        tests.test("a session is the same resource manager as itself alone", this::sameManager);
         tests.test("a branch runs out of time, and its rollback is told XA_RBTIMEOUT", this::timeLimit);
         tests.test("an XID of another class is taken, and its parts compared", this::xids);
         tests.test("a closed connection rolls back what it was at work for", this::closed);
@@ -187,14 +186,6 @@ final class ResourceTests implements Suite {
         resource.rollback(xid("scan"));
     }
 
-    private void sameManager() throws Exception {
-        try (XarmXAConnection other = server.connect()) {
-            holds(resource.isSameRM(resource), "a session's own");
-            holds(!resource.isSameRM(other.getXAResource()), "not another one's");
-            holds(connection.getXAResource() == resource && connection.getRecords() == records, "each is the same each time");
-        }
-    }
-
     private void timeLimit() throws Exception {
         equal(0, resource.getTransactionTimeout());
         code(XAER_INVAL, () -> resource.setTransactionTimeout(-1));
@@ -264,6 +255,7 @@ final class ResourceTests implements Suite {
     private void source() throws Exception {
         XarmXADataSource source = new XarmXADataSource();
         equal("xarm at 127.0.0.1:4187", source.toString());
+        holds(connection.getXAResource() == resource && connection.getRecords() == records, "each is the same each time");
         equal(30_000, source.getReadTimeout());
         source.setPort(server.port());
         refusal(XAER_RMFAIL, Detail.NOTHING, source::getXAConnection);

@@ -8,6 +8,7 @@ import java.net.InetAddress;
 import java.net.ServerSocket;
 import java.nio.charset.StandardCharsets;
 import java.nio.file.Path;
+import java.util.ArrayList;
 import java.util.List;
 import java.util.concurrent.ThreadLocalRandom;
 import java.util.concurrent.TimeUnit;
@@ -21,19 +22,22 @@ final class Server implements AutoCloseable {
     private static final int TRIES = 100;
     private static final int LEAST_PORT = 10_000;
     private static final int MOST_PORT = 32_000;
+    /** So long a connection isn't idle: a test decides itself which frames are sent. */
+    static final int NEVER = Integer.MAX_VALUE;
 
     private final String program;
     private final Path log;
     private final String name;
-    private final int workers;
+    private final List<String> options;
     private final int port;
     private volatile Process process;
 
-    Server(String program, Path log, String name, int workers) throws Exception {
+    /** With further options of {@code serve}; with {@code --socket} it listens there, and not at the port. */
+    Server(String program, Path log, String name, String... options) throws Exception {
         this.program = program;
         this.log = log;
         this.name = name;
-        this.workers = workers;
+        this.options = List.of(options);
         port = freePort();
         Runtime.getRuntime().addShutdownHook(new Thread(this::close));
         start();
@@ -56,9 +60,10 @@ final class Server implements AutoCloseable {
     }
 
     void start() throws IOException {
-        process = new ProcessBuilder(
-                        program, "serve", "--log", log.toString(), "--name", name, "--port", Integer.toString(port),
-                        "--workers", Integer.toString(workers))
+        List<String> words = new ArrayList<>(List.of(program, "serve", "--log", log.toString(), "--name", name));
+        words.addAll(options.contains("--socket") ? List.of() : List.of("--port", Integer.toString(port)));
+        words.addAll(options);
+        process = new ProcessBuilder(words)
                 .redirectError(ProcessBuilder.Redirect.INHERIT)
                 .start();
         String line = new BufferedReader(new InputStreamReader(process.getInputStream(), StandardCharsets.UTF_8)).readLine();
@@ -73,6 +78,11 @@ final class Server implements AutoCloseable {
         if (!process.waitFor(LIMIT_SECONDS, TimeUnit.SECONDS)) {
             throw new IllegalStateException("the server lives on");
         }
+    }
+
+    /** It does nothing, or goes on. */
+    void stop(boolean isStopped) throws Exception {
+        new ProcessBuilder("kill", isStopped ? "-STOP" : "-CONT", Long.toString(process.pid())).inheritIO().start().waitFor();
     }
 
     int port() {

@@ -67,13 +67,14 @@ public final class Tests {
         return server("bank");
     }
 
+    /** By workers, which keep its history. */
     Server server(String name) throws Exception {
-        return server(name, 16);
+        return server(name, "--workers", "16");
     }
 
-    Server server(String name, int workers) throws Exception {
+    Server server(String name, String... options) throws Exception {
         servers++;
-        return new Server(program, folder.resolve("log" + servers), name, workers);
+        return new Server(program, folder.resolve("log" + servers), name, options);
     }
 
     /** The top of the repository, whose documents are tested. */
