@@ -45,6 +45,8 @@ CALLS = {
     "branches": (66, 4, "cursor"),
     "status": (67,),
 }
+# The frame that asks a server with loops to end, and has no reply.
+SHUTDOWN = bytes([0, 0, 0, 2, 1, 69])
 NUMBERS = ("boot", "end", "bytes", "branches", "prepared", "completed", "sessions", "versions", "calls", "seconds")
 # Each call of a session.
 SESSION = """1 open TMNOFLAGS n

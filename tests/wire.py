@@ -74,6 +74,8 @@ def long(front, count):
     return front + "a5" * count
 
 
+# What asks a server with loops to end, and is no request.
+SHUTDOWN = "01 45"
 # Each field at what is just no field, and what is left behind each content.
 MALFORMED = [
     ("", "S"),
@@ -84,6 +86,8 @@ MALFORMED = [
     ("01 12", "O"),
     ("01 40", "O"),
     ("01 44", "O"),
+    ("01 45 00", "O"),
+    ("01 46", "O"),
     ("01 ff", "O"),
     (long("01 01 00000000 ff", 254), "S"),
     (long("01 01 00000000 ff", 256), "T"),
@@ -304,6 +308,31 @@ TALKS = [
         "",
     ),
     (
+        "what asks for a shutdown, and what doesn't",
+        "connect\n1 shutdown \n1 shutdown x\nshutdown\n0 shutdown\n1 Shutdown\n2 shutdown\n1 shutdown",
+        [""],
+        [f"00000002 {SHUTDOWN}"],
+        "0 Nothing number 1\n" + "-5 Frame\n" * 5 + "-6 Nothing\n0 Nothing\n",
+        "",
+    ),
+    (
+        "a server that ends: its connection is gone",
+        "connect\n1 shutdown\n1 get 6b\n1 shutdown\nconnect\n",
+        ["", ""],
+        [f"00000002 {SHUTDOWN}", ""],
+        "0 Nothing number 1\n0 Nothing\n-6 Nothing\n-6 Nothing\n0 Nothing number 1\n",
+        "",
+    ),
+    (
+        "a server that replies to a shutdown: its connection stays",
+        "connect\n1 shutdown\n1 get 6b\n",
+        ["0000000f 01 fffffffb 06 0000000000000000 00" + OK],
+        [f"00000002 {SHUTDOWN} 00000004 01 0a 01 6b"],
+        "0 Nothing number 1\n-5 Frame\n0 Nothing\n",
+        "",
+    ),
+    ("a reply to a shutdown is cut", "connect\n1 shutdown\n", ["00"], [f"00000002 {SHUTDOWN}"], "0 Nothing number 1\n", "connection lost"),
+    (
         "the least free number, and the connection that has it",
         "connect\nconnect\n1 hangup\n1 get 6b\nconnect\n1 open TMNOFLAGS xarm\n2 get 6b\n",
         ["", "", OK],
@@ -330,4 +359,14 @@ TICKS = [
     ("a server that knows no such request", [PLAIN.format("fffffffb", 6)], ["tick refused", "connection lost"]),
     ("a reply is cut", ["0000000f 01 00"], ["connection lost"]),
     ("what comes is no reply", ["00000001 02"], ["no reply"]),
+]
+# What a shutdown is answered, and what is told then; with nothing the status is 0.
+SHUTDOWNS = [
+    ("the connection ends", "", ""),
+    ("a server that knows no such request", PLAIN.format("fffffffb", 6), "the server takes no shutdown"),
+    ("a reply of 0", OK, "the server takes no shutdown"),
+    ("a reply is cut", "0000000f 01 00", "connection lost"),
+    ("a length is cut", "00", "connection lost"),
+    ("a length that is too great", "00010000 01", "no reply"),
+    ("what comes is no reply", "00000001 02", "no reply"),
 ]
