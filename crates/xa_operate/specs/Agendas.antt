@@ -1,0 +1,81 @@
+-- What a task asks of a server, and what it goes on to ask by the answers.
+use Rattle.std.specs.Prelude.{◌==◌, ◌-◌, ℕ, pos, Bool, true, false, not, ◌&&◌, if◌then◌else◌, List, [], ◌∷◌, ◌++◌, length, flat_map, slice_get, Option, Some, None}
+use Rattle.std.specs.Option.{option_map_or}
+use Rattle.std.specs.Ordering.{int_eq}
+use Rattle.xa_codes.specs.declared.codes.TheConstants.{XA_OK}
+use Rattle.xa_codes.specs.declared.flags.TheConstants.{TMNOFLAGS, TMSTARTRSCAN}
+use Rattle.xa_frame.specs.declared.body.Body.{Body}
+use Rattle.xa_frame.specs.declared.body.Body.TheVariants as body
+use Rattle.xa_frame.specs.declared.known_branch.AssociationCounts.{AssociationCounts}
+use Rattle.xa_frame.specs.declared.known_branch.BranchState.{BranchState}
+use Rattle.xa_frame.specs.declared.known_branch.BranchState.TheVariants.{Working}
+use Rattle.xa_frame.specs.declared.known_branch.KnownBranch.{KnownBranch}
+use Rattle.xa_frame.specs.declared.question.Question.{Question}
+use Rattle.xa_frame.specs.declared.question.Question.TheVariants as question
+use Rattle.xa_frame.specs.declared.reply.Reply.{Reply}
+use Rattle.xa_frame.specs.declared.request.Request.TheVariants as request
+use Rattle.xa_operate.specs.declared.agenda.TheConstants.{PAGE}
+use Rattle.xa_operate.specs.declared.task.Task.{Task}
+use Rattle.xa_operate.specs.declared.task.Task.TheVariants.{Status, Branches, Recover, RollbackMarked, Commit, Rollback, Forget, Decide, Doom, Trim, Restart}
+use Rattle.xa_operate.specs.Tasks.{opens_session}
+
+abbrev pub question_of : Task → Question
+question_of Status = question.Status
+question_of Branches = question.Call (request.Branches PAGE None)
+question_of RollbackMarked = question.Call (request.Branches PAGE None)
+question_of Recover = question.Call (request.Recover TMSTARTRSCAN PAGE)
+question_of (Commit xid) = question.Call (request.Commit TMNOFLAGS xid)
+question_of (Rollback xid) = question.Call (request.Rollback TMNOFLAGS xid)
+question_of (Forget xid) = question.Call (request.Forget TMNOFLAGS xid)
+question_of (Decide direction xid) = question.Call (request.Decide direction xid)
+question_of (Doom xid) = question.Call (request.Doom xid)
+question_of Trim = question.Call request.Trim
+question_of Restart = question.Call request.Restart
+
+-- the resource manager is opened by its name where that is needed, and then the task's question is asked
+abbrev pub asked_first : List ℕ → Task → List Question
+asked_first name task =
+    if opens_session task then question.Call (request.Open TMNOFLAGS name) ∷ question_of task ∷ []
+    else question_of task ∷ []
+
+-- a page that is full: there may be more
+abbrev pub is_full : ℕ → Bool
+is_full count = count == PAGE
+
+-- the scan goes on
+abbrev pub after_scan : ℕ → List Question
+after_scan count = if is_full count then question.Call (request.Recover TMNOFLAGS PAGE) ∷ [] else []
+
+-- the list goes on above its last branch
+abbrev pub after_page : List KnownBranch → List Question
+after_page branches =
+    if is_full (length branches)
+    then option_map_or (λ last. question.Call (request.Branches PAGE (Some last.xid)) ∷ []) (slice_get branches (length branches - 1)) []
+    else []
+
+abbrev pub is_working : BranchState → Bool
+is_working Working = true
+is_working _ = false
+
+abbrev pub has_no_association : AssociationCounts → Bool
+has_no_association counts = (counts.active == 0) && (counts.suspended == 0) && (counts.loose == 0)
+
+-- it is marked, so that it can only be rolled back, and nobody is at work for it
+abbrev pub is_abandoned : KnownBranch → Bool
+is_abandoned branch = is_working branch.state && not (int_eq branch.mark XA_OK) && has_no_association branch.associations
+
+abbrev pub rollback_of : KnownBranch → List Question
+rollback_of branch = if is_abandoned branch then question.Call (request.Rollback TMNOFLAGS branch.xid) ∷ [] else []
+
+abbrev pub rollbacks_of : List KnownBranch → List Question
+rollbacks_of branches = flat_map rollback_of branches
+
+-- what a task goes on to ask by the body of an answer
+abbrev pub behind_body : Task → Body → List Question
+behind_body Recover (body.Xids xids) = after_scan (length xids)
+behind_body Branches (body.Branches branches) = after_page branches
+behind_body RollbackMarked (body.Branches branches) = rollbacks_of branches ++ after_page branches
+behind_body _ _ = []
+
+abbrev pub behind : Task → Reply → List Question
+behind task reply = behind_body task reply.body

@@ -1,0 +1,171 @@
+//! What a task asks, and what it goes on to ask by an answer.
+ghost use Rattle.std.specs.Prelude.{◌≡◌, ◌≤◌, ◌++◌, All, IfOk, OnOk, length};
+ghost use Rattle.xa_frame.specs.Questions.{IsQuestion};
+ghost use Rattle.xa_limits.specs.declared.TheConstants.{MOST_INFO};
+ghost use Rattle.xa_operate.specs.Agendas.{after_page, after_scan, asked_first, behind, has_no_association, is_abandoned, question_of, rollback_of};
+ghost use Rattle.xa_operate.specs.Agendas.{rollbacks_of};
+
+use crate::task::Task;
+use std::alloc::{AllocError, Global};
+use std::collections::VecDeque;
+use xa_codes::{Bytes, TMNOFLAGS, TMSTARTRSCAN, XA_OK};
+use xa_frame::{AssociationCounts, Body, BranchState, KnownBranch, Question, Reply, Request};
+
+/// How many branches, or XIDs, are asked for at a time: as many as a reply may have.
+pub const PAGE: u32 = 256;
+
+/// What a task asks first.
+pub(crate) fn asked_first(
+    alloc: Global,
+    name: &str,
+    task: &Task,
+) -> Result<VecDeque<Question>, AllocError>
+    requires { length name.now ≤ MOST_INFO }
+    ensures questions { IfOk result (λ agenda. agenda.items ≡ asked_first name.now task.now) }
+    ensures limits { IfOk result (λ agenda. All IsQuestion agenda.items) }
+{
+    let mut agenda = VecDeque::new(alloc);
+    if task.opens_session() {
+        agenda.push_back(Question::Call(Request::Open {
+            flags: TMNOFLAGS,
+            info: Bytes::from_slice(alloc, name.as_bytes())?,
+        }))?;
+    }
+    agenda.push_back(question_of(task))?;
+    Ok(agenda)
+}
+
+fn question_of(task: &Task) -> Question
+    ensures value { result ≡ question_of task.now }
+    ensures limits { IsQuestion result }
+{
+    let flags = TMNOFLAGS;
+    Question::Call(match task {
+        Task::Status => return Question::Status,
+        Task::Branches | Task::RollbackMarked => Request::Branches {
+            count: PAGE,
+            after: None,
+        },
+        Task::Recover => Request::Recover {
+            flags: TMSTARTRSCAN,
+            count: PAGE,
+        },
+        Task::Commit(xid) => Request::Commit {
+            flags,
+            xid: xid.copied(),
+        },
+        Task::Rollback(xid) => Request::Rollback {
+            flags,
+            xid: xid.copied(),
+        },
+        Task::Forget(xid) => Request::Forget {
+            flags,
+            xid: xid.copied(),
+        },
+        Task::Decide(direction, xid) => Request::Decide {
+            direction: *direction,
+            xid: xid.copied(),
+        },
+        Task::Doom(xid) => Request::Doom { xid: xid.copied() },
+        Task::Trim => Request::Trim,
+        Task::Restart => Request::Restart,
+    })
+}
+
+/// Adds what a task goes on to ask once this is answered.
+pub(crate) fn push_behind(
+    agenda: &mut VecDeque<Question>,
+    task: &Task,
+    reply: &Reply,
+) -> Result<(), AllocError>
+    requires { All IsQuestion agenda.old.items }
+    ensures questions { OnOk result (agenda.new.items ≡ agenda.old.items ++ behind task.now reply.now) }
+    ensures limits { OnOk result (All IsQuestion agenda.new.items) }
+{
+    match (task, &reply.body) {
+        (Task::Recover, Body::Xids(xids)) => push_scan(agenda, xids.as_slice().len()),
+        (Task::Branches, Body::Branches(branches)) => push_page(agenda, branches.as_slice()),
+        (Task::RollbackMarked, Body::Branches(branches)) => {
+            push_rollbacks(agenda, branches.as_slice())?;
+            push_page(agenda, branches.as_slice())
+        }
+        _ => Ok(()),
+    }
+}
+
+/// The scan goes on behind a full page.
+fn push_scan(agenda: &mut VecDeque<Question>, count: usize) -> Result<(), AllocError>
+    requires { All IsQuestion agenda.old.items }
+    ensures questions { OnOk result (agenda.new.items ≡ agenda.old.items ++ after_scan count) }
+    ensures limits { OnOk result (All IsQuestion agenda.new.items) }
+{
+    if count == PAGE as usize {
+        agenda.push_back(Question::Call(Request::Recover {
+            flags: TMNOFLAGS,
+            count: PAGE,
+        }))?;
+    }
+    Ok(())
+}
+
+/// The list goes on above the last branch of a full page.
+fn push_page(agenda: &mut VecDeque<Question>, branches: &[KnownBranch]) -> Result<(), AllocError>
+    requires { All IsQuestion agenda.old.items }
+    ensures questions { OnOk result (agenda.new.items ≡ agenda.old.items ++ after_page branches.now) }
+    ensures limits { OnOk result (All IsQuestion agenda.new.items) }
+{
+    if branches.len() != PAGE as usize {
+        return Ok(());
+    }
+    if let Some(last) = branches.last() {
+        agenda.push_back(Question::Call(Request::Branches {
+            count: PAGE,
+            after: Some(last.xid.copied()),
+        }))?;
+    }
+    Ok(())
+}
+
+/// Each abandoned branch is to be rolled back.
+fn push_rollbacks(
+    agenda: &mut VecDeque<Question>,
+    branches: &[KnownBranch],
+) -> Result<(), AllocError>
+    requires { All IsQuestion agenda.old.items }
+    ensures questions { OnOk result (agenda.new.items ≡ agenda.old.items ++ rollbacks_of branches.now) }
+    ensures limits { OnOk result (All IsQuestion agenda.new.items) }
+{
+    for branch in branches {
+        push_rollback(agenda, branch)?;
+    }
+    Ok(())
+}
+
+fn push_rollback(agenda: &mut VecDeque<Question>, branch: &KnownBranch) -> Result<(), AllocError>
+    requires { All IsQuestion agenda.old.items }
+    ensures questions { OnOk result (agenda.new.items ≡ agenda.old.items ++ rollback_of branch.now) }
+    ensures limits { OnOk result (All IsQuestion agenda.new.items) }
+{
+    if is_abandoned(branch) {
+        agenda.push_back(Question::Call(Request::Rollback {
+            flags: TMNOFLAGS,
+            xid: branch.xid.copied(),
+        }))?;
+    }
+    Ok(())
+}
+
+/// Whether a branch is marked, so that it can only be rolled back, and nobody is at work for it.
+fn is_abandoned(branch: &KnownBranch) -> bool
+    ensures { result ≡ is_abandoned branch.now }
+{
+    branch.state == BranchState::Working
+        && branch.mark != XA_OK
+        && has_no_association(branch.associations)
+}
+
+fn has_no_association(counts: AssociationCounts) -> bool
+    ensures { result ≡ has_no_association counts }
+{
+    counts.active == 0 && counts.suspended == 0 && counts.loose == 0
+}

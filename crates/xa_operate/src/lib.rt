@@ -1,0 +1,35 @@
+//! What an operator asks of a running server, one task at a time: how it is doing, which branches it knows, that one of them
+//! be decided, and the like.
+//!
+//! - `task`: `Task`, what is asked; `opens_session`, `decides`
+//! - `name`: `is_name`, whether a script can name a resource manager so
+//! - `agenda`: the questions of a task, and those that an answer leads to; `PAGE`
+//! - `answer`: whether a reply is what was asked for
+//! - `shown`: what is printed of an answer, in a `format`: `Format`
+//! - `run`: `operate_run`, which asks a server; `print_text`; `fault`: `OperateFault`, why the task isn't done
+//! - `status`: `operate_status`, the program's status by that end
+//! - `script`: `script_text`, the script of `xarm talk` that asks the same; `laws`: `talk_reads`, it is read so
+#![tactic(auto)]
+
+mod agenda;
+mod answer;
+mod fault;
+mod format;
+mod laws;
+mod line;
+mod name;
+mod run;
+mod script;
+mod shown;
+mod status;
+mod task;
+
+pub use agenda::PAGE;
+pub use fault::OperateFault;
+pub use format::Format;
+pub use laws::talk_reads;
+pub use name::is_name;
+pub use run::{operate_run, print_text};
+pub use script::script_text;
+pub use status::operate_status;
+pub use task::Task;
