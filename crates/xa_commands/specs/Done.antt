@@ -1,5 +1,5 @@
 -- What a command did, with some reader or disk: no clause says that it is the one that the runtime gave.
-use Rattle.std.specs.Prelude.{◌≡◌, ◌⊎◌, ◌++◌, ℕ, Bool, true, false, List, Option, Result, Ok, Err, codes}
+use Rattle.std.specs.Prelude.{◌≡◌, ◌⊎◌, ◌++◌, ℕ, Bool, true, false, List, Option, Result, Ok, Err, IsErrOf, codes}
 use Rattle.xa_check.specs.Checks.{Checks}
 use Rattle.xa_check.specs.declared.fault.CheckFault.{CheckFault}
 use Rattle.xa_check.specs.declared.fault.CheckFault.TheVariants as check
@@ -9,6 +9,12 @@ use Rattle.xa_commands.specs.declared.scanning_fault.ScanningFault.{ScanningFaul
 use Rattle.xa_commands.specs.declared.scanning_fault.ScanningFault.TheVariants.{InUse, File, Scan}
 use Rattle.xa_disk.specs.declared.file_fault.FileFault.{FileFault}
 use Rattle.xa_disk.specs.declared.file_fault.FileFault.TheVariants as file
+use Rattle.xa_operate.specs.Courses.{Operates, Prints}
+use Rattle.xa_operate.specs.Scripts.{script_of}
+use Rattle.xa_operate.specs.declared.fault.OperateFault.{OperateFault}
+use Rattle.xa_operate.specs.declared.fault.OperateFault.TheVariants.{Talk}
+use Rattle.xa_operate.specs.declared.format.Format.{Format}
+use Rattle.xa_operate.specs.declared.task.Task.{Task}
 use Rattle.xa_play.specs.Plays.{Plays}
 use Rattle.xa_play.specs.Runs.{IsLawful}
 use Rattle.xa_play.specs.declared.fault.PlayFault.{PlayFault}
@@ -19,6 +25,7 @@ use Rattle.xa_script.specs.declared.style.Style.{Style}
 use Rattle.xa_talk.specs.Talks.{Talks}
 use Rattle.xa_talk.specs.Ticks.{Ticked}
 use Rattle.xa_talk.specs.declared.fault.TalkFault.{TalkFault}
+use Rattle.xa_talk.specs.declared.fault.TalkFault.TheVariants as talk
 use Rattle.xa_talk.specs.declared.tick_fault.TickFault.{TickFault}
 
 -- what a reader gave was played, with this end
@@ -55,6 +62,18 @@ abbrev pub HasTicked : {C X : Type 0} → (T : Type 0) → (C → Option (List �
     → Type 0
 HasTicked T sent left end =
     (ticker : T) × (ticker' : T) × Ticked {T = T} (λ _ _ _. Unit {0}) (λ _ _ _. Unit {0}) sent left end ticker ticker'
+
+-- a server was asked a task over a connection, with this end
+abbrev pub HasOperated : {C X : Type 0} → Format → Task → (C → Option (List ℕ)) → (C → Option (List ℕ)) → List ℕ
+    → Result X OperateFault → Type 0
+HasOperated format task sent left name end =
+    (output : Option (List ℕ)) × (output' : Option (List ℕ)) × Operates format task sent left name end output output'
+
+-- the script of a task was printed, or there was no memory
+abbrev pub HasShown : {X : Type 0} → List ℕ → Task → Result X OperateFault → Type 0
+HasShown name task end =
+    IsErrOf end (Talk talk.Memory)
+    ⊎ ((output : Option (List ℕ)) × (output' : Option (List ℕ)) × Prints end (script_of name task) output output')
 
 -- the status of a check: 0 where a server opens the two files, 1 where it doesn't, 2 where that couldn't be told
 abbrev pub checked_status : {E : Type 0} → Result Bool E → ℕ

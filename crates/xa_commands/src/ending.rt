@@ -2,10 +2,12 @@ ghost use Rattle.std.specs.IoError.{error_kind};
 ghost use Rattle.std.specs.Prelude.{◌≡◌, ◌≢◌, IfOk, OnErr, OnOk, false, true};
 ghost use Rattle.std.specs.Process.{exit_status};
 ghost use Rattle.xa_commands.specs.Done.{checked_status};
+ghost use Rattle.xa_operate.specs.Courses.{status_of};
 
 use std::fmt::Display;
 use std::io::{self, ErrorKind};
 use std::process::ExitCode;
+use xa_operate::{OperateFault, operate_status};
 use xa_play::PlayFault;
 
 /// The status of an end, and its line on standard error where it is a fault: 0 where all is done, else 1.
@@ -50,6 +52,17 @@ pub fn checked<R: Eprint, F: Display>(rt: &R, end: &Result<bool, F>) -> ExitCode
         Ok(is_whole) => ExitCode::from(if *is_whole { 0 } else { 1 }),
         Err(_) => ExitCode::from(2),
     }
+}
+
+/// The status of a task that a server was asked, and its line on standard error where it isn't done: 0 where it is, 1 where
+/// the server refused it, 3 where neither is known.
+pub fn operated<R: Eprint>(rt: &R, end: &Result<(), OperateFault>) -> ExitCode
+    ensures { exit_status result ≡ status_of end.now }
+{
+    if let Err(fault) = end {
+        let _ = eprintln!(rt; "xarm: {fault}");
+    }
+    ExitCode::from(operate_status(end))
 }
 
 /// The status where the words of the command line can't be had. A word that is no text is refused as a word that is

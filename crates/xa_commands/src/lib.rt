@@ -9,7 +9,9 @@
 //!   connection to it
 //! - `ticking`: `tick`, a server is told what the clock says; `Watch`, the clock and standard error
 //! - `shutting`: `shutdown`, a server is asked to end
-//! - `ending`: `ended`, `served`, `checked` and `words_fault`, the status of an end, and its line on standard error
+//! - `operating`: `operate`, a server is asked what an operator wants; `show_script`, the script that asks the same is printed;
+//!   `timed`: `TimedServer`, a server that isn't waited for without end
+//! - `ending`: `ended`, `served`, `checked`, `operated` and `words_fault`, the status of an end, and its line on standard error
 #![tactic(auto)]
 
 mod accepting;
@@ -18,6 +20,7 @@ mod checking;
 mod checking_fault;
 mod ending;
 mod keeping;
+mod operating;
 mod playing;
 mod scanning;
 mod scanning_fault;
@@ -26,12 +29,14 @@ mod shutting;
 mod stream;
 mod talking;
 mod ticking;
+mod timed;
 
 pub use accepting::accept_damage;
 pub use accepting_fault::AcceptingFault;
 pub use checking::check;
 pub use checking_fault::CheckingFault;
-pub use ending::{checked, ended, served, words_fault};
+pub use ending::{checked, ended, operated, served, words_fault};
+pub use operating::{operate, show_script};
 pub use playing::play;
 pub use scanning::scan;
 pub use scanning_fault::ScanningFault;
@@ -40,3 +45,4 @@ pub use shutting::shutdown;
 pub use stream::Stream;
 pub use talking::talk;
 pub use ticking::{Watch, tick};
+pub use timed::TimedServer;

@@ -1,4 +1,5 @@
 use crate::stream::Stream;
+use std::io::Read;
 use std::net::{Net, TcpStream};
 use std::os::unix::net::UnixStream;
 use std::{fmt, io};
@@ -43,7 +44,24 @@ impl<R: Net<Stream = TcpStream>> Dial<Stream, Stream> for Server<'_, R> {
             }
         }
     }
+
+    fn hang_up(&mut self, connection: Connection<Stream, Stream>) {
+        let Connection { mut reader, writer } = connection;
+        if writer.end().is_err() {
+            return;
+        }
+        let mut rest = [0u8; 256];
+        for _ in 0..MOST_READS {
+            match reader.read(&mut rest) {
+                Ok(0) | Err(_) => return,
+                Ok(_) => {}
+            }
+        }
+    }
 }
+
+// How often what still comes is read, before the wait for the server's end is over.
+const MOST_READS: u32 = 1_000_000;
 
 impl<R> fmt::Debug for Server<'_, R> {
     fn fmt<W: fmt::Write>(&self, f: &mut fmt::Formatter<W>) -> fmt::Result {

@@ -10,6 +10,7 @@ use Rattle.xa_frame.specs.declared.reply.Reply.{Reply}
 use Rattle.xa_frame.specs.declared.question.Question.{Question}
 use Rattle.xa_reactor.specs.declared.peer.Peer.{Peer}
 use Rattle.xa_reactor.specs.Aside.{IsAside, Visits}
+use Rattle.xa_reactor.specs.Ticks.{IsTimed}
 use Rattle.xa_reactor.specs.Believed.Tending.{Table, Tends, sessions_of}
 use Rattle.xa_reactor.proofs.Doing.{tends_refused, tends_thrice, tends_connected, tends_answered, tends_left}
 
@@ -59,3 +60,8 @@ module _ {D : Type 0} (connected : D → Result ℕ ConnectFault → D → Type 
   tends_aside peers content d e aside =
       let free : get peers (length peers.slots) ≡ None = get_or_past peers.slots (length peers.slots) None (omega arith) in
       asides (sessions_of peers) (length peers.slots) content d e (ap (λ (slot : Option Peer). option_map (λ p. p.session) slot) free) aside
+
+  pub tends_timed : (peers : Slab Peer) (d e : D) → IsTimed connected called left d e
+      → Tends connected called left (sessions_of peers) d (sessions_of peers) e
+  tends_timed peers d e (inl same) = tends_aside peers [] d e (inl same)
+  tends_timed peers d e (inr told) = tends_aside peers told.content d e (inr (told.answered, told.visited))

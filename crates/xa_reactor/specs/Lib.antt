@@ -3,9 +3,11 @@ pub mod Turning
 pub mod Timing
 pub mod Since
 pub mod Accepting
+pub mod Patience
 pub mod Trims
-pub mod Trimmed
+pub mod Visited
 pub mod Aside
+pub mod Ticks
 pub mod Asking
 pub mod Opening
 pub mod Together

@@ -1,5 +1,5 @@
 -- The times of a loop, in milliseconds.
-use Rattle.std.specs.Prelude.{ℕ, ◌≡◌, ◌*◌, Bool, true, false, not, ◌&&◌, MatchBool, nat_lt, nat_le, Option, Some, None, if◌then◌else◌}
+use Rattle.std.specs.Prelude.{ℕ, ◌≡◌, ◌⊎◌, ◌*◌, ◌/◌, max, Bool, true, false, ◌&&◌, nat_lt, nat_le, Option, Some, None, if◌then◌else◌}
 use Rattle.xa_reactor.specs.declared.clock.LoopClock.{LoopClock}
 use Rattle.xa_reactor.specs.declared.common.Settings.{Settings}
 use Rattle.xa_reactor.specs.declared.timing.TheConstants.{PAUSE, LOOK}
@@ -20,12 +20,23 @@ is_too_quiet quiet seconds = nat_lt 0 seconds && nat_le (1000 * seconds) quiet
 abbrev pub is_overdue : Bool → ℕ → ℕ → Bool
 is_overdue is_inside quiet seconds = is_inside && is_too_quiet quiet seconds
 
+-- whether a connection was quiet for too long, by whether its session has an association
+abbrev pub is_vanished : Bool → ℕ → Settings → Bool
+is_vanished true quiet settings = is_too_quiet quiet settings.branch_seconds
+is_vanished false quiet settings = is_too_quiet quiet settings.idle_seconds
+
 -- By what is answered of whether a session has an association: its connection is to end where it is overdue inside a
--- frame; else where it was quiet for too long, and the session has none; else not.
-abbrev pub IsToEnd : (Bool → Type 0) → Bool → ℕ → Settings → Bool → Type 0
-IsToEnd associates is_inside quiet settings ends =
-    MatchBool (is_overdue is_inside quiet settings.frame_seconds) (ends ≡ true)
-    (MatchBool (is_too_quiet quiet settings.idle_seconds) (associates (not ends)) (ends ≡ false))
+-- frame, or was quiet for too long, whatever would be answered or by what is.
+pub record IsToEnd (associates : Bool → Type 0) (is_inside : Bool) (quiet : ℕ) (settings : Settings) (ends : Bool)
+    : Type 0 where
+  pub overdue : is_overdue is_inside quiet settings.frame_seconds ≡ true → ends ≡ true
+  pub vanished : is_overdue is_inside quiet settings.frame_seconds ≡ false
+      → ((has : Bool) → ends ≡ is_vanished has quiet settings)
+      ⊎ ((has : Bool) × associates has × (ends ≡ is_vanished has quiet settings))
+
+-- 40 looks of one connection, and fewer of more
+abbrev pub looks_of : ℕ → ℕ
+looks_of connections = 40 / max connections 1
 
 abbrev pub wait_of : Bool → Bool → Bool → Option ℕ
 wait_of has_turn pauses has_connections =

@@ -2,7 +2,6 @@
 use Rattle.std.specs.Prelude.{ℕ, ◌≡◌, ◌-◌, ◌/◌, min, Bool, true, false, ◌&&◌, ◌||◌, nat_lt, nat_le, Option, Some, None, is_none, if◌then◌else◌}
 use Rattle.xa_reactor.specs.declared.common.Settings.{Settings}
 use Rattle.xa_reactor.specs.declared.trims.Refused.{Refused}
-use Rattle.xa_reactor.specs.declared.trims.TheConstants.{REST}
 use Rattle.xa_reactor.specs.declared.trims.Trims.{Trims}
 
 -- what was asked for, or a quarter of the greatest size where that is above half of it
@@ -18,12 +17,12 @@ is_due end base bound log_bytes =
 -- none was refused, or a minute ago, or the log grew by a quarter since
 abbrev pub may_try : Option Refused → ℕ → ℕ → Bool
 may_try None now end = true
-may_try (Some refused) now end = nat_le REST (now - refused.at) || nat_le (refused.end / 4) (end - refused.end)
+may_try (Some refused) now end = nat_le 60000 (now - refused.at) || nat_le (refused.end / 4) (end - refused.end)
 
 -- none was told, or a minute ago
 abbrev pub is_news : Option ℕ → ℕ → Bool
 is_news None now = true
-is_news (Some told) now = nat_le REST (now - told)
+is_news (Some told) now = nat_le 60000 (now - told)
 
 abbrev pub is_to_trim : Trims → Settings → ℕ → ℕ → Bool
 is_to_trim trims settings now end =

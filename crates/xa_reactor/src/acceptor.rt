@@ -1,9 +1,11 @@
-ghost use Rattle.std.specs.Prelude.{◌≡◌, ◌≤◌};
+ghost use Rattle.std.specs.Prelude.{◌≡◌, ◌⊎◌, ◌<◌, ◌≤◌, false, true};
 ghost use Rattle.xa_reactor.specs.Accepting.{most_of};
 
 use crate::common::{Common, MOST_OPEN};
 use crate::listener::Listener;
 use crate::timing::{LOOK, PAUSE};
+use crate::trims::REST;
+use std::io;
 use std::io::ErrorKind;
 use std::sync::Wait;
 
@@ -26,6 +28,9 @@ pub(crate) struct Acceptor {
     /// How many were refused of which nobody was told, and when that may be told.
     refused: u64,
     tells: u64,
+    /// Why the last accept failed that is to be told, and when another one may be.
+    failed: Option<io::Error>,
+    tells_failed: u64,
 }
 
 impl Acceptor {
@@ -46,11 +51,15 @@ impl Acceptor {
             resumes: 0,
             refused: 0,
             tells: 0,
+            failed: None,
+            tells_failed: 0,
         }
     }
 
     /// An event told of a connection that waits.
-    pub(crate) fn notice(&mut self) {
+    pub(crate) fn notice(&mut self)
+        ensures { self.new ≡ record self.old { waits = true } }
+    {
         self.waits = true;
     }
 
@@ -60,12 +69,17 @@ impl Acceptor {
     }
 
     /// Whether there may be a connection to accept.
-    pub(crate) fn waits(&self) -> bool {
+    pub(crate) fn waits(&self) -> bool
+        ensures { result ≡ self.now.waits }
+    {
         self.waits
     }
 
     /// Accepts what waits, so many at most.
-    pub(crate) fn accept_all<R: Wait>(&mut self, rt: &R, common: &Common<'_>, now: u64) {
+    pub(crate) fn accept_all<R: Wait>(&mut self, rt: &R, common: &Common<'_>, now: u64)
+        ensures few { self.old.accepted ≤ self.old.most → self.new.accepted ≤ self.new.most }
+        ensures none { self.old.waits ≡ false → self.new ≡ self.old }
+    {
         if !self.waits || self.is_pausing(common, now) {
             return;
         }
@@ -104,6 +118,7 @@ impl Acceptor {
                 ErrorKind::Interrupted | ErrorKind::ConnectionAborted => true,
                 _ => {
                     self.resumes = now.saturating_add(PAUSE);
+                    self.failed = Some(error);
                     common.pause();
                     false
                 }
@@ -111,8 +126,14 @@ impl Acceptor {
         }
     }
 
-    /// Tells how many were refused, at most once a second.
-    pub(crate) fn tell<R: Eprint>(&mut self, rt: &R, now: u64) {
+    /// Tells why accepting pauses, at most once a minute, and how many were refused, at most once a second.
+    pub(crate) fn tell<R: Eprint>(&mut self, rt: &R, now: u64)
+        ensures refused { (self.new.refused ≡ 0) ⊎ ((now < self.old.tells) × (self.new.refused ≡ self.old.refused)) }
+        ensures waits { (self.new.waits ≡ self.old.waits) × (self.new.accepted ≡ self.old.accepted) }
+    {
+        if let Some(error) = self.failed.take() {
+            self.tell_failed(rt, now, &error);
+        }
         if self.refused == 0 || now < self.tells {
             return;
         }
@@ -120,5 +141,16 @@ impl Acceptor {
         let _ = eprintln!(rt; "xarm: {refused} connections refused: {MOST_OPEN} are open");
         self.refused = 0;
         self.tells = now.saturating_add(LOOK);
+    }
+
+    // Tells why accepting pauses, unless that was told less than a minute ago.
+    fn tell_failed<R: Eprint>(&mut self, rt: &R, now: u64, error: &io::Error)
+        ensures { self.new ≡ record self.old { tells_failed = self.new.tells_failed } }
+    {
+        if now < self.tells_failed {
+            return;
+        }
+        let _ = eprintln!(rt; "xarm: cannot accept connections: {error}; trying again");
+        self.tells_failed = now.saturating_add(REST);
     }
 }

@@ -106,13 +106,14 @@ pub(crate) fn take_in<D: Reception, R: Clock + Wait>(
     }
 }
 
-/// Tells that the manager went down, and why, where that is news, and ends all loops, where that is asked.
+/// Tells that the manager went down, and why, where that is news, and ends all loops, where that is asked, unless a Restart
+/// helped since.
 pub(crate) fn tell<R: Eprint>(rt: &R, common: &Common<'_>) {
     let Some(cause) = common.watch.news() else {
         return;
     };
     let _ = eprintln!(rt; "xarm: manager down until a Restart or a restart of the server: {cause}");
-    if common.settings.ends_when_down {
+    if common.settings.ends_when_down && common.watch.is_down() {
         common.stop();
     }
 }

@@ -1,4 +1,4 @@
-ghost use Rattle.std.specs.Prelude.{◌≡◌, false, OnOk, nat_le};
+ghost use Rattle.std.specs.Prelude.{◌≡◌, false, true, IfOk, OnOk, nat_le};
 ghost use Rattle.xa_reactor.specs.Timing.{IsRead, after_wait};
 
 use crate::timing::LOOK;
@@ -18,7 +18,9 @@ pub(crate) struct LoopClock {
 }
 
 impl LoopClock {
-    pub(crate) fn new<R: Clock>(rt: &R) -> io::Result<LoopClock> {
+    pub(crate) fn new<R: Clock>(rt: &R) -> io::Result<LoopClock>
+        ensures { IfOk result (λ clock. (clock.now ≡ 0) × (clock.is_past ≡ true) × (clock.looks ≡ 1000)) }
+    {
         Ok(LoopClock {
             began: Instant::now(rt)?,
             now: 0,

@@ -3,6 +3,7 @@ ghost use Rattle.std.specs.Prelude.{◌≡◌};
 use crate::listener::Listener;
 use crate::mailbox::Mailbox;
 use crate::socket::Socket;
+use crate::ticks::Ticks;
 use crate::trims::Trims;
 use crate::watch::Watch;
 use std::sync::atomic::{AtomicBool, AtomicU64, Ordering};
@@ -20,12 +21,16 @@ pub struct Settings {
     pub frame_seconds: u64,
     /// For how many seconds a connection whose session has no association may be quiet, 0 for ever.
     pub idle_seconds: u64,
+    /// For how many seconds a connection whose session has one may be quiet, 0 for ever.
+    pub branch_seconds: u64,
     /// Whether they end when the manager has gone down.
     pub ends_when_down: bool,
     /// Above which end of the log they trim it, in bytes, 0 for never. Above half of `log_bytes` a quarter of that counts.
     pub trim_bytes: u64,
     /// How many bytes each of the log's two files may have.
     pub log_bytes: u64,
+    /// After how many seconds they tell the manager the time again, 0 for never.
+    pub tick_seconds: u64,
 }
 
 /// What the loops of a server share, beside its manager.
@@ -36,6 +41,7 @@ pub(crate) struct Common<'a> {
     boxes: Vec<Mailbox>,
     pub(crate) watch: &'a Watch,
     pub(crate) trims: Mutex<Trims>,
+    pub(crate) ticks: Mutex<Ticks>,
     /// Until a loop has taken it, the first one that begins.
     listener: Mutex<Option<Listener>>,
     /// How many connections are open, or handed to a loop.
@@ -62,6 +68,7 @@ impl<'a> Common<'a> {
             boxes,
             watch,
             trims: Mutex::new(Trims::new()),
+            ticks: Mutex::new(Ticks::new()),
             listener: Mutex::new(Some(listener)),
             open: AtomicU64::new(0),
             pauses: AtomicBool::new(false),

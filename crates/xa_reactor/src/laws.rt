@@ -1,12 +1,17 @@
 //! Worked rows.
-ghost use Rattle.xa_reactor.specs.{Trimmed.TrimRows, Trims.DueRows};
+ghost use Rattle.xa_reactor.specs.{Ticks.TickRows, Trims.DueRows, Visited.VisitRows};
 
 /// When trims are due of a few logs. It does nothing.
 pub fn trims_are_due()
     ensures { DueRows }
 {}
 
-/// What became of a few trims, by their replies. It does nothing.
-pub fn trims_are_told()
-    ensures { TrimRows }
+/// When ticks are due, by a few clocks. It does nothing.
+pub fn ticks_are_due()
+    ensures { TickRows }
+{}
+
+/// What became of a few trims and ticks, by their replies. It does nothing.
+pub fn visits_are_told()
+    ensures { VisitRows }
 {}

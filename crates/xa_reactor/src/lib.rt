@@ -12,8 +12,9 @@
 //!   takes in more requests, and for a while before it waits for a device (`patience`); `beside`: what it does between
 //!   rounds; `noticing`: what events tell it; `acceptor`: the one that accepts; `common`: what the loops share, with a
 //!   `mailbox` for each
-//! - `trims`: when the log is trimmed; `trimming`: by which session; `trimmed`: what became of that
-//! - `laws`: `trims_are_due`, `trims_are_told`, worked rows
+//! - `trims`: when the log is trimmed, and `trimming` it; `ticks`: when the manager is told the time, and `ticking`;
+//!   `visiting`: by a session of the loop's own; `visited`: what became of it
+//! - `laws`: `ticks_are_due`, `trims_are_due`, `visits_are_told`, worked rows
 #![tactic(auto)]
 
 mod acceptor;
@@ -35,17 +36,20 @@ mod round;
 mod seen;
 mod socket;
 mod tending;
+mod ticking;
+mod ticks;
 mod timing;
 mod together;
 mod tools;
-mod trimmed;
 mod trimming;
 mod trims;
+mod visited;
+mod visiting;
 mod watch;
 
 pub use ask::Ask;
 pub use common::{MOST_OPEN, Settings};
-pub use laws::{trims_are_due, trims_are_told};
+pub use laws::{ticks_are_due, trims_are_due, visits_are_told};
 pub use listener::Listener;
 pub use loops::{Ended, LoopFault, run_loops};
 pub use reception::Reception;

@@ -1,3 +1,6 @@
+ghost use Rattle.std.specs.Prelude.{◌≡◌};
+ghost use Rattle.xa_reactor.specs.Patience.{after_look, learned, looks_now, new_patience};
+
 /// How often at most a loop looks for more requests before it answers those that may wait for a device.
 const LOOKS: u32 = 100;
 
@@ -16,12 +19,17 @@ pub(crate) struct Patience {
 }
 
 impl Patience {
-    pub(crate) fn new() -> Patience {
+    pub(crate) fn new() -> Patience
+        ensures { result ≡ new_patience }
+    {
         Patience { skips: 0, left: 0 }
     }
 
     /// How often to look now.
-    pub(crate) fn looks(&mut self) -> u32 {
+    pub(crate) fn looks(&mut self) -> u32
+        ensures looks { result ≡ looks_now self.old }
+        ensures left { self.new ≡ after_look self.old }
+    {
         if self.left > 0 {
             self.left -= 1;
             return 0;
@@ -30,7 +38,9 @@ impl Patience {
     }
 
     /// It was looked; whether requests came.
-    pub(crate) fn learn(&mut self, came: bool) {
+    pub(crate) fn learn(&mut self, came: bool)
+        ensures { self.new ≡ learned self.old came }
+    {
         self.skips = if came {
             0
         } else {

@@ -1,4 +1,4 @@
-ghost use Rattle.std.specs.Prelude.{◌≡◌, ◌+◌, ℕ, None, IsTrue, false, length};
+ghost use Rattle.std.specs.Prelude.{◌≡◌, ◌+◌, ℕ, None, IsTrue, false, is_some, length};
 ghost use Rattle.slab.specs.Slab.{get};
 ghost use Rattle.xa_reactor.specs.{Asking.IsAnswered, Opening.OpensAt, Peers.HasRoom};
 ghost use Rattle.xa_reactor.specs.Believed.Tending.{Tends, nobody, sessions_of};
@@ -188,7 +188,7 @@ impl Peers {
         }
     }
 
-    /// Ends those that are overdue inside a frame, and those that were quiet for too long without an association.
+    /// Ends those that are overdue inside a frame, and those that were quiet for too long, by whether they have an association.
     pub(crate) fn end_overdue<D: Reception>(&mut self, door: &mut D, now: u64, settings: &Settings)
         ensures { Tends D.connected D.called D.left (sessions_of self.old.all) door.old (sessions_of self.new.all) door.new }
     {
@@ -198,7 +198,9 @@ impl Peers {
     }
 
     /// Whether one of them asked the server to end.
-    pub(crate) fn is_to_stop(&self) -> bool {
+    pub(crate) fn is_to_stop(&self) -> bool
+        ensures { result ≡ is_some self.now.stopper }
+    {
         self.stopper.is_some()
     }
 
@@ -294,7 +296,16 @@ fn is_to_end<D: Reception>(
     if is_overdue(is_inside, quiet, settings.frame_seconds) {
         return true;
     }
-    is_too_quiet(quiet, settings.idle_seconds) && !door.has_association(session)
+    let ends_idle = is_too_quiet(quiet, settings.idle_seconds);
+    let ends_busy = is_too_quiet(quiet, settings.branch_seconds);
+    if ends_idle == ends_busy {
+        return ends_idle;
+    }
+    if door.has_association(session) {
+        ends_busy
+    } else {
+        ends_idle
+    }
 }
 
 // Hangs the session of the connection under this key up, if there is one, and gives its socket.

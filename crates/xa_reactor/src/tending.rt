@@ -14,6 +14,7 @@ use crate::peers::Peers;
 use crate::reception::Reception;
 use crate::round::Round;
 use crate::socket::Socket;
+use crate::ticking::keep_time;
 use crate::timing::{FEW_EVENTS, GATHERS, gather_wait, looks_of};
 use crate::tools::{Tools, give_each};
 use crate::trimming::{begin_trims, keep_short};
@@ -87,6 +88,8 @@ struct Loop {
     had_few: bool,
     /// After how many groups the requests of a round have their replies that were posted first.
     due: u64,
+    /// When the manager is to be told the time next, by the loop's clock: at first at once.
+    tick: u64,
 }
 
 impl Loop {
@@ -106,6 +109,7 @@ impl Loop {
             acceptor,
             had_few: false,
             due: 0,
+            tick: 0,
         })
     }
 
@@ -128,6 +132,7 @@ impl Loop {
         let is_look = self.is_look();
         let before = peers.len();
         let noticed = notice_all(peers, door, &self.events);
+        self.tick = keep_time(rt, common, door, woke, self.tick);
         self.clock.pass();
         let gathered = self.give_turns(rt, common, peers, door);
         // what came in while turns were given isn't read yet: nobody is overdue by that time

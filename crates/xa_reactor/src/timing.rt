@@ -1,6 +1,6 @@
 //! The times of a loop, in milliseconds.
 ghost use Rattle.std.specs.Prelude.{◌≡◌};
-ghost use Rattle.xa_reactor.specs.Timing.{is_overdue, is_too_quiet, wait_of};
+ghost use Rattle.xa_reactor.specs.Timing.{is_overdue, is_too_quiet, looks_of, wait_of};
 
 use std::time::Duration;
 
@@ -28,7 +28,9 @@ pub(crate) const COMPANY: usize = 3;
 
 /// How often a loop with so many connections looks: the more they are, the sooner one of them wakes it, and the more others
 /// want the processor.
-pub(crate) fn looks_of(connections: usize) -> usize {
+pub(crate) fn looks_of(connections: usize) -> usize
+    ensures { result ≡ looks_of connections }
+{
     LOOKS / connections.max(1)
 }
 

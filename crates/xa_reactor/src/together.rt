@@ -3,7 +3,7 @@ ghost use Rattle.std.specs.Prelude.{ℕ, ◌≡◌, ◌+◌, ◌≤◌, [], All}
 ghost use Rattle.std.specs.Vec.{vec_capacity, vec_len};
 ghost use Rattle.xa_reactor.specs.Asking.{IsAnswered, IsLent, IsOpen, IsTold, PutsAll, TurnedAll};
 ghost use Rattle.xa_reactor.specs.Believed.Tending.{Table, Tends, TendsPosting, sessions_of};
-ghost use Rattle.xa_reactor.specs.{Timing.after_wait, Together.HasLent, Together.IsOver};
+ghost use Rattle.xa_reactor.specs.{Timing.after_wait, Together.HasLent, Together.IsOver, Together.may_gather, Together.may_grow};
 
 use crate::ask::Ask;
 use crate::clock::LoopClock;
@@ -34,7 +34,9 @@ pub(crate) struct Together {
 }
 
 impl Together {
-    pub(crate) fn new(alloc: Global) -> Together {
+    pub(crate) fn new(alloc: Global) -> Together
+        ensures { (table : Table) → HasLent table result }
+    {
         Together {
             quick: Vec::new(alloc),
             waiting: Vec::new(alloc),
@@ -63,13 +65,17 @@ impl Together {
     }
 
     /// Whether there are requests that may wait for a device, and the round may have more turns meanwhile.
-    pub(crate) fn may_gather(&self) -> bool {
+    pub(crate) fn may_gather(&self) -> bool
+        ensures { result ≡ may_gather (vec_len self.now.waiting) (vec_len self.now.over) }
+    {
         !self.waiting.is_empty() && self.over.len() < MOST_TURNS
     }
 
     /// Whether more requests may come that share a sync with those that there are: some may wait for a device, some of so
     /// many connections have asked for none, and the round has had few turns.
-    pub(crate) fn may_grow(&self, connections: usize) -> bool {
+    pub(crate) fn may_grow(&self, connections: usize) -> bool
+        ensures { result ≡ may_grow (vec_len self.now.waiting) (vec_len self.now.over) connections }
+    {
         !self.waiting.is_empty()
             && connections >= COMPANY
             && self.waiting.len() < connections

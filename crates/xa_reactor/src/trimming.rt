@@ -1,19 +1,16 @@
 //! A trim of the log, by an operator's session of its own.
 ghost use Rattle.std.specs.Prelude.{◌≡◌, true};
-ghost use Rattle.xa_reactor.specs.Aside.{IsAside, HasVisited};
+ghost use Rattle.xa_reactor.specs.Aside.{IsAside};
 
 use crate::clock::LoopClock;
 use crate::common::Common;
 use crate::reception::Reception;
-use crate::trimmed::{Trimmed, trimmed_by};
 use crate::trims::Trims;
-use std::alloc::Global;
+use crate::visited::{Visited, visited_by};
+use crate::visiting::visit;
 use std::rt::Clock;
 use std::sync::Wait;
 use std::time::Instant;
-use xa_assoc::ConnectFault;
-use xa_desk::answer;
-use xa_frame::Reply;
 
 /// The content of the frame of a Trim.
 const TRIM: [u8; 2] = [1, 65];
@@ -106,30 +103,20 @@ fn trim<D: Reception, R: AllocGlobal + Clock + Eprint>(
     ensures { IsAside D.connected D.called D.left TRIM door.old door.new }
 {
     let began = Instant::now(rt).ok();
-    let answered = visit(rt.alloc(), door);
-    match trimmed_by(&answered) {
-        Trimmed::Done(after) => {
+    let answered = visit(rt.alloc(), door, &TRIM);
+    match visited_by(&answered) {
+        Visited::Done(after) => {
             trims.finish(after);
             let millis = millis_since(rt, began);
             let _ = eprintln!(rt; "xarm: log trimmed from {end} to {after} bytes in {millis} ms");
         }
-        Trimmed::Refused(reason) => {
+        Visited::Refused(reason) => {
             if trims.refuse(now, end) {
                 let _ = eprintln!(rt; "xarm: log not trimmed: {reason}");
             }
         }
-        Trimmed::Down => {}
+        Visited::Down => {}
     }
-}
-
-// Connects a session, asks for a trim, and hangs it up.
-fn visit<D: Reception>(alloc: Global, door: &mut D) -> Result<Reply, ConnectFault>
-    ensures { HasVisited D.connected D.called D.left TRIM door.old result door.new }
-{
-    let session = door.connect()?;
-    let reply = answer(alloc, door, session, &TRIM);
-    door.hangup(session);
-    Ok(reply)
 }
 
 // How many milliseconds have passed, 0 where the clock doesn't tell.

@@ -12,7 +12,8 @@ use xa_frame::Reply;
 pub struct Watch {
     last: Mutex<Seen>,
     is_down: AtomicBool,
-    is_told: AtomicBool,
+    /// Whether it went down, of which nobody was told.
+    is_untold: AtomicBool,
     /// Why it went down last, by the cause's number.
     cause: AtomicU64,
 }
@@ -23,7 +24,7 @@ impl Watch {
         Watch {
             last: Mutex::new(Seen::new()),
             is_down: AtomicBool::new(false),
-            is_told: AtomicBool::new(false),
+            is_untold: AtomicBool::new(false),
             cause: AtomicU64::new(0),
         }
     }
@@ -47,12 +48,11 @@ impl Watch {
         match news {
             News::Down(cause) => {
                 self.cause.store(cause.number(), Ordering::SeqCst);
-                self.is_down.store(true, Ordering::SeqCst);
+                if !self.is_down.swap(true, Ordering::SeqCst) {
+                    self.is_untold.store(true, Ordering::SeqCst);
+                }
             }
-            News::Up => {
-                self.is_down.store(false, Ordering::SeqCst);
-                self.is_told.store(false, Ordering::SeqCst);
-            }
+            News::Up => self.is_down.store(false, Ordering::SeqCst),
         }
     }
 
@@ -61,9 +61,10 @@ impl Watch {
         self.is_down.load(Ordering::SeqCst)
     }
 
-    /// Why it went down, where nobody was told.
+    /// Why it went down, where nobody was told, also where it is up again.
     pub(crate) fn news(&self) -> Option<Cause> {
-        if self.is_down() && !self.is_told.swap(true, Ordering::SeqCst) {
+        // read first: each loop asks after each round
+        if self.is_untold.load(Ordering::SeqCst) && self.is_untold.swap(false, Ordering::SeqCst) {
             Cause::numbered(self.cause.load(Ordering::SeqCst))
         } else {
             None

@@ -54,9 +54,11 @@ pub fn serve_loops<
         connections: service.connections,
         frame_seconds: service.frame_seconds,
         idle_seconds: service.idle_seconds,
+        branch_seconds: service.branch_seconds,
         ends_when_down: service.ends_when_down,
         trim_bytes: service.trim_bytes,
         log_bytes: service.log_bytes,
+        tick_seconds: service.tick_seconds,
     };
     let told = loop_manager(rt, listener, GroupManager::new(manager), loops, settings)?;
     if !told.is_whole {

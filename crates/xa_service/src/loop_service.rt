@@ -20,8 +20,12 @@ pub struct LoopService<'a> {
     pub frame_seconds: u64,
     /// For how many seconds a connection whose session has no association may be quiet, 0 for ever.
     pub idle_seconds: u64,
+    /// For how many seconds a connection whose session has one may be quiet, 0 for ever.
+    pub branch_seconds: u64,
     /// Above which end of the log it is trimmed, in bytes, 0 for never. Above half of `log_bytes` a quarter of that counts.
     pub trim_bytes: u64,
+    /// After how many seconds the manager is told the time again, 0 for never.
+    pub tick_seconds: u64,
     /// Whether it ends when the manager has gone down.
     pub ends_when_down: bool,
 }

@@ -32,7 +32,9 @@ pub fn answer<R: Read + Drop, W: Write + Drop, D: Dial<R, W>>(
         Line::Silent => Ok(None),
         Line::Connect => shown(connect(dial, connections)),
         Line::Hangup(number) => {
-            connections.close(number);
+            if let Some(connection) = connections.take(number) {
+                dial.hang_up(connection);
+            }
             Ok(Some(Reply::plain(XA_OK)))
         }
         Line::Call(number, request) => {

@@ -1,6 +1,6 @@
 //! The connections of a script by their numbers.
 ghost use Rattle.std.specs.Prelude.{◌≡◌, ◌+◌, [], OnOk};
-ghost use Rattle.xa_talk.specs.Numbers.{free_index, index_of, with_at, with_new};
+ghost use Rattle.xa_talk.specs.Numbers.{connection_at, free_index, index_of, with_at, with_new};
 
 use crate::dial::Connection;
 use std::alloc::{AllocError, Global};
@@ -61,13 +61,14 @@ impl<R: Drop, W: Drop> Connections<R, W> {
         Ok(())
     }
 
-    /// The connection of a number is closed, if there is one.
-    pub fn close(&mut self, number: u64)
-        ensures { self.new.numbered.items ≡ with_at (index_of number) None self.old.numbered.items }
+    /// The connection of a number, if there is one, which has it no more.
+    pub fn take(&mut self, number: u64) -> Option<Connection<R, W>>
+        ensures gone { self.new.numbered.items ≡ with_at (index_of number) None self.old.numbered.items }
+        ensures taken { result ≡ connection_at number self.old.numbered.items }
     {
         match index_of(number) {
-            Some(index) if index < self.numbered.len() => self.numbered[index] = None,
-            _ => {}
+            Some(index) if index < self.numbered.len() => self.numbered[index].take(),
+            _ => None,
         }
     }
 }

@@ -10,4 +10,7 @@ pub struct Connection<R, W> {
 /// What opens connections to one server.
 pub trait Dial<R, W> {
     fn dial(&mut self) -> io::Result<Connection<R, W>>;
+
+    /// Sends no more over a connection, and waits until the server has closed it too: by then it has hung the session up.
+    fn hang_up(&mut self, connection: Connection<R, W>);
 }

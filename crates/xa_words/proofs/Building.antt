@@ -1,11 +1,14 @@
 -- Commands that are built argument by argument.
-use Rattle.std.proofs.Common.{◌∙◌, ◌||◌, ap, ap₂, Result, Ok, Err, IfOk}
+use Rattle.std.proofs.Common.{◌≡◌, ◌∙◌, ◌||◌, ap, ap₂, refl, subst, Bool, Result, Ok, Err, IfOk}
 use Rattle.clap.specs.Built.{AddsArg, AddsSubcommand}
-use Rattle.clap.specs.Simple.{App, Shape, with_rule, with_subcommand}
+use Rattle.clap.specs.Simple.{App, Shape, new_app, with_rule, with_subcommand}
 use Rattle.clap.specs.Walk.{Rule}
 use Rattle.clap.specs.declared.builder.arg.Arg.{Arg}
 use Rattle.clap.specs.declared.builder.command.Command.{Command}
-use Rattle.xa_words.specs.Line.{HasRule, HasShape, IsApp}
+use Rattle.xa_words.specs.Line.{HasRule, HasShape, IsApp, direction_rule, format_rule, play_name_rule, port_rule, print_script_rule, seconds_rule, socket_rule, verb_shape, with_given, xid_rule, yes_rule}
+use Rattle.xa_words.specs.Verbs.{decides, lists, names_branch, names_direction, opens_session, verb_text}
+use Rattle.xa_words.specs.declared.verb.Verb.{Verb}
+use Rattle.xa_words.specs.declared.verb.Verb.TheVariants.{Status, Branches, Recover, Commit, Rollback, Forget, Decide, Doom, Trim, Restart, RollbackMarked}
 
 pub adds_rule : (old : Command) (arg : Arg) (new : Command) (app : App) (rule : Rule) → IsApp app old → HasRule rule arg
     → AddsArg old arg new → IsApp (with_rule app rule) new
@@ -37,3 +40,43 @@ pub last_command : {E : Type 0} (old sub : Command) (r : Result Command E) (app 
     → HasShape shape sub → IfOk r (AddsSubcommand old sub) → IfOk r (IsApp (with_subcommand app shape))
 last_command old sub (Ok new) app shape builds has adds = adds_command old sub new app shape builds has adds
 last_command old sub (Err e) app shape builds has adds = tt
+
+-- an argument that is given or isn't
+pub gives_rule : {E : Type 0} (old : Command) (arg : Arg) (r : Result Command E) (app : App) (rule : Rule) → IsApp app old
+    → HasRule rule arg → IfOk r (AddsArg old arg) → IfOk r (IsApp (with_rule app rule))
+gives_rule old arg (Ok new) app rule builds has adds = adds_rule old arg new app rule builds has adds
+gives_rule old arg (Err e) app rule builds has adds = tt
+
+-- whether it is given is known
+pub given_as : (b b' : Bool) → b ≡ b' → (rule : Rule) (app : App) (command : Command) → IsApp (with_given b rule app) command
+    → IsApp (with_given b' rule app) command
+given_as b b' same rule app command builds = subst (λ (d : Bool). IsApp (with_given d rule app) command) same builds
+
+pub given_ok : {E : Type 0} (b b' : Bool) → b ≡ b' → (rule : Rule) (app : App) (r : Result Command E)
+    → IfOk r (IsApp (with_given b rule app)) → IfOk r (IsApp (with_given b' rule app))
+given_ok b b' same rule app r builds = subst (λ (d : Bool). IfOk r (IsApp (with_given d rule app))) same builds
+
+pub shaped : {E : Type 0} (r : Result Command E) (app : App) (shape : Shape) → app.top ≡ shape → IfOk r (IsApp app)
+    → IfOk r (HasShape shape)
+shaped (Ok new) app shape same builds = subst (λ (s : Shape). HasShape s new) same (has_shape app new builds)
+shaped (Err e) app shape same builds = tt
+
+-- a verb's command, argument by argument
+abbrev pub built_app : Verb → App
+built_app verb =
+    with_given (decides verb) yes_rule (with_rule (with_given (lists verb) format_rule (with_rule (with_given (opens_session verb) play_name_rule
+    (with_rule (with_rule (with_given (names_branch verb) xid_rule (with_given (names_direction verb) direction_rule (new_app (verb_text verb))))
+    port_rule) socket_rule)) seconds_rule)) print_script_rule)
+
+pub built_shape : (verb : Verb) → (built_app verb).top ≡ verb_shape verb
+built_shape Status = refl
+built_shape Branches = refl
+built_shape Recover = refl
+built_shape Commit = refl
+built_shape Rollback = refl
+built_shape Forget = refl
+built_shape Decide = refl
+built_shape Doom = refl
+built_shape Trim = refl
+built_shape Restart = refl
+built_shape RollbackMarked = refl

@@ -1,5 +1,5 @@
 -- What the words of a command ask for.
-use Rattle.std.specs.Prelude.{◌≡◌, ◌≢◌, ◌⊎◌, ℕ, Bool, true, false, List, [], Option, Some, None, codes, if◌then◌else◌, unwrap_or}
+use Rattle.std.specs.Prelude.{◌≡◌, ◌≢◌, ◌⊎◌, ℕ, Bool, true, false, List, [], Option, Some, None, IsSome, codes, if◌then◌else◌}
 use Rattle.std.specs.Option.{option_map_or}
 use Rattle.std.specs.Str.Parse.{digits_value, without_leading_plus}
 use Rattle.clap.specs.ValueTests.{is_unsigned_in}
@@ -12,12 +12,14 @@ use Rattle.xa_commands.specs.declared.server.Reach.TheVariants as reach
 use Rattle.xa_service.specs.declared.at.At.{At}
 use Rattle.xa_service.specs.declared.at.At.TheVariants as at
 use Rattle.xa_service.specs.declared.service.TheConstants.{MOST_SERVED}
+pub use Rattle.xa_words.specs.Rows.{text_in}
+use Rattle.xa_operate.specs.Tasks.{decides}
+use Rattle.xa_operate.specs.declared.task.Task.{Task}
+use Rattle.xa_words.specs.Orders.{IsMalformedIn, IsNameIn, IsTaskIn, format_named}
+use Rattle.xa_words.specs.Verbs.{verb_of}
+use Rattle.xa_words.specs.declared.verb.Verb.{Verb}
 use Rattle.xa_words.specs.declared.asked.Asked.{Asked}
-use Rattle.xa_words.specs.declared.asked.Asked.TheVariants.{Play, Scan, Check, Serve, Loop, Talk, Tick, Shutdown, Nowhere}
-
--- the text of an argument, or the one that stands for none
-abbrev pub text_in : List Row → Text → Text → Text
-text_in rows id absent = unwrap_or (first_of id rows) absent
+use Rattle.xa_words.specs.declared.asked.Asked.TheVariants.{Play, Scan, Check, Serve, Loop, Talk, Tick, Shutdown, Operate, Script, Unconfirmed, Malformed, Nowhere}
 
 -- the number that a text spells, where it is at most `most`, or the one that stands for none
 abbrev pub number_or : ℕ → ℕ → Text → ℕ
@@ -46,14 +48,18 @@ pub record IsSet (text : Option Text) (flag : Bool) : Type 0 where
   pub set : text ≡ Some (codes "true") → flag ≡ true
   pub unset : text ≡ Some (codes "false") → flag ≡ false
 
--- the command is one of the seven
-abbrev pub IsCommand : Text → Type 0
-IsCommand command =
+-- the command is one of those that ask a server nothing, or more than one thing
+abbrev pub IsOther : Text → Type 0
+IsOther command =
     (command ≡ codes "check")
     ⊎ ((command ≡ codes "play")
     ⊎ ((command ≡ codes "scan")
     ⊎ ((command ≡ codes "serve")
     ⊎ ((command ≡ codes "shutdown") ⊎ ((command ≡ codes "talk") ⊎ (command ≡ codes "tick"))))))
+
+-- the command is one of the program's
+abbrev pub IsCommand : Text → Type 0
+IsCommand command = IsOther command ⊎ IsSome (verb_of command)
 
 -- no path is given, and this port is, which is 0 where none is
 abbrev pub IsPort : List Row → ℕ → Type 0
@@ -78,8 +84,20 @@ IsNowhere command rows =
     ((command ≡ codes "serve") × (number_in rows (codes "workers") most_64 0 ≢ 0)
     × (number_in rows (codes "port") most_16 0 ≡ 0))
     ⊎ ((((command ≡ codes "serve") × (number_in rows (codes "workers") most_64 0 ≡ 0))
-    ⊎ ((command ≡ codes "shutdown") ⊎ ((command ≡ codes "talk") ⊎ (command ≡ codes "tick"))))
+    ⊎ ((command ≡ codes "shutdown") ⊎ ((command ≡ codes "talk") ⊎ ((command ≡ codes "tick") ⊎ IsSome (verb_of command)))))
     × IsPort rows 0)
+
+-- the words behind an operator's command name this task
+abbrev pub IsOrder : Text → List Row → Task → Type 0
+IsOrder command rows task = (verb : Verb) × (verb_of command ≡ Some verb) × IsTaskIn verb rows task
+
+-- what can't be taken back was confirmed
+abbrev pub IsConfirmed : List Row → Task → Type 0
+IsConfirmed rows task = decides task ≡ true → IsSet (one_of (codes "yes") rows) true
+
+-- it wasn't
+abbrev pub IsUnconfirmed : List Row → Task → Type 0
+IsUnconfirmed rows task = (decides task ≡ true) × IsSet (one_of (codes "yes") rows) false
 
 -- each field of what a command asks for is that of its own argument
 abbrev pub AsksBy : Text → List Row → Asked → Type 0
@@ -121,9 +139,25 @@ AsksBy command rows (Loop service accepts) =
     × (service.connections ≡ number_in rows (codes "connections") most_64 0)
     × (service.frame_seconds ≡ number_in rows (codes "frame-seconds") most_64 30)
     × (service.idle_seconds ≡ number_in rows (codes "idle-seconds") most_64 0)
+    × (service.branch_seconds ≡ number_in rows (codes "branch-seconds") most_64 0)
     × (service.trim_bytes ≡ number_in rows (codes "trim") most_64 67108864)
+    × (service.tick_seconds ≡ number_in rows (codes "tick") most_64 1)
     × IsSet (one_of (codes "exit-when-down") rows) service.ends_when_down
     × IsSet (one_of (codes "accept-damage") rows) accepts
+-- of a task the script
+AsksBy command rows (Script name task) =
+    IsOrder command rows task × IsNameIn rows name.now × IsSet (one_of (codes "print-script") rows) true
+-- what can't be taken back isn't confirmed
+AsksBy command rows (Unconfirmed task xid) =
+    IsOrder command rows task × (xid.now ≡ text_in rows (codes "xid") [])
+    × IsSet (one_of (codes "print-script") rows) false × IsUnconfirmed rows task
+-- that a task be done
+AsksBy command rows (Operate reach seconds format name task) =
+    IsOrder command rows task × IsNameIn rows name.now × IsReachIn rows (Some reach)
+    × (seconds ≡ number_in rows (codes "seconds") most_64 10)
+    × (format_named (text_in rows (codes "format") (codes "text")) ≡ Some format)
+    × IsSet (one_of (codes "print-script") rows) false × IsConfirmed rows task
+AsksBy command rows (Malformed what) = IsSome (verb_of command) × IsMalformedIn rows what
 AsksBy command rows Nowhere = IsNowhere command rows
 
 -- the same of the command that the words name, and its matches

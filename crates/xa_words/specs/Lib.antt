@@ -1,3 +1,6 @@
+pub mod Rows
+pub mod Verbs
 pub mod Line
+pub mod Orders
 pub mod Asks
 pub mod Runs

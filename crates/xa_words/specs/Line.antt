@@ -1,6 +1,6 @@
 -- The command line of the program, as `clap` reads it: its commands, and the arguments of each. Texts for help aren't read.
-use Rattle.std.specs.Prelude.{◌≡◌, ℕ, List, [], ◌∷◌, Some, true, false, codes}
-use Rattle.clap.specs.Simple.{App, Shape, app_of, new_app, new_rule, shape_of}
+use Rattle.std.specs.Prelude.{◌≡◌, ℕ, Bool, List, [], ◌∷◌, ◌++◌, Some, true, false, codes}
+use Rattle.clap.specs.Simple.{App, Shape, app_of, new_app, new_rule, shape_of, with_rule}
 use Rattle.clap.specs.Walk.{Rule, Text, rule_of}
 use Rattle.clap.specs.declared.builder.action.ArgAction.TheVariants.{Set, SetTrue}
 use Rattle.clap.specs.declared.builder.arg.Arg.{Arg}
@@ -11,6 +11,9 @@ use Rattle.xa_limits.specs.declared.TheConstants.{LEAST_LOG, MOST_LOG}
 use Rattle.xa_service.specs.declared.loop_service.TheConstants.{MOST_LOOPS}
 use Rattle.xa_service.specs.declared.service.TheConstants.{MOST_SERVED, MOST_WORKERS}
 use Rattle.xa_talk.specs.declared.tick.TheConstants.{MOST_EVERY}
+use Rattle.xa_words.specs.Verbs.{decides, lists, names_branch, names_direction, opens_session, verb_text}
+use Rattle.xa_words.specs.declared.verb.Verb.{Verb}
+use Rattle.xa_words.specs.declared.verb.Verb.TheVariants.{Status, Branches, Recover, Commit, Rollback, Forget, Decide, Doom, Trim, Restart, RollbackMarked}
 
 -- ---- kinds of arguments
 
@@ -83,8 +86,14 @@ frame_seconds_rule = defaulting (codes "30") (number 0 3600 (option (codes "fram
 abbrev pub idle_seconds_rule : Rule
 idle_seconds_rule = defaulting (codes "0") (number 0 86400 (option (codes "idle-seconds")))
 
+abbrev pub branch_seconds_rule : Rule
+branch_seconds_rule = defaulting (codes "0") (number 0 86400 (option (codes "branch-seconds")))
+
 abbrev pub trim_rule : Rule
 trim_rule = defaulting (codes "67108864") (number 0 MOST_LOG (option (codes "trim")))
+
+abbrev pub tick_rule : Rule
+tick_rule = defaulting (codes "1") (number 0 MOST_EVERY (option (codes "tick")))
 
 abbrev pub exit_when_down_rule : Rule
 exit_when_down_rule = flag (codes "exit-when-down")
@@ -97,6 +106,24 @@ every_rule = defaulting (codes "1") (number 1 MOST_EVERY (option (codes "every")
 
 abbrev pub names_rule : Rule
 names_rule = flag (codes "names")
+
+abbrev pub direction_rule : Rule
+direction_rule = required (positional (codes "direction"))
+
+abbrev pub xid_rule : Rule
+xid_rule = required (positional (codes "xid"))
+
+abbrev pub seconds_rule : Rule
+seconds_rule = defaulting (codes "10") (number 1 3600 (option (codes "seconds")))
+
+abbrev pub format_rule : Rule
+format_rule = defaulting (codes "text") (option (codes "format"))
+
+abbrev pub print_script_rule : Rule
+print_script_rule = flag (codes "print-script")
+
+abbrev pub yes_rule : Rule
+yes_rule = flag (codes "yes")
 
 -- ---- the commands
 
@@ -116,7 +143,8 @@ abbrev pub serve_shape : Shape
 serve_shape =
     command_of (codes "serve")
     (log_rule ∷ name_rule ∷ port_rule ∷ serve_log_bytes_rule ∷ workers_rule ∷ connections_rule ∷ loops_rule ∷ listen_rule
-    ∷ socket_rule ∷ frame_seconds_rule ∷ idle_seconds_rule ∷ trim_rule ∷ exit_when_down_rule ∷ accept_damage_rule
+    ∷ socket_rule ∷ frame_seconds_rule ∷ idle_seconds_rule ∷ branch_seconds_rule ∷ trim_rule ∷ tick_rule
+    ∷ exit_when_down_rule ∷ accept_damage_rule
     ∷ [])
 
 abbrev pub shutdown_shape : Shape
@@ -128,16 +156,56 @@ talk_shape = command_of (codes "talk") (port_rule ∷ socket_rule ∷ names_rule
 abbrev pub tick_shape : Shape
 tick_shape = command_of (codes "tick") (port_rule ∷ socket_rule ∷ every_rule ∷ [])
 
+-- an argument that a command has, or hasn't
+abbrev pub given : Bool → Rule → List Rule
+given true rule = rule ∷ []
+given false rule = []
+
+abbrev pub with_given : Bool → Rule → App → App
+with_given true rule app = with_rule app rule
+with_given false rule app = app
+
+-- a command that asks a running server one thing
+abbrev pub verb_shape : Verb → Shape
+verb_shape verb =
+    command_of (verb_text verb)
+    (given (names_direction verb) direction_rule ++ given (names_branch verb) xid_rule
+    ++ (port_rule ∷ socket_rule ∷ []) ++ given (opens_session verb) play_name_rule ++ (seconds_rule ∷ [])
+    ++ given (lists verb) format_rule ++ (print_script_rule ∷ []) ++ given (decides verb) yes_rule)
+
 -- the command line without its commands: its version
 abbrev pub bare : App
 bare = record { top = record (new_app (codes "xarm")).top { has_version = true; subcommand_required = true }; subs = [] }
 
--- the whole command line: one of the seven, and its version
-abbrev pub xarm : App
-xarm = record {
+abbrev pub with_shapes : List Shape → App
+with_shapes shapes = record {
   top = record (new_app (codes "xarm")).top { has_version = true; subcommand_required = true; is_leaf = false };
-  subs = check_shape ∷ play_shape ∷ scan_shape ∷ serve_shape ∷ shutdown_shape ∷ talk_shape ∷ tick_shape ∷ [];
+  subs = shapes;
 }
+
+-- those that ask a server nothing, or more than one thing
+abbrev pub other_shapes : List Shape
+other_shapes =
+    check_shape ∷ play_shape ∷ scan_shape ∷ serve_shape ∷ shutdown_shape ∷ talk_shape ∷ tick_shape ∷ []
+
+-- those that ask a server how things are, and those that have it do something
+abbrev pub question_shapes : List Shape
+question_shapes = verb_shape Status ∷ verb_shape Branches ∷ verb_shape Recover ∷ []
+
+abbrev pub order_shapes : List Shape
+order_shapes =
+    verb_shape Commit ∷ verb_shape Rollback ∷ verb_shape Forget ∷ verb_shape Decide ∷ verb_shape Doom ∷ verb_shape Trim
+    ∷ verb_shape Restart ∷ verb_shape RollbackMarked ∷ []
+
+abbrev pub others : App
+others = with_shapes other_shapes
+
+abbrev pub asking : App
+asking = with_shapes (other_shapes ++ question_shapes)
+
+-- the whole command line: its commands, and its version
+abbrev pub xarm : App
+xarm = with_shapes (other_shapes ++ question_shapes ++ order_shapes)
 
 -- ---- what is built
 

@@ -9,11 +9,14 @@ use Rattle.clap.specs.Simple.{subcommand_of}
 use Rattle.clap.specs.Walk.{Text}
 use Rattle.clap.specs.declared.error.kind.ErrorKind.{ErrorKind}
 use Rattle.clap.specs.declared.error.kind.ErrorKind.TheVariants.{OutOfMemory, DisplayHelp, DisplayVersion}
-use Rattle.xa_commands.specs.Done.{Checked, HasPlayed, HasTalked, HasTicked, Scanned, checked_status}
+use Rattle.xa_commands.specs.Done.{Checked, HasOperated, HasPlayed, HasShown, HasTalked, HasTicked, Scanned, checked_status}
 use Rattle.xa_commands.specs.declared.checking_fault.CheckingFault.{CheckingFault}
 use Rattle.xa_commands.specs.declared.scanning_fault.ScanningFault.{ScanningFault}
 use Rattle.xa_disk.specs.declared.file_fault.FileFault.{FileFault}
 use Rattle.xa_manager.specs.Believed.Opening.{IsBadSetting}
+use Rattle.xa_operate.specs.Courses as operate
+use Rattle.xa_operate.specs.declared.fault.OperateFault.{OperateFault}
+use Rattle.xa_script.specs.Requests.{is_name}
 use Rattle.xa_play.specs.declared.fault.PlayFault.{PlayFault}
 use Rattle.xa_play.specs.declared.fault.PlayFault.TheVariants as play
 use Rattle.xa_talk.specs.Shutdowns.{ShutsDown}
@@ -23,7 +26,7 @@ use Rattle.xa_talk.specs.declared.tick_fault.TickFault.{TickFault}
 use Rattle.xa_words.specs.Asks.{AsksOf}
 use Rattle.xa_words.specs.Line.{xarm}
 use Rattle.xa_words.specs.declared.asked.Asked.{Asked}
-use Rattle.xa_words.specs.declared.asked.Asked.TheVariants.{Play, Scan, Check, Serve, Loop, Talk, Tick, Shutdown, Nowhere}
+use Rattle.xa_words.specs.declared.asked.Asked.TheVariants.{Play, Scan, Check, Serve, Loop, Talk, Tick, Shutdown, Operate, Script, Unconfirmed, Malformed, Nowhere}
 use Rattle.xa_words.specs.declared.ran.Ran.{Ran}
 use Rattle.xa_words.specs.declared.ran.Ran.TheVariants.{Ended, Serves, Loops}
 
@@ -39,6 +42,11 @@ IsRefusal OutOfMemory status = status ≡ 1
 IsRefusal DisplayHelp status = (status ≡ 0) ⊎ (status ≡ 1)
 IsRefusal DisplayVersion status = (status ≡ 0) ⊎ (status ≡ 1)
 IsRefusal kind status = status ≡ 2
+
+-- a resource manager is named as scripts can
+abbrev pub NamesWell : Asked → Type 0
+NamesWell (Operate reach seconds format name task) = is_name name.now ≡ true
+NamesWell _ = Unit {0}
 
 -- a script was played under this name, with files of this size
 pub record IsPlayed {I X : Type 0} (remaining : I → Option Text) (name : Text) (log_bytes : ℕ) (end : Result X PlayFault)
@@ -67,6 +75,13 @@ module _ {I D C : Type 0} (T : Type 0) (remaining : I → Option Text) (honest :
       (end : Result (Unit {0}) TickFault) × HasTicked T sent left end × (exit_status code ≡ status_of end)
   HasDone (Shutdown reach) (Ended code) =
       (end : Result (Unit {0}) ShutdownFault) × ShutsDown sent left end × (exit_status code ≡ status_of end)
+  HasDone (Operate reach seconds format name task) (Ended code) =
+      (end : Result (Unit {0}) OperateFault) × HasOperated format task sent left name.now end
+      × (exit_status code ≡ operate.status_of end)
+  HasDone (Script name task) (Ended code) =
+      (end : Result (Unit {0}) OperateFault) × HasShown name.now task end × (exit_status code ≡ operate.status_of end)
+  HasDone (Unconfirmed task xid) (Ended code) = exit_status code ≡ 2
+  HasDone (Malformed what) (Ended code) = exit_status code ≡ 2
   HasDone Nowhere (Ended code) = exit_status code ≡ 2
   HasDone (Serve service accepts) (Serves served) = served ≡ service
   HasDone (Serve service accepts) (Ended code) = (accepts ≡ true) × (exit_status code ≡ 1)

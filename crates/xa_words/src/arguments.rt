@@ -1,9 +1,11 @@
 //! The arguments of the commands. The help names limits in texts of its own, and `.ci/commands` compares these with
 //! the constants: a text that is made of a number would have to live as long as the words, since `clap` lends both alike.
-ghost use Rattle.xa_words.specs.Line.{HasRule, accept_damage_rule, connections_rule, every_rule, exit_when_down_rule};
+ghost use Rattle.xa_words.specs.Line.{HasRule, accept_damage_rule, branch_seconds_rule, connections_rule, every_rule};
+ghost use Rattle.xa_words.specs.Line.{exit_when_down_rule};
 ghost use Rattle.xa_words.specs.Line.{frame_seconds_rule, idle_seconds_rule, listen_rule, log_bytes_rule};
 ghost use Rattle.xa_words.specs.Line.{first_path_rule, log_rule, loops_rule, name_rule, names_rule, path_rule, play_name_rule};
-ghost use Rattle.xa_words.specs.Line.{port_rule, serve_log_bytes_rule, socket_rule, trim_rule, workers_rule};
+ghost use Rattle.xa_words.specs.Line.{direction_rule, format_rule, print_script_rule, seconds_rule, xid_rule, yes_rule};
+ghost use Rattle.xa_words.specs.Line.{port_rule, serve_log_bytes_rule, socket_rule, tick_rule, trim_rule, workers_rule};
 
 use clap::builder::ValueParser;
 use clap::{Arg, ArgAction};
@@ -18,8 +20,11 @@ const MOST_NUMBER: u64 = 9_223_372_036_854_775_807;
 /// The most seconds that a connection may be quiet inside a frame, where that has an end.
 const MOST_FRAME_SECONDS: u64 = 3_600;
 
-/// The most seconds that a connection may be quiet whose session has no association, where that has an end: a day.
+/// The most seconds that a connection may be quiet between frames, where that has an end: a day.
 const MOST_IDLE_SECONDS: u64 = 86_400;
+
+/// The most seconds that an answer may be waited for.
+const MOST_SECONDS: u64 = 3_600;
 
 pub fn play_name<'a>(alloc: Global) -> Arg<'a>
     ensures { HasRule play_name_rule result }
@@ -189,6 +194,20 @@ pub fn idle_seconds<'a>(alloc: Global) -> Arg<'a>
         .default_value("0")
 }
 
+pub fn branch_seconds<'a>(alloc: Global) -> Arg<'a>
+    ensures { HasRule branch_seconds_rule result }
+{
+    Arg::new(alloc, "branch-seconds")
+        .long("branch-seconds")
+        .value_name("S")
+        .help(
+            "Closes a connection that has been quiet for so many seconds, if its session has an active or suspended association: 0 (never) to 86400",
+        )
+        .value_parser(ValueParser::unsigned(0, MOST_IDLE_SECONDS))
+        .action(ArgAction::Set)
+        .default_value("0")
+}
+
 pub fn trim<'a>(alloc: Global) -> Arg<'a>
     ensures { HasRule trim_rule result }
 {
@@ -201,6 +220,20 @@ pub fn trim<'a>(alloc: Global) -> Arg<'a>
         .value_parser(ValueParser::unsigned(0, MOST_LOG))
         .action(ArgAction::Set)
         .default_value("67108864")
+}
+
+pub fn tick<'a>(alloc: Global) -> Arg<'a>
+    ensures { HasRule tick_rule result }
+{
+    Arg::new(alloc, "tick")
+        .long("tick")
+        .value_name("S")
+        .help(
+            "Tells the resource manager the time every so many seconds, for time limits: 0 (never; run xarm tick) to 3600",
+        )
+        .value_parser(ValueParser::unsigned(0, MOST_EVERY))
+        .action(ArgAction::Set)
+        .default_value("1")
 }
 
 pub fn exit_when_down<'a>(alloc: Global) -> Arg<'a>
@@ -254,4 +287,78 @@ pub fn every<'a>(alloc: Global) -> Arg<'a>
         .value_parser(ValueParser::unsigned(1, MOST_EVERY))
         .action(ArgAction::Set)
         .default_value("1")
+}
+
+pub fn direction<'a>(alloc: Global) -> Arg<'a>
+    ensures { HasRule direction_rule result }
+{
+    Arg::new(alloc, "direction")
+        .value_name("DIRECTION")
+        .help("What becomes of the branch: commit or rollback")
+        .required(true)
+        .action(ArgAction::Set)
+}
+
+pub fn xid<'a>(alloc: Global) -> Arg<'a>
+    ensures { HasRule xid_rule result }
+{
+    Arg::new(alloc, "xid")
+        .value_name("XID")
+        .help(
+            "The branch, as 1:aa:bb: its format number in decimal, and both parts of its XID in lower case hexadecimal",
+        )
+        .required(true)
+        .action(ArgAction::Set)
+}
+
+pub fn open_name<'a>(alloc: Global) -> Arg<'a>
+    ensures { HasRule play_name_rule result }
+{
+    Arg::new(alloc, "name")
+        .long("name")
+        .value_name("NAME")
+        .help("The name under which the resource manager is opened: 1 to 255 bytes from ! to ~")
+        .action(ArgAction::Set)
+        .default_value("xarm")
+}
+
+pub fn seconds<'a>(alloc: Global) -> Arg<'a>
+    ensures { HasRule seconds_rule result }
+{
+    Arg::new(alloc, "seconds")
+        .long("seconds")
+        .value_name("S")
+        .help("How many seconds each answer is waited for: 1 to 3600")
+        .value_parser(ValueParser::unsigned(1, MOST_SECONDS))
+        .action(ArgAction::Set)
+        .default_value("10")
+}
+
+pub fn format<'a>(alloc: Global) -> Arg<'a>
+    ensures { HasRule format_rule result }
+{
+    Arg::new(alloc, "format")
+        .long("format")
+        .value_name("FORMAT")
+        .help("How it is printed: text, or json, an object a line")
+        .action(ArgAction::Set)
+        .default_value("text")
+}
+
+pub fn print_script<'a>(alloc: Global) -> Arg<'a>
+    ensures { HasRule print_script_rule result }
+{
+    Arg::new(alloc, "print-script")
+        .long("print-script")
+        .help("Prints the script of xarm talk that asks the same, and does nothing else")
+        .action(ArgAction::SetTrue)
+}
+
+pub fn yes<'a>(alloc: Global) -> Arg<'a>
+    ensures { HasRule yes_rule result }
+{
+    Arg::new(alloc, "yes")
+        .long("yes")
+        .help("Does it, which can't be taken back; without it, it is told what would be done")
+        .action(ArgAction::SetTrue)
 }

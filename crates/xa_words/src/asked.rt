@@ -1,4 +1,6 @@
+use crate::malformed::Malformed;
 use xa_commands::Reach;
+use xa_operate::{Format, Task};
 use xa_script::Style;
 use xa_service::{LoopService, Service};
 
@@ -41,6 +43,29 @@ pub enum Asked<'a> {
         service: LoopService<'a>,
         accepts_damage: bool,
     },
+    /// A server is to be asked a task.
+    Operate {
+        reach: Reach<'a>,
+        /// How many seconds an answer may be waited for.
+        seconds: u64,
+        format: Format,
+        /// Under which the resource manager is opened, where that is needed.
+        name: &'a str,
+        task: Task,
+    },
+    /// The script that asks a task is to be printed.
+    Script {
+        name: &'a str,
+        task: Task,
+    },
+    /// A task can't be taken back, and wasn't confirmed.
+    Unconfirmed {
+        task: Task,
+        /// As it was given, where the task names one.
+        xid: &'a str,
+    },
+    /// A word isn't as it has to be.
+    Malformed(Malformed),
     /// Neither a port nor a path was given, for a command that needs one.
     Nowhere,
 }

@@ -3,11 +3,12 @@ ghost use Rattle.std.specs.IoError.{error_kind};
 ghost use Rattle.std.specs.Prelude.{◌≡◌, IfErr, IfOk, IfSome, map, string_bytes, true};
 ghost use Rattle.std.specs.Process.{exit_status};
 ghost use Rattle.clap.specs.Values.{kind_of};
-ghost use Rattle.xa_words.specs.Runs.{HasDone, HasRun, IsRefusal, IsUnread};
+ghost use Rattle.xa_words.specs.Runs.{HasDone, HasRun, IsRefusal, IsUnread, NamesWell};
 ghost use Rattle.xa_commands.specs.declared.ticking.Watch.{Watch};
 ghost use Rattle.xa_talk.specs.declared.dial.Connection.{Connection};
 
 use crate::asked::Asked;
+use crate::malformed::Malformed;
 use crate::ran::Ran;
 use crate::words::read_words;
 use clap::Error;
@@ -18,14 +19,18 @@ use std::net::{Net, TcpStream};
 use std::process::ExitCode;
 use std::rt::{Clock, Env};
 use std::{env, io};
+use xa_codes::Direction;
 use xa_commands::{
-    Stream, accept_damage, check, checked, ended, play, scan, shutdown, talk, tick, words_fault,
+    Stream, accept_damage, check, checked, ended, operate, operated, play, scan, show_script,
+    shutdown, talk, tick, words_fault,
 };
 use xa_disk::Opens;
+use xa_operate::Task;
 use xa_play::PlayFault;
 
 /// Does what the command line says, but that it serves. Status 0: done. 1: a fault, its line on standard error. 2: the
-/// command line was refused. Of a check 1: a server doesn't open the files; 2: a fault, too.
+/// command line was refused. Of a check 1: a server doesn't open the files; 2: a fault, too. Of a task that a server is
+/// asked 1: the server refused it; 3: it isn't known to be done.
 pub fn run<
     'a,
     R: AllocGlobal + Input + Print + Eprint + Opens + Files + Clock + Net<Stream = TcpStream>,
@@ -50,6 +55,7 @@ fn done<
     'a,
     R: AllocGlobal + Input + Print + Eprint + Opens + Files + Clock + Net<Stream = TcpStream>,
 >(rt: &R, asked: Asked<'a>) -> Ran<'a>
+    requires { NamesWell asked }
     ensures { HasDone {C = Connection Stream Stream} (Watch R) R.Reader.remaining R.Disk.honest R.Disk.seen
         R.opened R.refused (λ c. ⟦<Stream as Write>⟧.contents c.writer)
         (λ c. ⟦<Stream as Read>⟧.remaining c.reader) asked.entry result }
@@ -75,6 +81,16 @@ fn done<
         Asked::Talk { reach, style } => ended(rt, &talk(rt, reach, style)),
         Asked::Tick { reach, every } => ended(rt, &tick(rt, reach, every)),
         Asked::Shutdown { reach } => ended(rt, &shutdown(rt, reach)),
+        Asked::Operate {
+            reach,
+            seconds,
+            format,
+            name,
+            task,
+        } => operated(rt, &operate(rt, reach, seconds, name, &task, format)),
+        Asked::Script { name, task } => operated(rt, &show_script(rt, name, &task)),
+        Asked::Unconfirmed { task, xid } => unconfirmed(rt, &task, xid),
+        Asked::Malformed(malformed) => told(rt, &malformed),
         Asked::Nowhere => nowhere(rt),
     })
 }
@@ -96,6 +112,36 @@ fn accepted<R: AllocGlobal + Eprint + Opens + Files>(
         return None;
     }
     Some(ended(rt, &end))
+}
+
+// What can't be taken back wasn't confirmed: it is told what would be done.
+fn unconfirmed<R: Eprint>(rt: &R, task: &Task, xid: &str) -> ExitCode
+    ensures { exit_status result ≡ 2 }
+{
+    let would = match task {
+        Task::Commit(_) => "commit the prepared branch ",
+        Task::Rollback(_) => "roll back the branch ",
+        Task::Forget(_) => "forget what the operator decided of the branch ",
+        Task::Decide(Direction::Commit, _) => "decide to commit the prepared branch ",
+        Task::Decide(Direction::Rollback, _) => "decide to roll back the prepared branch ",
+        Task::Doom(_) => "mark the branch at work, which can then only be rolled back: ",
+        Task::RollbackMarked =>
+            "roll back every branch that is marked and that nobody is at work for",
+        Task::Restart => "have the server reread its log, and end all work that isn't prepared",
+        Task::Status | Task::Branches | Task::Recover | Task::Trim => "do what can't be taken back",
+    };
+    let _ = eprintln!(rt;
+        "error: nothing was done: this would {would}{xid}\n\nGive --yes to do it."
+    );
+    ExitCode::from(2)
+}
+
+// A word isn't as it has to be.
+fn told<R: Eprint>(rt: &R, malformed: &Malformed) -> ExitCode
+    ensures { exit_status result ≡ 2 }
+{
+    let _ = eprintln!(rt; "error: {malformed}\n\nFor more information, try '--help'.");
+    ExitCode::from(2)
 }
 
 // Neither a port nor a path was given.

@@ -2,6 +2,8 @@
 //!
 //! - `line`: `command_line`, the commands as `clap` reads them, by their `arguments`
 //! - `words`: `read_words`, what words ask for; `asked`: `Asked`, that
+//! - `verb`: `Verb`, the commands that ask a running server one thing; `operator`: what their words ask for; `malformed`:
+//!   `Malformed`, which of them isn't as it has to be
 //! - `command`: `given_words`, those of the command line; `run`, which does what they ask for, but that it serves
 //! - `ran`: `Ran`, what that came to: a status, or a server that is to run
 #![tactic(auto)]
@@ -10,11 +12,16 @@ mod arguments;
 mod asked;
 mod command;
 mod line;
+mod malformed;
+mod operator;
 mod ran;
+mod verb;
 mod words;
 
 pub use asked::Asked;
 pub use command::{given_words, run};
 pub use line::command_line;
+pub use malformed::Malformed;
 pub use ran::Ran;
+pub use verb::Verb;
 pub use words::read_words;

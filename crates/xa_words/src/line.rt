@@ -1,19 +1,32 @@
 //! The command line, as `clap` reads it.
 ghost use Rattle.std.specs.Prelude.{IfOk};
-ghost use Rattle.xa_words.specs.Line.{HasShape, IsApp, bare, check_shape, play_shape, scan_shape, serve_shape};
+ghost use Rattle.clap.specs.Simple.{App};
+ghost use Rattle.clap.specs.Walk.{Rule};
+ghost use Rattle.xa_words.specs.Line.{HasRule, HasShape, IsApp, asking, bare, check_shape, others, verb_shape, with_given, play_shape, scan_shape, serve_shape};
 ghost use Rattle.xa_words.specs.Line.{shutdown_shape, talk_shape, tick_shape, xarm};
 
 use crate::arguments::{
-    accept_damage, connections, every, exit_when_down, first_path, frame_seconds, idle_seconds,
-    listen, log, log_bytes, loops, name, names, path, play_name, port, serve_log_bytes, socket,
-    trim, workers,
+    accept_damage, branch_seconds, connections, direction, every, exit_when_down, first_path,
+    format, frame_seconds, idle_seconds, listen, log, log_bytes, loops, name, names, open_name,
+    path, play_name, port, print_script, seconds, serve_log_bytes, socket, tick, trim, workers,
+    xid, yes,
 };
-use clap::Command;
+use crate::verb::Verb;
+use clap::{Arg, Command};
 use std::alloc::{AllocError, Global};
 
-/// The command line with its seven commands.
+/// The command line with its commands.
 pub fn command_line<'a>(alloc: Global) -> Result<Command<'a>, AllocError>
     ensures { IfOk result (IsApp xarm) }
+{
+    let line = other_line(alloc)?;
+    let line = with_questions(alloc, line)?;
+    with_orders(alloc, line)
+}
+
+// The command line with the commands that ask a server nothing, or more than one thing.
+fn other_line<'a>(alloc: Global) -> Result<Command<'a>, AllocError>
+    ensures { IfOk result (IsApp others) }
 {
     bare_line(alloc)
         .subcommand(check_command(alloc)?)?
@@ -23,6 +36,63 @@ pub fn command_line<'a>(alloc: Global) -> Result<Command<'a>, AllocError>
         .subcommand(shutdown_command(alloc)?)?
         .subcommand(talk_command(alloc)?)?
         .subcommand(tick_command(alloc)?)
+}
+
+// The same with the commands that ask a server how things are.
+fn with_questions<'a>(alloc: Global, line: Command<'a>) -> Result<Command<'a>, AllocError>
+    requires { IsApp others line }
+    ensures { IfOk result (IsApp asking) }
+{
+    line.subcommand(verb_command(alloc, Verb::Status)?)?
+        .subcommand(verb_command(alloc, Verb::Branches)?)?
+        .subcommand(verb_command(alloc, Verb::Recover)?)
+}
+
+// The same with those that have it do something.
+fn with_orders<'a>(alloc: Global, line: Command<'a>) -> Result<Command<'a>, AllocError>
+    requires { IsApp asking line }
+    ensures { IfOk result (IsApp xarm) }
+{
+    line.subcommand(verb_command(alloc, Verb::Commit)?)?
+        .subcommand(verb_command(alloc, Verb::Rollback)?)?
+        .subcommand(verb_command(alloc, Verb::Forget)?)?
+        .subcommand(verb_command(alloc, Verb::Decide)?)?
+        .subcommand(verb_command(alloc, Verb::Doom)?)?
+        .subcommand(verb_command(alloc, Verb::Trim)?)?
+        .subcommand(verb_command(alloc, Verb::Restart)?)?
+        .subcommand(verb_command(alloc, Verb::RollbackMarked)?)
+}
+
+fn verb_command<'a>(alloc: Global, verb: Verb) -> Result<Command<'a>, AllocError>
+    ensures { IfOk result (HasShape (verb_shape verb)) }
+{
+    let command = Command::new(alloc, verb.text())
+        .about(verb.about())
+        .after_help(verb.after_help());
+    let command = with_argument(command, direction(alloc), verb.names_direction())?;
+    let command = with_argument(command, xid(alloc), verb.names_branch())?;
+    let command = command.arg(port(alloc))?.arg(socket(alloc))?;
+    let command = with_argument(command, open_name(alloc), verb.opens_session())?;
+    let command = command.arg(seconds(alloc))?;
+    let command = with_argument(command, format(alloc), verb.lists())?;
+    let command = command.arg(print_script(alloc))?;
+    with_argument(command, yes(alloc), verb.decides())
+}
+
+// The command with one argument more, if it is given.
+fn with_argument<'a>(
+    command: Command<'a>,
+    argument: Arg<'a>,
+    is_given: bool,
+) -> Result<Command<'a>, AllocError>
+    ensures { (app : App) (rule : Rule) → IsApp app command.entry → HasRule rule argument.entry
+        → IfOk result (IsApp (with_given is_given rule app)) }
+{
+    if is_given {
+        command.arg(argument)
+    } else {
+        Ok(command)
+    }
 }
 
 // The command line without its commands.
@@ -133,7 +203,9 @@ fn serve_command<'a>(alloc: Global) -> Result<Command<'a>, AllocError>
         .arg(socket(alloc))?
         .arg(frame_seconds(alloc))?
         .arg(idle_seconds(alloc))?
+        .arg(branch_seconds(alloc))?
         .arg(trim(alloc))?
+        .arg(tick(alloc))?
         .arg(exit_when_down(alloc))?
         .arg(accept_damage(alloc))
 }

@@ -2,12 +2,14 @@
 ghost use Rattle.std.specs.Prelude.{◌≡◌, Bool, IfOk, IsSomeAnd, Some, codes, if◌then◌else◌, map, option_map, string_bytes};
 ghost use Rattle.clap.specs.{Faults.fault_of, Kinds.FailsBy, Matches.found_of, Simple.subcommand_of, Simple.subcommand_rows_of};
 ghost use Rattle.clap.specs.Walk.{first_of, one_of, rows_of};
-ghost use Rattle.xa_words.specs.Asks.{AsksBy, AsksOf, IsAtIn, IsCommand, IsReachIn, IsSet, most_16, most_64, number_in, text_in};
+ghost use Rattle.xa_words.specs.Asks.{AsksBy, AsksOf, IsAtIn, IsCommand, IsOther, IsReachIn, IsSet, most_16, most_64, number_in, text_in};
 ghost use Rattle.xa_words.specs.{Line.xarm, declared.asked.Asked.TheVariants.Loop};
 ghost use Rattle.xa_script.specs.declared.style.Style.TheVariants.{Codes, Names};
 
 use crate::asked::Asked;
 use crate::line::command_line;
+use crate::operator::operator_of;
+use crate::verb::read_verb;
 use clap::{ArgMatches, Error};
 use std::alloc::Global;
 use xa_commands::Reach;
@@ -42,6 +44,16 @@ fn read_matches<'a>(matches: &ArgMatches<'a>) -> Asked<'a>
 
 fn read_command<'a>(command: &str, matches: &ArgMatches<'a>) -> Asked<'a>
     requires { IsCommand command.now }
+    ensures { AsksBy command.now (rows_of (found_of matches.now)) result }
+{
+    match read_verb(command) {
+        Some(verb) => operator_of(verb, matches),
+        None => read_other(command, matches),
+    }
+}
+
+fn read_other<'a>(command: &str, matches: &ArgMatches<'a>) -> Asked<'a>
+    requires { IsOther command.now }
     ensures { AsksBy command.now (rows_of (found_of matches.now)) result }
 {
     match command {
@@ -114,7 +126,9 @@ fn loops_of<'a>(matches: &ArgMatches<'a>, at: At<'a>) -> LoopService<'a>
         connections: number_of(matches, "connections", 0),
         frame_seconds: number_of(matches, "frame-seconds", 30),
         idle_seconds: number_of(matches, "idle-seconds", 0),
+        branch_seconds: number_of(matches, "branch-seconds", 0),
         trim_bytes: number_of(matches, "trim", 67_108_864),
+        tick_seconds: number_of(matches, "tick", 1),
         ends_when_down: flag_of(matches, "exit-when-down"),
     }
 }
@@ -165,7 +179,7 @@ fn at_of<'a>(matches: &ArgMatches<'a>) -> Option<At<'a>>
 }
 
 // How a server is to be reached, likewise.
-fn reach_of<'a>(matches: &ArgMatches<'a>) -> Option<Reach<'a>>
+pub(crate) fn reach_of<'a>(matches: &ArgMatches<'a>) -> Option<Reach<'a>>
     ensures { IsReachIn (rows_of (found_of matches.now)) result }
 {
     if let Some(path) = socket_of(matches) {
@@ -185,7 +199,7 @@ fn socket_of<'a>(matches: &ArgMatches<'a>) -> Option<&'a str>
     matches.get_str("socket")
 }
 
-fn flag_of(matches: &ArgMatches<'_>, id: &str) -> bool
+pub(crate) fn flag_of(matches: &ArgMatches<'_>, id: &str) -> bool
     ensures { IsSet (one_of id.now (rows_of (found_of matches.now))) result }
 {
     matches.get_flag(id)
@@ -197,13 +211,13 @@ fn style_of(is_named: bool) -> Style
     if is_named { Style::Names } else { Style::Codes }
 }
 
-fn text_of<'a>(matches: &ArgMatches<'a>, id: &str, absent: &'a str) -> &'a str
+pub(crate) fn text_of<'a>(matches: &ArgMatches<'a>, id: &str, absent: &'a str) -> &'a str
     ensures { result.now ≡ text_in (rows_of (found_of matches.now)) id.now absent.entry.now }
 {
     matches.get_str(id).unwrap_or(absent)
 }
 
-fn number_of(matches: &ArgMatches<'_>, id: &str, absent: u64) -> u64
+pub(crate) fn number_of(matches: &ArgMatches<'_>, id: &str, absent: u64) -> u64
     ensures { result ≡ number_in (rows_of (found_of matches.now)) id.now most_64 absent }
 {
     matches.get_one(id).unwrap_or(absent)

@@ -136,9 +136,11 @@ settings_of service = record {
   connections = service.connections;
   frame_seconds = service.frame_seconds;
   idle_seconds = service.idle_seconds;
+  branch_seconds = service.branch_seconds;
   ends_when_down = service.ends_when_down;
   trim_bytes = service.trim_bytes;
   log_bytes = service.log_bytes;
+  tick_seconds = service.tick_seconds;
 }
 
 -- All was ready, and the manager's sessions were served by loops, from each state that it stood for, as was asked. All is

@@ -46,6 +46,8 @@ impl<'a> Dial<&'a [u8], Sink> for Server<'a> {
         let writer = Sink::new(self.alloc, usize::MAX, usize::MAX, false);
         Ok(Connection { reader, writer })
     }
+
+    fn hang_up(&mut self, _connection: Connection<&'a [u8], Sink>) {}
 }
 
 /// No branch has reached its limit, and then the moment is one that went back.

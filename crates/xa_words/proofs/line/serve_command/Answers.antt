@@ -1,6 +1,6 @@
 use Rattle.std.proofs.Common.{◌∙◌, ap, codes}
 use Rattle.clap.specs.Simple.{app_of_fields, new_app}
-use Rattle.xa_words.specs.Line.{IsApp, accept_damage_rule, connections_rule, exit_when_down_rule, frame_seconds_rule, idle_seconds_rule, listen_rule, log_rule, loops_rule, name_rule, port_rule, serve_log_bytes_rule, socket_rule, trim_rule, workers_rule}
+use Rattle.xa_words.specs.Line.{IsApp, accept_damage_rule, branch_seconds_rule, connections_rule, exit_when_down_rule, frame_seconds_rule, idle_seconds_rule, listen_rule, log_rule, loops_rule, name_rule, port_rule, serve_log_bytes_rule, socket_rule, tick_rule, trim_rule, workers_rule}
 use Rattle.xa_words.proofs.Building.{adds_rule, last_rule}
 use Rattle.xa_words.proofs.line.serve_command.Goals as goal
 
@@ -22,6 +22,8 @@ returns c =
     let nine = adds_rule c.in_ok-arg-8.field-0 c.socket.result c.in_ok-arg-9.field-0 _ socket_rule eight c.socket.ensures c.in_ok-arg-9.ensures in
     let ten = adds_rule c.in_ok-arg-9.field-0 c.frame_seconds.result c.in_ok-arg-10.field-0 _ frame_seconds_rule nine c.frame_seconds.ensures c.in_ok-arg-10.ensures in
     let eleven = adds_rule c.in_ok-arg-10.field-0 c.idle_seconds.result c.in_ok-arg-11.field-0 _ idle_seconds_rule ten c.idle_seconds.ensures c.in_ok-arg-11.ensures in
-    let twelve = adds_rule c.in_ok-arg-11.field-0 c.trim.result c.in_ok-arg-12.field-0 _ trim_rule eleven c.trim.ensures c.in_ok-arg-12.ensures in
-    let thirteen = adds_rule c.in_ok-arg-12.field-0 c.exit_when_down.result c.in_ok-arg-13.field-0 _ exit_when_down_rule twelve c.exit_when_down.ensures c.in_ok-arg-13.ensures in
-    last_rule c.in_ok-arg-13.field-0 c.accept_damage.result c.arg-14.result _ accept_damage_rule thirteen c.accept_damage.ensures c.arg-14.ensures
+    let twelve = adds_rule c.in_ok-arg-11.field-0 c.branch_seconds.result c.in_ok-arg-12.field-0 _ branch_seconds_rule eleven c.branch_seconds.ensures c.in_ok-arg-12.ensures in
+    let thirteen = adds_rule c.in_ok-arg-12.field-0 c.trim.result c.in_ok-arg-13.field-0 _ trim_rule twelve c.trim.ensures c.in_ok-arg-13.ensures in
+    let fourteen = adds_rule c.in_ok-arg-13.field-0 c.tick.result c.in_ok-arg-14.field-0 _ tick_rule thirteen c.tick.ensures c.in_ok-arg-14.ensures in
+    let fifteen = adds_rule c.in_ok-arg-14.field-0 c.exit_when_down.result c.in_ok-arg-15.field-0 _ exit_when_down_rule fourteen c.exit_when_down.ensures c.in_ok-arg-15.ensures in
+    last_rule c.in_ok-arg-15.field-0 c.accept_damage.result c.arg-16.result _ accept_damage_rule fifteen c.accept_damage.ensures c.arg-16.ensures

@@ -1,6 +1,6 @@
-use Rattle.xa_reactor.specs.Believed.Tending.{Table, sessions_of}
-use Rattle.xa_reactor.proofs.Aside.{tends_aside}
-use Rattle.xa_reactor.proofs.Doing.{posting_tended, posting_thrice, tends_thrice}
+use Rattle.xa_reactor.specs.Believed.Tending.{Table, Tends, sessions_of}
+use Rattle.xa_reactor.proofs.Aside.{tends_aside, tends_timed}
+use Rattle.xa_reactor.proofs.Doing.{posting_tended, posting_thrice, tends_thrice, tends_twice}
 use Rattle.xa_reactor.proofs.Settled.{still_settled}
 use Rattle.xa_reactor.proofs.tending.Loop.serve_round.Goals as goal
 
@@ -11,9 +11,13 @@ returns-clause-tends g c =
     let given : Table = sessions_of c.give_turns-gathered.new.peers.all in
     let after : Table = sessions_of c.take_in.new.peers.all in
     posting_thrice g.D.Reception.posted g.D.Reception.connected g.D.Door.called g.D.Door.left before noticed given after
-    c.args.door.now c.notice_all-noticed.new.door c.give_turns-gathered.new.door c.stop.new.door
+    c.args.door.now c.keep_time-self.new.door c.give_turns-gathered.new.door c.stop.new.door
     (posting_tended g.D.Reception.posted g.D.Reception.connected g.D.Door.called g.D.Door.left before noticed
-    c.args.door.now c.notice_all-noticed.new.door c.notice_all-noticed.ensures)
+    c.args.door.now c.keep_time-self.new.door
+    (tends_twice g.D.Reception.connected g.D.Door.called g.D.Door.left before noticed noticed
+    c.args.door.now c.notice_all-noticed.new.door c.keep_time-self.new.door c.notice_all-noticed.ensures
+    (tends_timed g.D.Reception.connected g.D.Door.called g.D.Door.left c.notice_all-noticed.new.peers.all
+    c.notice_all-noticed.new.door c.keep_time-self.new.door c.keep_time-self.ensures.timed)))
     c.give_turns-gathered.ensures.tends
     (posting_tended g.D.Reception.posted g.D.Reception.connected g.D.Door.called g.D.Door.left given after c.give_turns-gathered.new.door c.stop.new.door
     (tends_thrice g.D.Reception.connected g.D.Door.called g.D.Door.left given (sessions_of c.look.new.peers.all) after after
@@ -28,4 +32,7 @@ returns-clause-settled g c was =
     (still _ _ c.look.new.door c.take_in.new.door c.take_in.ensures
     (still _ _ c.give_turns-gathered.new.door c.look.new.door c.look.ensures
     (c.give_turns-gathered.ensures.settled
-    (still _ _ c.args.door.now c.notice_all-noticed.new.door c.notice_all-noticed.ensures was))))
+    (still _ _ c.notice_all-noticed.new.door c.keep_time-self.new.door
+    (tends_timed g.D.Reception.connected g.D.Door.called g.D.Door.left c.notice_all-noticed.new.peers.all
+    c.notice_all-noticed.new.door c.keep_time-self.new.door c.keep_time-self.ensures.timed)
+    (still _ _ c.args.door.now c.notice_all-noticed.new.door c.notice_all-noticed.ensures was)))))

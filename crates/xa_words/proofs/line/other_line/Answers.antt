@@ -1,6 +1,6 @@
 use Rattle.xa_words.specs.Line.{bare, check_shape, play_shape, scan_shape, serve_shape, shutdown_shape, talk_shape, tick_shape}
 use Rattle.xa_words.proofs.Building.{adds_command, last_command}
-use Rattle.xa_words.proofs.line.command_line.Goals as goal
+use Rattle.xa_words.proofs.line.other_line.Goals as goal
 
 pub returns : goal.returns
 returns c =

@@ -1,0 +1,49 @@
+ghost use Rattle.std.specs.Prelude.{◌≤◌, length};
+ghost use Rattle.xa_commands.specs.Done.{HasOperated, HasShown};
+ghost use Rattle.xa_limits.specs.declared.TheConstants.{MOST_INFO};
+ghost use Rattle.xa_talk.specs.declared.dial.Connection.{Connection};
+
+use crate::server::Reach;
+use crate::stream::Stream;
+use crate::timed::TimedServer;
+use std::io::{self, Read, Write};
+use std::net::{Net, TcpStream};
+use xa_operate::{Format, OperateFault, Task, operate_run, print_text, script_text};
+
+/// Asks a server what an operator wants, and prints its answers. An answer of which no byte comes for so many seconds is
+/// given up.
+pub fn operate<R: AllocGlobal + Print + Net<Stream = TcpStream>>(
+    rt: &R,
+    reach: Reach<'_>,
+    seconds: u64,
+    name: &str,
+    task: &Task,
+    format: Format,
+) -> Result<(), OperateFault>
+    requires { length name.now ≤ MOST_INFO }
+    ensures { HasOperated {C = Connection Stream Stream} format task.now
+        (λ c. ⟦<Stream as Write>⟧.contents c.writer)
+        (λ c. ⟦<Stream as Read>⟧.remaining c.reader) name.now result }
+{
+    let mut writer = io::writer(rt);
+    operate_run(
+        rt.alloc(),
+        &mut writer,
+        &mut TimedServer { rt, reach, seconds },
+        name,
+        task,
+        format,
+    )
+}
+
+/// Prints the script that asks a server the same.
+pub fn show_script<R: AllocGlobal + Print>(
+    rt: &R,
+    name: &str,
+    task: &Task,
+) -> Result<(), OperateFault>
+    ensures { HasShown name.now task.now result }
+{
+    let script = script_text(rt.alloc(), name, task)?;
+    print_text(&mut io::writer(rt), script.as_slice())
+}

@@ -1,0 +1,7 @@
+use Rattle.std.proofs.Common.{subst}
+use Rattle.xa_words.specs.Runs.{NamesWell}
+use Rattle.xa_words.proofs.Naming.{name_fits}
+use Rattle.xa_words.proofs.command.done.Goals as goal
+
+pub operate-requires : goal.operate-requires
+operate-requires g c = name_fits c.in-Operate.name.now (subst NamesWell c.in-Operate.is c.requires)

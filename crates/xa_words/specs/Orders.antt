@@ -1,0 +1,52 @@
+-- Which task the words behind an operator's command name.
+use Rattle.std.specs.Prelude.{◌≡◌, true, false, List, [], Option, Some, None, codes, bytes_eq, if◌then◌else◌}
+use Rattle.clap.specs.Walk.{Row, Text}
+use Rattle.xa_operate.specs.declared.format.Format.{Format}
+use Rattle.xa_operate.specs.declared.format.Format.TheVariants as format
+use Rattle.xa_operate.specs.declared.task.Task.{Task}
+use Rattle.xa_operate.specs.declared.task.Task.TheVariants.{Status, Branches, Recover, RollbackMarked, Commit, Rollback, Forget, Decide, Doom, Trim, Restart}
+use Rattle.xa_script.specs.Requests.{direction_of, is_name}
+use Rattle.xa_words.specs.Rows.{text_in}
+use Rattle.xa_words.specs.declared.malformed.Malformed.{Malformed}
+use Rattle.xa_words.specs.declared.malformed.Malformed.TheVariants as malformed
+use Rattle.xa_words.specs.declared.verb.Verb.{Verb}
+use Rattle.xa_words.specs.declared.verb.Verb.TheVariants as verb
+use Rattle.xa_xid.specs.Spelling.{text_of}
+use Rattle.xa_xid.specs.Triple.{IsWithinLimits, Triple}
+
+abbrev pub format_named : Text → Option Format
+format_named word =
+    if bytes_eq word (codes "text") then Some format.Text
+    else if bytes_eq word (codes "json") then Some format.Json
+    else None
+
+-- the XID that is given
+pub record IsXidIn (rows : List Row) (xid : Triple) : Type 0 where
+  pub limits : IsWithinLimits xid
+  pub spelled : text_in rows (codes "xid") [] ≡ text_of xid
+
+-- the name under which the resource manager is opened: one that a script can have
+pub record IsNameIn (rows : List Row) (name : Text) : Type 0 where
+  pub given : name ≡ text_in rows (codes "name") (codes "xarm")
+  pub graphic : is_name name ≡ true
+
+abbrev pub IsTaskIn : Verb → List Row → Task → Type 0
+IsTaskIn command rows Status = command ≡ verb.Status
+IsTaskIn command rows Branches = command ≡ verb.Branches
+IsTaskIn command rows Recover = command ≡ verb.Recover
+IsTaskIn command rows RollbackMarked = command ≡ verb.RollbackMarked
+IsTaskIn command rows (Commit xid) = (command ≡ verb.Commit) × IsXidIn rows xid
+IsTaskIn command rows (Rollback xid) = (command ≡ verb.Rollback) × IsXidIn rows xid
+IsTaskIn command rows (Forget xid) = (command ≡ verb.Forget) × IsXidIn rows xid
+IsTaskIn command rows (Decide direction xid) =
+    (command ≡ verb.Decide) × (direction_of (text_in rows (codes "direction") []) ≡ Some direction) × IsXidIn rows xid
+IsTaskIn command rows (Doom xid) = (command ≡ verb.Doom) × IsXidIn rows xid
+IsTaskIn command rows Trim = command ≡ verb.Trim
+IsTaskIn command rows Restart = command ≡ verb.Restart
+
+-- the word that isn't as it has to be
+abbrev pub IsMalformedIn : List Row → Malformed → Type 0
+IsMalformedIn rows malformed.Xid = (xid : Triple) → IsXidIn rows xid → ⊥
+IsMalformedIn rows malformed.Direction = direction_of (text_in rows (codes "direction") []) ≡ None
+IsMalformedIn rows malformed.Name = is_name (text_in rows (codes "name") (codes "xarm")) ≡ false
+IsMalformedIn rows malformed.Format = format_named (text_in rows (codes "format") (codes "text")) ≡ None

@@ -1,0 +1,149 @@
+//! What the words of an operator's command ask for.
+ghost use Rattle.std.specs.Prelude.{◌≡◌, [], IfErr, IfOk, List, Some, codes, false, true, ℕ};
+ghost use Rattle.clap.specs.Matches.{found_of};
+ghost use Rattle.clap.specs.Walk.{rows_of};
+ghost use Rattle.xa_words.specs.Asks.{AsksBy, IsConfirmed, IsUnconfirmed, text_in};
+ghost use Rattle.xa_script.specs.Requests.{direction_of, is_name};
+ghost use Rattle.xa_words.specs.Orders.{IsMalformedIn, IsTaskIn, IsXidIn, format_named};
+ghost use Rattle.xa_words.specs.Verbs.{verb_of};
+
+use crate::asked::Asked;
+use crate::malformed::Malformed;
+use crate::verb::Verb;
+use crate::words::{flag_of, number_of, reach_of, text_of};
+use clap::ArgMatches;
+use xa_codes::Direction;
+use xa_operate::{Format, Task, is_name};
+use xa_xid::Xid;
+
+/// What the words behind a command ask for.
+pub(crate) fn operator_of<'a>(verb: Verb, matches: &ArgMatches<'a>) -> Asked<'a>
+    ensures { (command : List ℕ) → verb_of command ≡ Some verb → AsksBy command (rows_of (found_of matches.now)) result }
+{
+    let name = text_of(matches, "name", "xarm");
+    if !is_name(name) {
+        return Asked::Malformed(Malformed::Name);
+    }
+    let Some(format) = read_format(text_of(matches, "format", "text")) else {
+        return Asked::Malformed(Malformed::Format);
+    };
+    match task_of(verb, matches) {
+        Ok(task) => order_of(verb, matches, name, task, format),
+        Err(malformed) => Asked::Malformed(malformed),
+    }
+}
+
+/// What is asked of a task, by the options: its script, or what can't be taken back without `--yes`, or that it be done.
+fn order_of<'a>(
+    verb: Verb,
+    matches: &ArgMatches<'a>,
+    name: &'a str,
+    task: Task,
+    format: Format,
+) -> Asked<'a>
+    requires named { name.now ≡ text_in (rows_of (found_of matches.now)) (codes "name") (codes "xarm") }
+    requires graphic { is_name name.now ≡ true }
+    requires format { format_named (text_in (rows_of (found_of matches.now)) (codes "format") (codes "text")) ≡ Some format }
+    requires task { IsTaskIn verb (rows_of (found_of matches.now)) task }
+    ensures { (command : List ℕ) → verb_of command ≡ Some verb → AsksBy command (rows_of (found_of matches.now)) result }
+{
+    if flag_of(matches, "print-script") {
+        return Asked::Script { name, task };
+    }
+    if !is_confirmed(matches, &task) {
+        return Asked::Unconfirmed {
+            task,
+            xid: text_of(matches, "xid", ""),
+        };
+    }
+    match reach_of(matches) {
+        Some(reach) => Asked::Operate {
+            reach,
+            seconds: number_of(matches, "seconds", 10),
+            format,
+            name,
+            task,
+        },
+        None => Asked::Nowhere,
+    }
+}
+
+// Whether a task needs no `--yes`, or has it.
+fn is_confirmed(matches: &ArgMatches<'_>, task: &Task) -> bool
+    ensures confirmed { result ≡ true → IsConfirmed (rows_of (found_of matches.now)) task.now }
+    ensures unconfirmed { result ≡ false → IsUnconfirmed (rows_of (found_of matches.now)) task.now }
+{
+    if task.decides() {
+        flag_of(matches, "yes")
+    } else {
+        true
+    }
+}
+
+fn task_of(verb: Verb, matches: &ArgMatches<'_>) -> Result<Task, Malformed>
+    ensures task { IfOk result (IsTaskIn verb (rows_of (found_of matches.now))) }
+    ensures malformed { IfErr result (IsMalformedIn (rows_of (found_of matches.now))) }
+{
+    match verb {
+        Verb::Status => Ok(Task::Status),
+        Verb::Branches => Ok(Task::Branches),
+        Verb::Recover => Ok(Task::Recover),
+        Verb::Commit => Ok(Task::Commit(xid_of(matches)?)),
+        Verb::Rollback => Ok(Task::Rollback(xid_of(matches)?)),
+        Verb::Forget => Ok(Task::Forget(xid_of(matches)?)),
+        Verb::Decide => decision_of(matches),
+        Verb::Doom => Ok(Task::Doom(xid_of(matches)?)),
+        Verb::Trim => Ok(Task::Trim),
+        Verb::Restart => Ok(Task::Restart),
+        Verb::RollbackMarked => Ok(Task::RollbackMarked),
+    }
+}
+
+fn decision_of(matches: &ArgMatches<'_>) -> Result<Task, Malformed>
+    ensures task { IfOk result (IsTaskIn Verb.Decide (rows_of (found_of matches.now))) }
+    ensures malformed { IfErr result (IsMalformedIn (rows_of (found_of matches.now))) }
+{
+    let direction = direction_of(matches)?;
+    let xid = xid_of(matches)?;
+    Ok(Task::Decide(direction, xid))
+}
+
+fn xid_of(matches: &ArgMatches<'_>) -> Result<Xid, Malformed>
+    ensures xid { IfOk result (IsXidIn (rows_of (found_of matches.now))) }
+    ensures malformed { IfErr result (IsMalformedIn (rows_of (found_of matches.now))) }
+{
+    match Xid::take_text(text_of(matches, "xid", "").as_bytes()) {
+        Some(xid) => Ok(xid),
+        None => Err(Malformed::Xid),
+    }
+}
+
+fn direction_of(matches: &ArgMatches<'_>) -> Result<Direction, Malformed>
+    ensures direction { IfOk result (λ direction. direction_of (text_in (rows_of (found_of matches.now)) (codes "direction") []) ≡ Some direction) }
+    ensures malformed { IfErr result (IsMalformedIn (rows_of (found_of matches.now))) }
+{
+    match read_direction(text_of(matches, "direction", "")) {
+        Some(direction) => Ok(direction),
+        None => Err(Malformed::Direction),
+    }
+}
+
+fn read_direction(word: &str) -> Option<Direction>
+    ensures { result ≡ direction_of word.now }
+{
+    match word {
+        "commit" => Some(Direction::Commit),
+        "rollback" => Some(Direction::Rollback),
+        _ => None,
+    }
+}
+
+fn read_format(word: &str) -> Option<Format>
+    ensures { result ≡ format_named word.now }
+{
+    match word {
+        "text" => Some(Format::Text),
+        "json" => Some(Format::Json),
+        _ => None,
+    }
+}
