@@ -3,7 +3,8 @@
    fail: FAULT has its name, which one of that name, counted from 1, and the error's number. The error 0 stands for a short write, of
    half of the bytes, and a + behind the count for all from that one on, a / for each whose count is a multiple, and a - with a second
    count for all from one to the other. The name 'over' stands for each pwrite of more bytes than the number says, and 'slow' for an
-   fdatasync that takes so many milliseconds longer as the error says.
+   fdatasync that takes so many milliseconds longer as the error says; so does a chmod of its name. By their names a thread isn't made, and
+   a wait for events fails, of which it tells then alone. Where ONLY has a file's name, pwrites of other files aren't counted.
 
    To the descriptor whose number stands in JOURNAL it writes what a crash needs to know: each pwrite and cut before it is made, with its
    bytes, and where each thread's sync begins and has ended. A kill leaves what was written, synced or not; from this one can make the files
@@ -24,9 +25,11 @@ extern char *strrchr(const char *text, int character);
 extern ssize_t readlink(const char *path, char *to, size_t room);
 extern ssize_t write(int file, const void *bytes, size_t count);
 extern int poll(void *files, unsigned long count, int milliseconds);
+extern void *dlsym(void *library, const char *call);
 extern void abort(void);
 
-enum { PREAD = 17, PWRITE = 18, SENDTO = 44, FSYNC = 74, FDATASYNC = 75, FTRUNCATE = 77, GETTID = 186, FADVISE = 221 };
+enum { READ = 0, OPEN = 2, CLOSE = 3, PREAD = 17, PWRITE = 18, SENDTO = 44, FSYNC = 74, FDATASYNC = 75, FTRUNCATE = 77 };
+enum { CHMOD = 90, GETTID = 186, FADVISE = 221, EPOLL_WAIT = 232 };
 
 struct piece {
     const void *bytes;
@@ -34,38 +37,66 @@ struct piece {
 };
 extern ssize_t writev(int file, const struct piece *pieces, int count);
 
-static long to, journal, number, last, error;
+static long to, journal, number, last, error, seen;
 static char form;
-static char name[16];
+static char name[16], fault[64];
+static const char *faults, *only;
 
-__attribute__((constructor)) static void begin(void)
+/* the fault that this text says, of which no call was seen yet */
+static void begin_fault(void)
 {
-    const char *tell = getenv("TELL"), *fault = getenv("FAULT"), *keeps = getenv("JOURNAL");
     char *rest;
     int at = 0;
-    to = tell ? strtol(tell, &rest, 10) : 0;
-    journal = keeps ? strtol(keeps, &rest, 10) : 0;
-    if (!fault)
-        return;
     while (fault[at] && fault[at] != ' ' && at < 15) {
         name[at] = fault[at];
         at++;
     }
+    name[at] = 0;
     number = strtol(fault + at, &rest, 10);
     form = *rest;
-    if (form == '-')
-        last = strtol(rest + 1, &rest, 10);
+    last = form == '-' ? strtol(rest + 1, &rest, 10) : 0;
     error = strtol(rest + (form == '+' || form == '/'), &rest, 10);
+    seen = 0;
+}
+
+__attribute__((constructor)) static void begin(void)
+{
+    const char *tell = getenv("TELL"), *first = getenv("FAULT"), *keeps = getenv("JOURNAL");
+    char *rest;
+    faults = getenv("FAULTS");
+    only = getenv("ONLY");
+    to = tell ? strtol(tell, &rest, 10) : 0;
+    journal = keeps ? strtol(keeps, &rest, 10) : 0;
+    if (first && snprintf(fault, sizeof fault, "%s", first) > 0)
+        begin_fault();
+}
+
+/* looks at the file of the fault, and begins anew where there is another one */
+static void look(void)
+{
+    char text[64];
+    long file = syscall(OPEN, faults, 0), length = file < 0 ? 0 : syscall(READ, file, text, sizeof text - 1);
+    if (file >= 0)
+        syscall(CLOSE, file);
+    text[length < 0 ? 0 : length] = 0;
+    if (strncmp(text, fault, sizeof fault) != 0 && snprintf(fault, sizeof fault, "%s", text) >= 0)
+        begin_fault();
 }
 
 /* whether this call of that name is the one that is to fail */
 static int fails(const char *call)
 {
-    static long seen;
-    long count;
-    if (!number || strncmp(call, name, 16) != 0)
+    static int is_busy;
+    long count = 0;
+    while (__sync_lock_test_and_set(&is_busy, 1))
+        ;
+    if (faults)
+        look();
+    if (number && strncmp(call, name, 16) == 0)
+        count = ++seen;
+    __sync_lock_release(&is_busy);
+    if (!count)
         return 0;
-    count = __sync_add_and_fetch(&seen, 1);
     if (form == '/')
         return count % number == 0;
     if (form == '-')
@@ -84,6 +115,13 @@ static const char *name_of(int file, char *path, size_t room)
     path[length < 0 ? 0 : length] = 0;
     slash = strrchr(path, '/');
     return slash ? slash + 1 : path;
+}
+
+/* whether it is the file whose calls alone are to fail, where there is one */
+static int is_meant(int file)
+{
+    char path[512];
+    return !only || strncmp(name_of(file, path, sizeof path), only, sizeof path) == 0;
 }
 
 /* an entry of the journal, in one write */
@@ -139,7 +177,7 @@ ssize_t pwrite(int file, const void *bytes, size_t count, off_t at)
 {
     if (strncmp("over", name, 16) == 0 && count > (size_t)number)
         return told("pwrite", file, at, failed());
-    if (!fails("pwrite"))
+    if (!is_meant(file) || !fails("pwrite"))
         return written(file, bytes, count, at);
     return error ? told("pwrite", file, at, failed()) : written(file, bytes, (count + 1) / 2, at);
 }
@@ -174,6 +212,29 @@ int fdatasync(int file)
 int fsync(int file)
 {
     return (int)told("fsync", file, 0, fails("fsync") ? failed() : syscall(FSYNC, file));
+}
+
+int chmod(const char *path, unsigned mode)
+{
+    if (fails("chmod"))
+        poll((void *)0, 0, (int)error);
+    return (int)syscall(CHMOD, path, mode);
+}
+
+int epoll_wait(int events, void *come, int most, int milliseconds)
+{
+    if (strncmp("epoll_wait", name, 16) != 0)
+        return (int)syscall(EPOLL_WAIT, events, come, most, milliseconds);
+    if (fails("epoll_wait"))
+        return (int)failed();
+    return (int)told("epoll_wait", events, milliseconds, syscall(EPOLL_WAIT, events, come, most, milliseconds));
+}
+
+/* of the C library's, which is the next one behind this */
+int pthread_create(void *thread, const void *how, void *(*runs)(void *), void *given)
+{
+    int (*next)(void *, const void *, void *(*)(void *), void *) = dlsym((void *)-1, "pthread_create");
+    return fails("pthread_create") ? (int)error : next(thread, how, runs, given);
 }
 
 /* of which the answer is the error's number itself */

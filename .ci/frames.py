@@ -47,6 +47,8 @@ CALLS = {
 }
 # The frame that asks a server with loops to end, and has no reply.
 SHUTDOWN = bytes([0, 0, 0, 2, 1, 69])
+# An option of servers whose events are counted: the loops tell the manager no time.
+TIMELESS = "--tick", "0"
 NUMBERS = ("boot", "end", "bytes", "branches", "prepared", "completed", "sessions", "versions", "calls", "seconds")
 # Each call of a session.
 SESSION = """1 open TMNOFLAGS n
@@ -175,15 +177,17 @@ def shown(content):
 
 
 class Peer:
-    """A connection to a server."""
+    """A connection to a server, by a port, or by a socket's path."""
 
     def __init__(self, port, receives=None):
-        self.socket = socket.socket()
+        is_path = not str(port).isdigit()
+        self.socket = socket.socket(socket.AF_UNIX if is_path else socket.AF_INET)
         self.socket.settimeout(LIMIT)
         if receives:
             self.socket.setsockopt(socket.SOL_SOCKET, socket.SO_RCVBUF, receives)
-        self.socket.setsockopt(socket.IPPROTO_TCP, socket.TCP_NODELAY, 1)
-        self.socket.connect(("127.0.0.1", int(port)))
+        if not is_path:
+            self.socket.setsockopt(socket.IPPROTO_TCP, socket.TCP_NODELAY, 1)
+        self.socket.connect(port if is_path else ("127.0.0.1", int(port)))
 
     def send(self, line):
         self.socket.sendall(request(line))

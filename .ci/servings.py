@@ -7,12 +7,12 @@ import subprocess
 import tempfile
 
 import plays
-from frames import ROOM
+from frames import ROOM, TIMELESS
 
 # How long a program may take, in seconds: one that isn't proved takes many times as long.
 LIMIT = 600
 FILES = "l", "l.2"
-SERVE = "serve", "--log", "l", "--name", "n", "--socket", "s", "--loops", "1"
+SERVE = "serve", "--log", "l", "--name", "n", "--socket", "s", "--loops", "1", *TIMELESS
 
 
 def put(room, files):

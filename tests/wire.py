@@ -74,8 +74,9 @@ def long(front, count):
     return front + "a5" * count
 
 
-# What asks a server with loops to end, and is no request.
+# What asks a server with loops to end, and any how it is doing: neither is a request.
 SHUTDOWN = "01 45"
+ASKS_STATUS = "01 43"
 # Each field at what is just no field, and what is left behind each content.
 MALFORMED = [
     ("", "S"),
@@ -360,13 +361,15 @@ TICKS = [
     ("a reply is cut", ["0000000f 01 00"], ["connection lost"]),
     ("what comes is no reply", ["00000001 02"], ["no reply"]),
 ]
-# What a shutdown is answered, and what is told then; with nothing the status is 0.
+# What a shutdown is answered, which asks for the status first, and what is told then; with nothing the status is 0.
 SHUTDOWNS = [
-    ("the connection ends", "", ""),
-    ("a server that knows no such request", PLAIN.format("fffffffb", 6), "the server takes no shutdown"),
-    ("a reply of 0", OK, "the server takes no shutdown"),
-    ("a reply is cut", "0000000f 01 00", "connection lost"),
-    ("a length is cut", "00", "connection lost"),
-    ("a length that is too great", "00010000 01", "no reply"),
-    ("what comes is no reply", "00000001 02", "no reply"),
+    ("the connection ends", STATUS, ""),
+    ("a server that knows no such request", STATUS + PLAIN.format("fffffffb", 6), "the server takes no shutdown"),
+    ("a reply of 0", STATUS + OK, "the server takes no shutdown"),
+    ("a reply is cut", STATUS + "0000000f 01 00", "connection lost"),
+    ("a length is cut", STATUS + "00", "connection lost"),
+    ("a length that is too great", STATUS + "00010000 01", "no reply"),
+    ("what comes is no reply", STATUS + "00000001 02", "no reply"),
+    ("a server that has no place for it", "", "connection lost"),
+    ("a status that is cut", "0000005f 01 00", "connection lost"),
 ]

@@ -1,0 +1,101 @@
+"""Of .ci/loops: the longest that somebody waits, where the machine isn't to blame: beside loops that look for more requests before a sync,
+beside one that makes a sync, and for handles."""
+import os
+import resource
+import statistics
+import subprocess
+import sys
+import time
+
+from clients import OK, OPEN, PATIENCE, Server, asks, begin, is_answered, replies, took
+
+LOAD = """
+import itertools, sys
+sys.path.append(sys.argv[1])
+from frames import Peer
+peer = Peer(sys.argv[2])
+peer.ask("1 open TMNOFLAGS n")
+for count in itertools.count():
+    xid = f"{sys.argv[3]}:{count % 200:02x}:"
+    for line in ("start TMNOFLAGS {0}", "put 6b{1} 76", "end TMSUCCESS {0}", "commit TMONEPHASE {0}"):
+        peer.ask("1 " + line.format(xid, f"{int(sys.argv[3]):04x}"))
+"""
+# Within how many seconds whoever connects is answered, however busy the machine is: one who is overlooked waits for the next one.
+SOON = 2
+
+
+class Loaded(Server):
+    """A server beside which so many clients commit, one branch behind the other."""
+
+    def __init__(self, clients, *words, **how):
+        super().__init__(*words, **how)
+        self.clients, self.load = clients, []
+
+    def __enter__(self):
+        super().__enter__()
+        words = [sys.executable, "-c", LOAD, os.path.dirname(os.path.abspath(__file__)), str(self.port)]
+        self.load = [subprocess.Popen([*words, str(at + 1)]) for at in range(self.clients)]
+        time.sleep(1)
+        return self
+
+    def __exit__(self, *_):
+        for it in self.load:
+            it.kill()
+            it.wait()
+        super().__exit__()
+
+
+def longest_connect(server, count, pause):
+    """The longest of some connects that come one behind the other, each until it is answered."""
+    peers, times = [], []
+    for _ in range(count):
+        time.sleep(pause)
+        began = time.monotonic()
+        peers.append(server.peer())
+        found = asks(peers[-1], [OPEN])
+        times.append(time.monotonic() - began if found == [OK] else PATIENCE)
+        if times[-1] >= PATIENCE:
+            break
+    return max(times)
+
+
+def connects(library):
+    """Of who connects beside clients that keep loops at work: those look for more requests while a sync is made, and before one."""
+    for title, loops, slow in (("before a sync", "1", ""), ("while another loop syncs", "2", "slow 1+ 20")):
+        with Loaded(6, "--loops", loops, library=library) as server:
+            server.fault(slow)
+            yield f"waits: the longest connect beside loops that look for more {title}", longest_connect(server, 30, 0.01) < SOON, True
+
+
+def syncs(library):
+    """How late who waits for a loop's sync is answered behind it, and how much of a processor that takes. One that isn't woken looks again each
+    tenth of a second, so the syncs end at different times after it asked."""
+    late, seconds = [], 0
+    with Server("--loops", "2", library=library) as server:
+        # both have begun: each gets every second connection
+        time.sleep(0.2)
+        one, other = server.peer(), server.peer()
+        asks(other, [OPEN])
+        for at in range(9):
+            begin(one, f"1:{at:02x}:")
+            server.fault(f"slow 1 {300 + 11 * at}")
+            before = server.processor_seconds()
+            one.send(f"1 commit TMONEPHASE 1:{at:02x}:")
+            time.sleep(0.05)
+            other.send("1 recover TMSTARTRSCAN|TMENDRSCAN 10")
+            assert [*replies([one], 1)] == [[OK]]
+            late.append(took(lambda: list(replies([other], 1)))[0])
+            seconds += server.processor_seconds() - before
+    yield "waits: who waits for another loop's sync is woken at its end", statistics.median(late) < 0.02, True
+    yield "waits: who waits for another loop's sync sleeps", seconds < 0.9, True
+
+
+def handles():
+    """Where a server lacks handles accepting pauses, and goes on once it has some, though no connection was closed."""
+    with Server("--loops", "1", handles=20) as server:
+        peers = [server.peer() for _ in range(20)]
+        for peer in peers:
+            peer.send(OPEN)
+        answered = sum(is_answered(peer, 0.5) for peer in peers[:10]), is_answered(peers[-1], 0.5)
+        resource.prlimit(server.ran.pid, resource.RLIMIT_NOFILE, (60, resource.getrlimit(resource.RLIMIT_NOFILE)[1]))
+        yield "waits: who waits for a handle", (answered[1], is_answered(peers[-1], SOON)), (False, True)
