@@ -57,7 +57,7 @@ bool server_make(struct server *server, const char *program, const char *folder,
 static void run(const struct server *server, const char *program)
 {
     char port[12];
-    const char *words[] = {program, "serve", "--log", server->log, "--name", server->name, "--port", port, NULL};
+    const char *words[] = {program, "serve", "--log", server->log, "--name", server->name, "--port", port, "--tick", "0", NULL};
     snprintf(port, sizeof port, "%d", server->port);
     if (server->socket[0] != '\0') {
         words[6] = "--socket";

@@ -32,7 +32,7 @@ class Server:
     def __init__(self, program, room, name="bank", path=None, options=()):
         self.name, self.port, self.path = name, free_port(), path
         where = ["--socket", path] if path else ["--port", str(self.port)]
-        self.words = [program, "serve", "--log", os.path.join(room, f"log{self.port}"), "--name", name, *where, *options]
+        self.words = [program, "serve", "--log", os.path.join(room, f"log{self.port}"), "--name", name, "--tick", "0", *where, *options]
         self.start()
 
     def start(self):

@@ -60,7 +60,7 @@ final class Server implements AutoCloseable {
     }
 
     void start() throws IOException {
-        List<String> words = new ArrayList<>(List.of(program, "serve", "--log", log.toString(), "--name", name));
+        List<String> words = new ArrayList<>(List.of(program, "serve", "--log", log.toString(), "--name", name, "--tick", "0"));
         words.addAll(options.contains("--socket") ? List.of() : List.of("--port", Integer.toString(port)));
         words.addAll(options);
         process = new ProcessBuilder(words)
