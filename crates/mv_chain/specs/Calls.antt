@@ -16,7 +16,7 @@ use Rattle.mv_chain.specs.Pool.{shown_at, IsKeptAt, versions_of, IsKept}
 abbrev pub sees : ℕ → Pool → Chain → Seen
 sees t pool c = shows t (versions_of pool c)
 
--- the bytes that are to be written, none for a delete
+-- the bytes that have to be written, none for a delete
 abbrev pub bytes_of : Option (Vec ℕ Global) → Option (List ℕ)
 bytes_of value = option_map (λ v. v.items) value
 
@@ -27,14 +27,14 @@ IfLookedAt look pool slots At = (t : ℕ) → IsKeptAt pool slots → look ≡ l
 abbrev pub IfLooked : Look → Pool → Chain → (ℕ → Type 0) → Type 0
 IfLooked look pool c At = IfLookedAt look pool c.slots.items At
 
--- the call changes a chain's versions so
+-- the call changes a chain's versions like this
 abbrev pub LeavesAt : (List Version → List Version) → Pool → List ℕ → Pool → List ℕ → Type 0
 LeavesAt change old mine new left = IsKeptAt old mine → shown_at new left ≡ change (shown_at old mine)
 
 abbrev pub Leaves : (List Version → List Version) → Pool → Chain → Pool → Chain → Type 0
 Leaves change old mine new left = LeavesAt change old mine.slots.items new left.slots.items
 
--- it changes them so, for the timestamp that was looked at
+-- it changes them like this, for the timestamp that was looked at
 abbrev pub LeavesLookedAt : (ℕ → List Version → List Version) → Look → Pool → List ℕ → Pool → List ℕ → Type 0
 LeavesLookedAt change look old mine new left =
     IfLookedAt look old mine (λ t. shown_at new left ≡ change t (shown_at old mine))
@@ -81,7 +81,7 @@ Decides t fate old mine new left =
     → IsKept old mine → StandsFor key low writes reads (versions_of old mine)
     → IsUndecided t writes → StandsFor key low (decided t fate writes) reads (versions_of new left)
 
--- each history that the chain stood for goes on from the low water, where that is above its own
+-- each history that the chain stood for goes on from the low water, if that is above its own
 abbrev pub Raises : ℕ → Pool → Chain → Pool → Chain → Type 0
 Raises low old mine new left =
     (key : List ℕ) (before : ℕ) (writes : List Written) (reads : List Answered)

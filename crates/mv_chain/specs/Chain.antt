@@ -57,7 +57,7 @@ may_install t versions =
 abbrev pub unread : ℕ → Option (List ℕ) → Version
 unread t value = record { timestamp = t; value = value; pending = true; mark = 0 }
 
--- the version of timestamp t has this value; where there is none yet, it is put in its order
+-- the version of timestamp t has this value; if there is none yet, it takes its place in the order
 abbrev pub with_version : ℕ → Option (List ℕ) → List Version → List Version
 with_version t value [] = unread t value ∷ []
 with_version t value (v ∷ later) =

@@ -14,7 +14,7 @@ is_idle low [] = false
 is_idle low (v ∷ []) = is_unused low v
 is_idle low (v ∷ w ∷ later) = false
 
--- such a key may be forgotten: from any low water that isn't below, it stands for what one stands for that is made anew
+-- such a key may be forgotten: from any low water that isn't below, it stands for what a new one stands for
 abbrev pub IdleStands : Type 0
 IdleStands =
     (key : List ℕ) (low before : ℕ) (writes : List Written) (reads : List Answered) (versions : List Version)

@@ -59,8 +59,8 @@ last_of writes = stamped (seen_without everybody key third writes)
 abbrev pub one_committed : List Written
 one_committed = decided first Committed (put_by first 0x31 ∷ [])
 
--- the second branch writes 2 and commits, then the third writes 3: the last committed write is the second's, also where
--- it is a delete; where the third alone has written there is none
+-- the second branch writes 2 and commits, then the third writes 3: the last committed write is the second's, also if
+-- it is a delete; if only the third has written there is none
 abbrev pub LastCommitted : Type 0
 LastCommitted =
     (last_of (put_by third 0x33 ∷ decided second Committed (put_by second 0x32 ∷ one_committed))

@@ -18,7 +18,7 @@ pub record IsOwn (t i : ℕ) (versions : List Version) : Type 0 where
   pub own : IsPendingAt t i versions
   pub in_time : is_marked t versions ≡ false
 
--- the index of the branch's pending version, where it has one
+-- the index of the branch's pending version, if it has one
 abbrev pub IsOwnIndex : ℕ → List Version → Option ℕ → Type 0
 IsOwnIndex t versions found =
     MatchOption found (Each (λ v. v.timestamp ≡ t → v.pending ≡ false) versions)

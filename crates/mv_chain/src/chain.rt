@@ -33,7 +33,7 @@ impl Chain {
     /// A key that nobody wrote: one committed version at timestamp 0, absent.
     ///
     /// # Errors
-    /// Want of memory, and every chain of the pool is as it was.
+    /// Out of memory; every chain of the pool is as it was.
     pub fn new(pool: &mut Pool) -> Result<Chain, AllocError>
         ensures base { IfOk result (λ c. versions_of pool.new c ≡ fresh) }
         ensures kept { IfOk result (λ c. IsKept pool.new c) }
@@ -64,8 +64,8 @@ impl Chain {
         look_in(pool, &self.slots, ts)
     }
 
-    /// The source of a read at `ts`: the version with the greatest timestamp of at most `ts`. A read is to
-    /// wait or give up where that is pending and not at `ts` itself.
+    /// The source of a read at `ts`: the version with the greatest timestamp of at most `ts`. A read has to
+    /// wait or give up if that is pending and not at `ts` itself.
     pub fn source(&self, pool: &Pool, ts: u64) -> Found
         ensures from { IsKept pool.now self.now → result.from ≡ (sees ts pool.now self.now).from }
         ensures pending { IsKept pool.now self.now → result.pending ≡ (sees ts pool.now self.now).pending }
@@ -77,7 +77,7 @@ impl Chain {
         }
     }
 
-    /// The value that a read sees at the timestamp that was looked at. `None` where the key is absent.
+    /// The value that a read sees at the timestamp that was looked at. `None` if the key is absent.
     pub fn value_at<'a>(&self, pool: &'a Pool, look: &Look) -> Option<&'a [u8]>
         ensures value { IfLooked look.now pool.now self.now
             (λ ts. option_map (λ v. v.now) result ≡ (sees ts pool.now self.now).value) }
@@ -89,8 +89,8 @@ impl Chain {
         }
     }
 
-    /// The value of the version that a read at `from` sees, so of the version of timestamp `from` where
-    /// there is one. `None` where the key is absent.
+    /// The value of the version that a read at `from` sees, so of the version of timestamp `from` if
+    /// there is one. `None` if the key is absent.
     pub fn value<'a>(&self, pool: &'a Pool, from: u64) -> Option<&'a [u8]>
         ensures value { IsKept pool.now self.now
             → option_map (λ v. v.now) result ≡ (sees from pool.now self.now).value }
@@ -99,8 +99,8 @@ impl Chain {
         self.value_at(pool, &self.look(pool, from))
     }
 
-    /// The last version that isn't pending: its timestamp, and its value, `None` where the branch deleted the key. It
-    /// is `None` where no branch that wrote the key has committed. What it costs is the pending ones above it.
+    /// The last version that isn't pending: its timestamp, and its value, `None` if the branch deleted the key. It
+    /// is `None` if no branch that wrote the key has committed. It costs time for each pending one above it.
     pub fn last_committed<'a>(&self, pool: &'a Pool) -> Option<(u64, Option<&'a [u8]>)>
         ensures last { IsKept pool.now self.now → IsLastOf (versions_of pool.now self.now) (lent result) }
         ensures written { IsKept pool.now self.now → IsLastWritten (versions_of pool.now self.now) (lent result) }
@@ -121,7 +121,7 @@ impl Chain {
         self.look(pool, ts).late
     }
 
-    /// Notes an answered read at the timestamp that was looked at. Where that read may not be answered, nothing
+    /// Notes an answered read at the timestamp that was looked at. If that read may not be answered, nothing
     /// changes.
     pub fn mark_at(&mut self, pool: &mut Pool, look: &Look)
         ensures versions { LeavesLooked marked_at look.now pool.old self.old pool.new self.new }
@@ -134,7 +134,7 @@ impl Chain {
         mark_in(pool, &self.slots, look);
     }
 
-    /// Notes an answered read: the version of timestamp `from` was read at `reader`. Where `from` isn't the
+    /// Notes an answered read: the version of timestamp `from` was read at `reader`. If `from` isn't the
     /// source of a read at `reader`, or that read may not be answered, nothing changes.
     pub fn mark(&mut self, pool: &mut Pool, from: u64, reader: u64)
         ensures versions { Leaves (marked from reader) pool.old self.old pool.new self.new }
@@ -151,11 +151,11 @@ impl Chain {
     }
 
     /// Adds a branch's write at the timestamp that was looked at, or replaces its own: `None` deletes the key.
-    /// Where the write is late, or its branch has committed, nothing changes. A write below other versions moves
+    /// If the write is late, or its branch has committed, nothing changes. A write below other versions moves
     /// their indices.
     ///
     /// # Errors
-    /// Want of memory, and nothing changes.
+    /// Out of memory; nothing changes.
     pub fn install_at(
         &mut self,
         pool: &mut Pool,
@@ -174,11 +174,11 @@ impl Chain {
         install_in(pool, &mut self.slots, look, value)
     }
 
-    /// Adds a branch's write, or replaces its own: `None` deletes the key. Where the write is late, or its
+    /// Adds a branch's write, or replaces its own: `None` deletes the key. If the write is late, or its
     /// branch has committed, nothing changes. A write below other versions moves their indices.
     ///
     /// # Errors
-    /// Want of memory, and nothing changes.
+    /// Out of memory; nothing changes.
     pub fn install(
         &mut self,
         pool: &mut Pool,
@@ -199,7 +199,7 @@ impl Chain {
     }
 
     /// Decides the fate of a branch's write, also of one below the low water: it stays, or it goes with its
-    /// mark. Where the branch has no pending version, nothing changes.
+    /// mark. If the branch has no pending version, nothing changes.
     pub fn settle(&mut self, pool: &mut Pool, ts: u64, fate: Fate)
         ensures versions { Leaves (settled ts fate) pool.old self.old pool.new self.new }
         ensures kept { IsKept pool.old self.old → IsKept pool.new self.new }
@@ -224,7 +224,7 @@ impl Chain {
     }
 
     /// Whether nothing of the chain has to be kept from `low` on: nobody has written the key, and no read of it was
-    /// above `low`. By the law `idle_stands` a chain that is made anew then stands for the same.
+    /// above `low`. By the law `idle_stands` a new chain then stands for the same.
     pub fn is_idle(&self, pool: &Pool, low: u64) -> bool
         ensures { result ≡ is_idle low (versions_of pool.now self.now) }
     {

@@ -15,7 +15,7 @@ use crate::slots::{Slots, commit, put_in, raise, replace, take_out};
 use crate::version::{ValueBytes, Version};
 use std::alloc::AllocError;
 
-/// Notes an answered read, where its source was looked for.
+/// Notes an answered read, once its source was looked up.
 pub(crate) fn mark_in(pool: &mut Pool, slots: &[usize], look: &Look)
     ensures versions { LeavesLookedAt marked_at look.now pool.old slots.now pool.new slots.now }
     ensures kept { IfLookedAt look.now pool.old slots.now (λ ts. IsKeptAt pool.new slots.now) }
@@ -39,7 +39,7 @@ enum Target {
     New(usize),
 }
 
-/// Where a write goes, among so many versions.
+/// Where a write goes, among `versions` versions.
 fn target_of(look: &Look, versions: usize) -> Target
     ensures slot { (ts : ℕ) (shown : List Version) → IsChain shown → versions ≡ length shown
         → look.now ≡ looked ts shown → IsTarget ts shown result }
@@ -66,7 +66,7 @@ fn target_of(look: &Look, versions: usize) -> Target
     }
 }
 
-/// Adds a write, or replaces the branch's own, where its index was looked for.
+/// Adds a write, or replaces the branch's own, once its index was looked up.
 pub(crate) fn install_in(
     pool: &mut Pool,
     slots: &mut Slots,

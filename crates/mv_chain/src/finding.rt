@@ -26,7 +26,7 @@ fn read_above(pool: &Pool, slots: &[usize], below: usize, ts: u64) -> bool
     ts < mark_at(pool, slots[below - 1])
 }
 
-/// Whether a version below `ts` was read above `ts`, where `count` versions are at most `ts`.
+/// Whether a version below `ts` was read above `ts`, if `count` versions are at most `ts`.
 fn late_at(pool: &Pool, slots: &[usize], count: usize, ts: u64) -> bool
     requires { count ≤ length slots.now }
     ensures { IsChain (shown_at pool.now slots.now) → IsIndex ts count (shown_at pool.now slots.now)

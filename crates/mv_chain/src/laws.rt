@@ -1,14 +1,14 @@
 ghost use Rattle.mv_chain.specs.{Idle.IdleStands, Pool.OthersStay};
 ghost use Rattle.mv_chain.specs.Rows.{LateWrite, BlindWrite, BusyUntilCommitted, NotSeen, LastCommitted};
 
-/// What a call on one chain leaves is every other chain of the pool: its versions, that it is one of the pool's, and
-/// that no version is in both.
+/// A call on one chain leaves every other chain of the pool as it was: its versions, that it is one of the pool's,
+/// and that no version is in both.
 pub fn others_stay()
     ensures { OthersStay }
 {}
 
 /// A key that was only read, up to the low water, may be forgotten: it stands
-/// for what a key stands for that is made anew.
+/// for the same as a new key.
 pub fn idle_stands()
     ensures { IdleStands }
 {}

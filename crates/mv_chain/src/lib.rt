@@ -11,7 +11,7 @@
 //! leaves every other chain of the pool as it was, and the pool's number of versions changes as that chain's does.
 //!
 //! One binary search finds what a read at a timestamp sees and whether a write there is late: [`Chain::look`]. Its
-//! [`Look`] serves the calls that read, mark or write there. The others look by themselves.
+//! [`Look`] serves the calls that read, mark or write there. The other calls search on their own.
 //!
 //! - `chain`: `Chain`, with every call on it
 //! - `look`: `Look`, what a search found; `found`: `Found`, the source of a read; `fate`: `Fate`, how a branch ended
@@ -22,7 +22,7 @@
 //! - `laws`: `others_stay`, that other chains stay; `idle_stands`, when a key may be forgotten; `worked_histories`,
 //!   worked rows
 //!
-//! The definitions, in an order to read: `Accesses`, what a read sees and when a write is late; `Chain`, the versions,
+//! The definitions, in reading order: `Accesses`, what a read sees and when a write is late; `Chain`, the versions,
 //! what changes them and `StandsFor`; `Look`; `Pool`; `Calls`, what a call leaves; `Last`, what is last committed;
 //! `Idle`, `Within`; `Rows`, worked rows. `Stored`, `Target` and `Slots` are of the private steps.
 #![tactic(auto)]

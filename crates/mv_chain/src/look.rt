@@ -7,9 +7,9 @@ ghost use Rattle.std.specs.Prelude.{◌≡◌, ◌<◌, ◌⊎◌, suc, MatchOpt
 pub struct Look {
     /// The timestamp that was looked at.
     pub at: u64,
-    /// The timestamp of the version that a read sees, 0 where there is none.
+    /// The timestamp of the version that a read sees, 0 if there is none.
     pub from: u64,
-    /// Whether that version's branch is still undecided. Where `from` isn't `at`, a read is to wait or give up.
+    /// Whether that version's branch is undecided. A read then has to wait or give up, unless `from` is `at`.
     pub pending: bool,
     /// Whether a write is late: a version below `at` was read above it.
     pub late: bool,
@@ -18,7 +18,7 @@ pub struct Look {
 }
 
 impl Look {
-    /// The index of the version that a read sees, among so many versions.
+    /// The index of the version that a read sees, among `versions` versions.
     pub(crate) fn last(&self, versions: usize) -> Option<usize>
         ensures { MatchOption result ((self.now.count ≡ 0) ⊎ (versions < self.now.count))
             (λ i. (self.now.count ≡ suc i) × (i < versions)) }

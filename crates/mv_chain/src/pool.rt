@@ -26,7 +26,7 @@ impl Pool {
         }
     }
 
-    /// No versions, with room for so many.
+    /// No versions, with room for `versions` of them.
     ///
     /// # Errors
     /// Out of memory.

@@ -90,7 +90,7 @@ pub(crate) fn replace(pool: &mut Pool, slot: usize, value: ValueBytes)
     }
 }
 
-/// A version is pending no more.
+/// A version is no longer pending.
 pub(crate) fn commit(pool: &mut Pool, slot: usize)
     ensures { ChangesAt (λ (v : Version). record v { pending = false }) slot pool.old pool.new }
 {

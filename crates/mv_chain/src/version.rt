@@ -11,7 +11,7 @@ enum Stored {
     Absent,
     /// Here.
     Own(Vec<u8>),
-    /// In others, of which they are so many from this one on.
+    /// In others: `len` of them, from the one at `start` on.
     Within {
         bytes: SharedBytes,
         start: u32,
@@ -19,7 +19,7 @@ enum Stored {
     },
 }
 
-/// What a key has, which contracts see as the bytes of a value, or as none where the key is absent.
+/// What a key has, which contracts see as the bytes of a value, or as none if the key is absent.
 #[derive(Debug, Drop)]
 pub struct ValueBytes {
     stored: Stored,
@@ -46,7 +46,7 @@ impl ValueBytes {
         ValueBytes { stored }
     }
 
-    /// Bytes that stand in these from an index on, where they are left. None where they don't stand there, or there are
+    /// Bytes that stand in `shared` from an index on, and are left there. None if they don't stand there, or there are
     /// none. Takes no memory.
     pub fn within(shared: &SharedBytes, start: usize, bytes: &[u8]) -> Option<ValueBytes>
         ensures { IfSome result (λ v. v ≡ Some bytes.now) }
@@ -89,7 +89,7 @@ impl ValueBytes {
     }
 }
 
-/// So many bytes from an index on, or as many as there are.
+/// `len` bytes from an index on, or as many as there are.
 fn part(bytes: &[u8], start: usize, len: usize) -> &[u8]
     ensures { result.now ≡ take len (drop start bytes.now) }
 {
@@ -102,7 +102,7 @@ fn part(bytes: &[u8], start: usize, len: usize) -> &[u8]
 pub struct Version {
     /// The branch's timestamp.
     pub timestamp: u64,
-    /// What the key has, or none where the branch deleted it.
+    /// What the key has, or none if the branch deleted it.
     pub value: ValueBytes,
     /// Whether the branch is still undecided.
     pub pending: bool,

@@ -42,7 +42,7 @@ reads_after Memory t key from reads = reads
 abbrev pub after_get : Got → ℕ → List ℕ → Accesses → Accesses
 after_get got t key h = record h { reads = reads_after got t key (seen key t h.writes).from h.reads }
 
--- a get answers by what it sees, unless it wants memory
+-- a get answers by what it sees, unless memory runs out
 abbrev pub AnswersGet : Got → ℕ → List ℕ → Accesses → Type 0
 AnswersGet got t key h = got ≢ Got.Memory → got ≡ answer_of t (seen key t h.writes)
 
@@ -69,13 +69,13 @@ after_put Late t key value h = h
 after_put Limit t key value h = h
 after_put Put.Memory t key value h = h
 
--- a put answers by the keys that the branch has written and by the answered reads, unless it wants memory
+-- a put answers by the keys that the branch has written and by the answered reads, unless memory runs out
 abbrev pub AnswersPut : Put → ℕ → List ℕ → Accesses → Type 0
 AnswersPut put t key h =
     put ≢ Put.Memory
     → put ≡ put_of (has_undecided key t h.writes) (undecided_keys t h.writes) (is_late key t h.reads)
 
--- the value of the branch's last write of the key; None where it wrote none
+-- the value of the branch's last write of the key; None if it wrote none
 abbrev pub last_write : List ℕ → ℕ → List Written → Option (Option (List ℕ))
 last_write key t [] = None
 last_write key t (w ∷ older) = if bytes_eq key w.key && (w.timestamp == t) then Some w.value else last_write key t older

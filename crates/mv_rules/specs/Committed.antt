@@ -48,7 +48,7 @@ ByTimestamp = BTreeMap ℕ (Vec Write Global)
 abbrev pub writes_at : ℕ → ByTimestamp → List Write
 writes_at t committed = option_map_or (λ v. v.items) (get_by (nat_cmp t) committed) []
 
--- one more write of a timestamp, behind its others
+-- one more write of a timestamp, after its others
 pub record AddsCommitted (t : ℕ) (w : Write) (old new : ByTimestamp) : Type 0 where
   pub left : Vec Write Global
   pub writes : left.items ≡ writes_at t old ++ w ∷ []

@@ -7,7 +7,7 @@ use Rattle.mv_chain.specs.declared.chain.Chain.{Chain}
 use Rattle.mv_chain.specs.Chain.{fresh}
 use Rattle.mv_chain.specs.Pool.{versions_of, IsKept, AreApart, LeavesOthersAt}
 
--- the versions at an index; where no chain stands, those of a key that nobody wrote
+-- the versions at an index; if no chain stands there, those of a key that nobody wrote
 abbrev pub shown_in : Pool → Option Chain → List Version
 shown_in pool None = fresh
 shown_in pool (Some c) = versions_of pool c

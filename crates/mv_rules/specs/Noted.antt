@@ -38,7 +38,7 @@ AddsRead ts own old new = NotesAt ts (own_in ts old) (decided_in ts old) (read_i
 abbrev pub MovesDecided : ℕ → BTreeMap ℕ Notes → BTreeMap ℕ Notes → Type 0
 MovesDecided ts old new = NotesAt ts [] (own_in ts old) (read_in ts old) old new
 
--- the versions of a key; where nothing is kept of it, those of one that nobody wrote
+-- the versions of a key; if nothing is kept of it, those of one that nobody wrote
 abbrev pub or_fresh : Option (List Version) → List Version
 or_fresh None = fresh
 or_fresh (Some versions) = versions
@@ -53,7 +53,7 @@ pub record Reads (ts : ℕ) (key : List ℕ) (old new : Records) : Type 0 where
   pub kept : KeepsBut key (λ _. Some (marked_at ts (or_fresh (kept_of key old)))) old new
   pub notes : NotesRead ts key (or_fresh (kept_of key old)) old.notes new.notes
 
--- what an accepted put leaves: the key's version, and the key noted where the branch hadn't written it
+-- what an accepted put leaves: the key's version, and the key noted if the branch hadn't written it
 pub record Puts (ts : ℕ) (key : List ℕ) (value : Option (List ℕ)) (old new : Records) : Type 0 where
   pub kept : KeepsBut key (λ _. Some (installed ts value (or_fresh (kept_of key old)))) old new
   pub again : names key (own_of ts old) ≡ true → new.notes ≡ old.notes
@@ -73,7 +73,7 @@ pub record Settles (ts : ℕ) (fate : Fate) (old new : Records) : Type 0 where
   pub some : 0 < length (own_of ts old) → MovesDecided ts old.notes new.notes
   pub none : own_of ts old ≡ [] → new.notes ≡ old.notes
 
--- what a decision leaves, where there is one
+-- what a decision leaves, if there is one
 abbrev pub SettlesIf : ℕ → Option Fate → Records → Records → Type 0
 SettlesIf ts None old new = old ≡ new
 SettlesIf ts (Some fate) old new = Settles ts fate old new
@@ -82,7 +82,7 @@ SettlesIf ts (Some fate) old new = Settles ts fate old new
 abbrev pub writes_key : List ℕ → List Write → Bool
 writes_key key writes = list_any (λ w. bytes_eq key w.key) writes
 
--- each key of the writes is kept, as one that nobody wrote where nothing was kept of it; all else is as it was
+-- each key of the writes is kept, as one that nobody wrote if nothing was kept of it; all else is as it was
 pub record Begins (writes : List Write) (old new : Records) : Type 0 where
   pub kept : (q : List ℕ) → kept_of q new ≡ (if writes_key q writes then Some (or_fresh (kept_of q old)) else kept_of q old)
   pub notes : new.notes ≡ old.notes
@@ -102,7 +102,7 @@ ReadAlone (e ∷ later) r end =
     (read : Records) × (left : Records) × (fate : Fate)
     × Reads e.0 e.1 r read × Settles e.0 fate read left × ReadAlone later left end
 
--- nothing is kept of the key, the low water has passed the reader, and up to there no branch is undecided that wrote
+-- nothing is kept of the key, the low water has passed the reader, and up to there no branch that wrote is undecided
 pub record IsStrange (low : ℕ) (r : Records) (read : ℕ × List ℕ) : Type 0 where
   pub unknown : kept_of read.1 r ≡ None
   pub passed : read.0 ≤ low
@@ -120,7 +120,7 @@ LeaveNothing =
     → ReadAlone reads r read → Each (IsStrange low r) reads → AreDistinct reads
     → Tidies low read left → Tidies low r left
 
--- so every key is as it was, where nothing else was due
+-- so every key is as it was, if nothing else was due
 abbrev pub LeaveAll : Type 0
 LeaveAll =
     (reads : List (ℕ × List ℕ)) (low : ℕ) (r read left : Records)

@@ -1,4 +1,4 @@
--- What the records are built of anew when the log was read: the branches that lasted, one after another.
+-- What the records are rebuilt from once the log was read: the branches that lasted, one after another.
 use Rattle.std.specs.Prelude.{◌≡◌, ℕ, ◌<◌, ◌≤◌, List, [], ◌∷◌, Option, Some, None, fold, length, take, slice_index_or}
 use Rattle.std.specs.List.{AllByRecursion as Each}
 use Rattle.xa_codes.specs.declared.write.Write.{Write}

@@ -1,6 +1,6 @@
 -- The writes and the answered reads of the sequential resource manager's state as one history, and that both ways to
 -- say it agree: what a timestamp reads of a key among branches is what it sees in the flat list of their writes, and a
--- write is late for the one just where it is for the other.
+-- write is late for the one exactly when it is for the other.
 use Rattle.std.specs.Prelude.{◌≡◌, ℕ, max, not, List, [], ◌∷◌, ◌++◌, Option, Some, None, map}
 use Rattle.mv_chain.specs.declared.fate.Fate.{Fate}
 use Rattle.mv_chain.specs.declared.fate.Fate.TheVariants.{Committed as kept}
@@ -35,7 +35,7 @@ abbrev pub read_as : Read → Answered
 read_as r = record { reader = r.reader; key = r.key; from = r.source }
 
 -- From here on the history counts: who reads or writes from now on has its timestamp neither below the floor of work
--- nor below the low water. What was written over before a restart isn't in the log, so records of a new boot don't show
+-- nor below the low water. What was overwritten before a restart isn't in the log, so records of a new boot don't show
 -- it, whatever is in doubt; and no branch at work is of an earlier boot then.
 abbrev pub low_of : State → ℕ
 low_of s = max (work_floor s) (low_water s)

@@ -1,4 +1,4 @@
--- What a put is to do.
+-- What a put has to do.
 use Rattle.std.specs.Prelude.{ℕ, Bool, true, false, not, ◌&&◌, nat_le}
 use Rattle.xa_limits.specs.declared.TheConstants.{MOST_WRITES}
 use Rattle.mv_rules.specs.declared.answers.Put.TheVariants.{Late, Limit}

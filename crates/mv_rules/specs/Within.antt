@@ -43,7 +43,7 @@ HasKeys r = (t : ℕ) → AreKeys MOST_WRITES (own_of t r)
 abbrev pub KeepsKeys : Records → Records → Type 0
 KeepsKeys old new = HasKeys old → HasKeys new
 
--- no undecided branch has written a key more or less, but one
+-- no undecided branch but one has written a key more or less
 abbrev pub KeepsOwnBut : ℕ → Records → Records → Type 0
 KeepsOwnBut ts old new = (t : ℕ) → t ≢ ts → own_of t new ≡ own_of t old
 

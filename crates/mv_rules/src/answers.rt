@@ -9,7 +9,7 @@ pub enum Got {
     Absent,
     /// The source is the write of another branch, of this timestamp, that is still undecided.
     Busy(u64),
-    /// Want of memory.
+    /// Out of memory.
     Memory,
 }
 
@@ -22,6 +22,6 @@ pub enum Put {
     Late,
     /// The branch has written as many other keys as it may.
     Limit,
-    /// Want of memory.
+    /// Out of memory.
     Memory,
 }

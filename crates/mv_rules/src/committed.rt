@@ -8,7 +8,7 @@ use std::alloc::{AllocError, Global};
 use std::collections::BTreeMap;
 use xa_codes::{Bytes, Write};
 
-/// Adds a write behind the others of its timestamp.
+/// Adds a write after the others of its timestamp.
 fn add_committed(
     alloc: Global,
     committed: &mut BTreeMap<u64, Vec<Write>>,
@@ -66,10 +66,10 @@ impl Records {
     ghost use Rattle.mv_rules.specs.{Calls.IfStood, Committed.branches_in, Committed.AreCommitted};
 
     /// The last committed write of each key, by timestamp, those of one timestamp ascending by key: what a checkpoint
-    /// writes of committed branches. It goes over all keys once.
+    /// writes of committed branches. It visits each key once.
     ///
     /// # Errors
-    /// Want of memory.
+    /// Out of memory.
     pub fn committed(&self) -> Result<BTreeMap<u64, Vec<Write>>, AllocError>
         ensures { IfOk result (λ m. IfStood self.now (λ h. AreCommitted h (branches_in m.entries))) }
     {

@@ -13,9 +13,9 @@ pub fn committed_lasts()
     ensures { CommittedLasts }
 {}
 
-/// The branches that lasted may be added to new records in their order. Records that were built anew of what lasted,
+/// The branches that lasted may be added to new records in their order. Records that were rebuilt from what lasted,
 /// from timestamps above 0 on, stand for each state that is restored to it: from the timestamps of its boot on, and
-/// those are above all of its branches, they show the same, whether or not the writes that were written over are among
+/// those are above all of its branches, they show the same, whether or not overwritten writes are among
 /// them.
 pub fn restoring()
     ensures order { AreInTurn }

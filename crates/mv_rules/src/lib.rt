@@ -6,14 +6,14 @@
 //! says which histories a [`Records`] stands for, and each call's clauses hold for every one of them.
 //!
 //! - `records`: `Records`, with its calls: get, put, settle, and the low water, which gives back what no read will see;
-//!   `rebuilding`: how they are built anew of what lasted, `place`: where a value stands in its record's body;
+//!   `rebuilding`: how they are rebuilt from what lasted, `place`: where a value stands in its record's body;
 //!   `committed`: what of them lasts
 //! - `answers`: `Got` and `Put`, what a get and a put answer
 //! - `own`: `Own`, a key of a branch, and the notes of what each branch has written and read; `own_key`: `OwnKey`, the
 //!   copy of a key there; `writes`: what a branch leaves, key by key
-//! - `verdict`: what a put is to do; `steps`: what a read, a write and a settling do to one chain
+//! - `verdict`: what a put has to do; `steps`: what a read, a write and a settling do to one chain
 //! - `laws`: `one_history`, that the histories of `xa_model` say the same; `committed_lasts`, that what is committed is
-//!   what lasts; `restoring`, what is built anew of a log; `reads_leave_nothing`, that branches which only read absent
+//!   what lasts; `restoring`, what is rebuilt from a log; `reads_leave_nothing`, that branches which only read absent
 //!   keys leave nothing
 #![tactic(auto)]
 

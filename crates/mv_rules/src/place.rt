@@ -1,4 +1,4 @@
-//! Where the values of writes stand in a record's body. Each write is its key's length in a byte, the key, a byte, and where
+//! Where the values of writes stand in a record's body. Each write is its key's length in a byte, the key, a byte, and if
 //! there is a value, its length in two bytes and the value (docs/LOG.md, "The bodies").
 ghost use Rattle.std.specs.Prelude.{◌≡◌, IfOk};
 
@@ -7,7 +7,7 @@ use std::alloc::{AllocError, Global};
 use xa_codes::Write;
 use xa_shared::SharedBytes;
 
-/// A place in a body, from which on writes stand there. A wrong one costs memory and no more: bytes are compared.
+/// A place in a body, from which writes stand there. A wrong one only costs memory: bytes are compared.
 #[derive(Drop)]
 pub(crate) struct Place<'a> {
     body: Option<&'a SharedBytes>,
@@ -39,7 +39,7 @@ impl<'a> Place<'a> {
         Place { body, at }
     }
 
-    /// The value of the next write. It is left in the body, if it stands there, and else copied.
+    /// The value of the next write. It is left in the body if it stands there, and copied otherwise.
     pub(crate) fn left(&mut self, alloc: Global, write: &Write) -> Result<ValueBytes, AllocError>
         ensures { IfOk result (λ v. v ≡ write.now.value) }
     {

@@ -12,12 +12,12 @@ use std::alloc::AllocError;
 use xa_codes::Write;
 use xa_shared::SharedBytes;
 
-/// The room that the copy of a key has beside it. It takes memory of another size by this than the keys of the records
-/// that are let go meanwhile: in the places of those it would stand strewn among what their values leave, where no body of
+/// The spare room after the copy of a key. It makes the copy's block larger than those of the keys of the records
+/// that are freed meanwhile: in their places it would be scattered among what their values leave, where no body of
 /// a later record would fit.
 const SPARE: usize = 16;
 
-/// How records are built anew of what lasted.
+/// How records are rebuilt from what lasted.
 impl Records {
     ghost use Rattle.mv_rules.specs.Calls.{IfStood, IfUnindexed, IfUnsettled};
     ghost use Rattle.mv_rules.specs.Noted.{Begins, Puts, PutsAll, Restores};
@@ -75,7 +75,7 @@ impl Records {
         )
     }
 
-    /// Adds a branch's writes, undecided. They are let go by the caller, so that what takes memory here isn't strewn
+    /// Adds a branch's writes, undecided. The caller frees them, so that what is allocated here isn't scattered
     /// among what they leave.
     fn put_all(
         &mut self,
@@ -98,8 +98,8 @@ impl Records {
         Ok(())
     }
 
-    /// Makes the chains of the keys that a branch has written, where there are none. It begins with the last one: where a
-    /// branch wrote its keys in ascending order, and later branches greater ones, they fill the nodes of the index, of which
+    /// Makes the chains of the keys that a branch has written, if there are none. It begins with the last one: if a
+    /// branch wrote its keys in ascending order, and later branches greater ones, they fill the nodes of the index, which
     /// keys that only ascend leave half empty.
     fn make_all(&mut self, writes: &[Write]) -> Result<(), AllocError>
         ensures stands { OnOk result (IfStood self.old (λ h. StandsFor h self.new)) }
@@ -113,12 +113,12 @@ impl Records {
         Ok(())
     }
 
-    /// Adds the writes of a branch that lasted, as the log was read, and decides its fate where that is known:
+    /// Adds the writes of a branch that lasted, as the log was read, and decides its fate if that is known:
     /// `None` leaves it undecided. Values that stand in the record's body, of which
     /// the writes are the end, are left there, and others copied. Nobody may have read, and each branch is added once.
     ///
     /// # Errors
-    /// Want of memory. Some of the writes are then missing, and the records stand for nothing: drop them.
+    /// Out of memory. Some of the writes are then missing, and the records stand for nothing: drop them.
     pub fn restore(
         &mut self,
         ts: u64,

@@ -60,7 +60,7 @@ impl Records {
         }
     }
 
-    /// No key was written or read. There is room for the chains of so many keys, and for so many versions.
+    /// No key was written or read. There is room for the chains of `keys` keys, and for `versions` versions.
     ///
     /// # Errors
     /// Out of memory.
@@ -93,7 +93,7 @@ impl Records {
         }
     }
 
-    /// Makes the chain of a key that has none. The copy of the key has room for so many bytes more.
+    /// Makes the chain of a key that has none. The copy of the key has room for `spare` more bytes.
     pub(crate) fn make(&mut self, key: &[u8], spare: usize) -> Result<usize, AllocError>
         ensures index { IfOk result (λ i. index_of key.now self.new ≡ Some i) }
         ensures there { IfOk result (λ i. IsSome (chain_in self.new.chains i)) }
@@ -157,7 +157,7 @@ impl Records {
         read(self.alloc, &mut self.pool, chain, &mut self.notes, ts, key)
     }
 
-    /// What a branch of timestamp `ts` reads at the key. An answered read is noted; Busy and want of memory
+    /// What a branch of timestamp `ts` reads at the key. An answered read is noted; Busy and Memory
     /// change nothing.
     pub fn get(&mut self, ts: u64, key: &[u8]) -> Got
         ensures answer { IfStood self.old (λ h. h.low ≤ ts → AnswersGet result ts key.now h) }
@@ -228,7 +228,7 @@ impl Records {
         }
     }
 
-    /// As `put`.
+    /// Like `put`.
     fn put_value(&mut self, ts: u64, key: &[u8], value: ValueBytes) -> Put
         ensures answer { IfUnsettled ts self.old (AnswersPut result ts key.now) }
         ensures stands { IfUnsettled ts self.old
@@ -254,7 +254,7 @@ impl Records {
     }
 
     /// Adds a branch's write, or replaces its own: `None` deletes the key. A branch writes at most `MOST_WRITES` keys.
-    /// Limit, Late and want of memory change nothing.
+    /// Limit, Late and Memory change nothing.
     pub fn put(&mut self, ts: u64, key: &[u8], value: Option<Vec<u8>>) -> Put
         ensures answer { IfUnsettled ts self.old (AnswersPut result ts key.now) }
         ensures stands { IfUnsettled ts self.old
@@ -318,7 +318,7 @@ impl Records {
         }
     }
 
-    /// No branch below `low` reads or writes any more, except one that is undecided, which sees its own writes: drops
+    /// No branch below `low` still reads or writes, except one that is undecided, which sees its own writes: drops
     /// what is no longer read. It costs what it drops, and takes no memory.
     pub fn low_water(&mut self, low: u64)
         ensures stands { IfStood self.old (λ h. AreWhole h.writes
@@ -346,7 +346,7 @@ impl Records {
     /// the low water.
     ///
     /// # Errors
-    /// Want of memory.
+    /// Out of memory.
     pub fn writes_of(&self, ts: u64) -> Result<Vec<Write>, AllocError>
         ensures writes { IfOk result (λ v. IfStood self.now (λ h. IsUndecided ts h.writes
             → IsWritesOf ts h.writes v.items)) }
@@ -365,7 +365,7 @@ impl Records {
     }
 }
 
-/// A copy of a key, with room for so many bytes more.
+/// A copy of a key, with room for `spare` more bytes.
 fn key_copied(alloc: Global, key: &[u8], spare: usize) -> Result<Vec<u8>, AllocError>
     ensures { IfOk result (λ v. v.items ≡ key.now) }
 {

@@ -5,7 +5,7 @@ use crate::answers::Put;
 use mv_chain::Look;
 use xa_limits::MOST_WRITES;
 
-/// What a put is to do.
+/// What a put has to do.
 #[derive(Clone, Copy, Debug, PartialEq, Eq)]
 pub(crate) enum Verdict {
     /// Nothing: it is refused.
@@ -16,7 +16,7 @@ pub(crate) enum Verdict {
     First,
 }
 
-/// What a put of a branch that has written so many keys is to do, where the look at its timestamp found this.
+/// What a put has to do, if its branch has written `count` keys and the look at its timestamp found `look`.
 pub(crate) fn judge(look: &Look, count: usize) -> Verdict
     ensures { result ≡ verdict_of (look.now.from == look.now.at) count look.now.late }
 {

@@ -69,7 +69,7 @@ pub record Comes (m : Sessions) (n : ℕ) (m' : Sessions) : Type 0 where
   pub connected : opened_at m n ≡ None → connected_in m' ≡ connected_in m + 1
   pub free : (k : ℕ) → k < MOST_SESSIONS → is_free m'.free k ≡ cond (n == k + 1) false (is_free m.free k)
 
--- a session is connected no more
+-- a session is no longer connected
 pub record Goes (m : Sessions) (n : ℕ) (m' : Sessions) : Type 0 where
   pub opened : (k : ℕ) → opened_at m' k ≡ cond (n == k) None (opened_at m k)
   pub active : (k : ℕ) → active_at m' k ≡ cond (n == k) None (active_at m k)

@@ -1,4 +1,4 @@
--- What contracts say of refusals beside their values.
+-- What contracts say of refusals besides their values.
 use Rattle.std.specs.Prelude.{Bool, true, false}
 use Rattle.xa_codes.specs.declared.detail.Detail.{Detail}
 use Rattle.xa_codes.specs.declared.detail.Detail.TheVariants.{Memory}

@@ -40,7 +40,7 @@ suspends_at m n xid = owns_at m n xid && not (is_with xid (active_at m n))
 abbrev pub scan_at : Sessions → ℕ → Option (Option Triple)
 scan_at m n = option_and_then (λ x. x.scan) (seat_at m n)
 
--- the time limit, in seconds, of the branches that the session begins; 0 for none, and where it isn't connected
+-- the time limit, in seconds, of the branches that the session begins; 0 for none, and if it isn't connected
 abbrev pub limit_in : Option Seat → ℕ
 limit_in None = 0
 limit_in (Some x) = x.limit

@@ -30,7 +30,7 @@ pub record SessionsStandFor (m : Sessions) (s : State) : Type 0 where
 abbrev pub Follows : Sessions → (State → State) → Sessions → Type 0
 Follows m act m' = (s : State) → IsSound s → SessionsStandFor m s → SessionsStandFor m' (act s)
 
--- where this holds of the state
+-- if this holds of the state
 abbrev pub FollowsIf : Sessions → (State → Type 0) → (State → State) → Sessions → Type 0
 FollowsIf m P act m' = (s : State) → IsSound s → P s → SessionsStandFor m s → SessionsStandFor m' (act s)
 
@@ -54,7 +54,7 @@ Stays m m' = InEach m (λ s. SessionsStandFor m' s)
 abbrev pub Replies : Sessions → (State → Answer) → Reply → Type 0
 Replies m row reply = InEach m (λ s. (row s).reply ≡ reply)
 
--- with this reply alone: nothing changes
+-- with only this reply: nothing changes
 abbrev pub Refuses : Sessions → (State → Answer) → Reply → Type 0
 Refuses m row reply = InEach m (λ s. row s ≡ answer reply s)
 

@@ -40,7 +40,7 @@ impl Sessions {
         Ok(index + 1)
     }
 
-    /// Takes the session's seat away, if it is connected, and gives it back: its associations are no more.
+    /// Takes the session's seat away, if it is connected, and gives it back: its associations are gone.
     pub fn hangup(&mut self, session: u64) -> Option<Seat>
         ensures seat { result ≡ seat_at self.old session }
         ensures after { Follows self.old (λ s. (hang_up_by s session).after) self.new }

@@ -6,7 +6,7 @@ pub enum ConnectFault {
     /// There was no memory. The session isn't connected.
     #[error("no memory")]
     Memory = 1,
-    /// As many sessions are connected as may be.
+    /// `MOST_SESSIONS` sessions are connected.
     #[error("1,024 sessions connected")]
     Full = 2,
 }

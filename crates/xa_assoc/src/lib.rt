@@ -1,6 +1,6 @@
 //! The session's part of the association table (X/Open C193): which sessions are connected and opened, the branches
 //! that they are associated with, and where their recovery scans stand. What is known of the branches is `xa_branch`'s;
-//! where both are asked, its facts are handed in.
+//! if both are asked, its facts are handed in.
 //!
 //! - `sessions`: `Sessions`, the table, and what is asked of it; `seat`: `Seat`, what it keeps of one session
 //! - `refusing`: how a start and an end are refused, by the table and the facts of the branch

@@ -8,7 +8,7 @@ use xa_codes::{Detail, XAER_DUPID, XAER_NOTA, XAER_PROTO, XAER_RMERR};
 use xa_frame::Reply;
 use xa_limits::{MOST_BRANCHES, MOST_GIVEN, MOST_LOOSE, MOST_SESSIONS};
 
-/// Of a connect, where so many sessions are connected.
+/// The refusal of a connect, if `connected` sessions are connected.
 pub fn connect_refusal(connected: usize) -> Option<Reply>
     ensures value { result ≡ connect_refusal connected }
 {
@@ -18,7 +18,7 @@ pub fn connect_refusal(connected: usize) -> Option<Reply>
     Some(Reply::detailed(XAER_RMERR, Detail::Limit))
 }
 
-/// Of a close, where the session has an association or none.
+/// The refusal of a close, by whether the session has an association.
 pub fn close_refusal(holds: bool) -> Option<Reply>
     ensures value { result ≡ close_refusal holds }
 {
@@ -28,7 +28,7 @@ pub fn close_refusal(holds: bool) -> Option<Reply>
     None
 }
 
-/// Of the start of a new branch, where so many branches are known and so many timestamps are given.
+/// The refusal of the start of a new branch, if `known` branches are known and `given` timestamps are given.
 pub fn start_refusal(is_at_work: bool, is_taken: bool, known: usize, given: u64) -> Option<Reply>
     ensures value { result ≡ start_refusal is_at_work is_taken known given }
 {
@@ -44,7 +44,7 @@ pub fn start_refusal(is_at_work: bool, is_taken: bool, known: usize, given: u64)
     None
 }
 
-/// Of a start with TMJOIN. A branch is lasting once it is prepared or completed.
+/// The refusal of a start with TMJOIN. A branch is lasting once it is prepared or completed.
 pub fn join_refusal(
     is_at_work: bool,
     has_suspended: bool,
@@ -68,7 +68,7 @@ pub fn join_refusal(
     None
 }
 
-/// Of a start with TMRESUME.
+/// The refusal of a start with TMRESUME.
 pub fn resume_refusal(
     is_at_work: bool,
     unknown: bool,
@@ -92,7 +92,7 @@ pub fn resume_refusal(
     None
 }
 
-/// Of an end. The session holds what is to end, or to be suspended, or it doesn't.
+/// The refusal of an end. The session holds what has to end, or to be suspended, or it doesn't.
 pub fn end_refusal(unknown: bool, holds: bool) -> Option<Reply>
     ensures value { (known : Known) → is_unknown known ≡ unknown → result ≡ end_refusal known holds }
     ensures served { IfSome result (λ r. is_memory r.detail ≡ false) }
@@ -107,7 +107,7 @@ pub fn end_refusal(unknown: bool, holds: bool) -> Option<Reply>
     None
 }
 
-/// Of an end with TMSUSPEND of a branch with so many loose associations: one more is nobody's with TMMIGRATE.
+/// The refusal of an end with TMSUSPEND of a branch with `loose` loose associations: with TMMIGRATE there is one more.
 pub fn loose_refusal(migrates: bool, loose: u64) -> Option<Reply>
     ensures value { result ≡ loose_refusal migrates loose }
 {

@@ -13,7 +13,7 @@ use xa_xid::Xid;
 /// How a start and an end are refused, from what the sessions' table knows and the facts of the branch that are handed
 /// in.
 impl Sessions {
-    /// Of the start of a new branch. The XID is taken, or so many branches are known and so many timestamps given.
+    /// The refusal of the start of a new branch. The XID is taken, or `known` branches are known and `given` timestamps given.
     pub fn begin_refusal(
         &self,
         session: u64,
@@ -29,7 +29,7 @@ impl Sessions {
         start_refusal(self.current(session).is_some(), taken, known, given)
     }
 
-    /// Of a start with TMJOIN. The XID is unknown, or its branch is prepared or completed.
+    /// The refusal of a start with TMJOIN. The XID is unknown, or its branch is prepared or completed.
     pub fn join_refusal(
         &self,
         session: u64,
@@ -51,7 +51,7 @@ impl Sessions {
         )
     }
 
-    /// Of a start with TMRESUME. The XID is unknown, or its branch has a loose association.
+    /// The refusal of a start with TMRESUME. The XID is unknown, or its branch has a loose association.
     pub fn resume_refusal(
         &self,
         session: u64,
@@ -73,7 +73,7 @@ impl Sessions {
         )
     }
 
-    /// Of an end with TMSUSPEND: the session has to be at work for the branch.
+    /// The refusal of an end with TMSUSPEND: the session has to be at work for the branch.
     pub fn suspend_refusal(&self, session: u64, xid: &Xid, unknown: bool) -> Option<Reply>
         ensures value { InEach self.now (λ s. TellsUnknown s xid.now unknown
             → result ≡ suspend_refusal_of s session xid.now) }
@@ -83,7 +83,7 @@ impl Sessions {
         end_refusal(unknown, self.works_in(session, xid))
     }
 
-    /// Of an end with TMSUCCESS or TMFAIL: of an association of the session's own, or of a loose one.
+    /// The refusal of an end with TMSUCCESS or TMFAIL: of an association of the session's own, or of a loose one.
     pub fn leave_refusal(
         &self,
         session: u64,

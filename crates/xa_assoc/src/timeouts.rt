@@ -6,7 +6,7 @@ ghost use Rattle.xa_assoc.specs.{Company.company_of, Seats.opened_at, Seats.limi
 use crate::sessions::Sessions;
 use xa_codes::{Code, XAER_PROTO};
 
-/// The time limits of sessions: how long a branch may be at work that the session begins. Nothing here takes memory.
+/// The time limits of sessions: how long a branch that the session begins may be at work. Nothing here takes memory.
 impl Sessions {
     /// From now on the branches that the session begins have this limit, in seconds; 0 is none. The limit outlasts a
     /// close and a restart, and ends with the connection. A session that isn't connected is refused with XAER_PROTO.

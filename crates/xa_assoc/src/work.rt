@@ -8,7 +8,7 @@ use std::alloc::AllocError;
 use xa_xid::Xid;
 
 /// How a connected session comes to work for branches, and leaves them, once nothing is refused. For a marked branch
-/// the caller answers the mark: nothing is joined, and what was to be resumed or suspended is left.
+/// the caller answers the mark: nothing is joined, and what should have been resumed or suspended is left.
 impl Sessions {
     /// Start of a new branch.
     pub fn begin(&mut self, session: u64, xid: Xid) -> Result<(), AllocError>
@@ -31,7 +31,7 @@ impl Sessions {
         self.sit_down(session, xid)
     }
 
-    /// Start with TMRESUME: of the session's own suspended association, or of a loose one. Only that may want memory.
+    /// Start with TMRESUME: of the session's own suspended association, or of a loose one. Only the latter may need memory.
     pub fn resume(&mut self, session: u64, xid: Xid) -> Result<(), AllocError>
         requires { IsSome (opened_at self.old session) }
         ensures ok { OnOk result (FollowsIf self.old (CanResume session xid)
@@ -43,7 +43,7 @@ impl Sessions {
         self.sit_down(session, xid)
     }
 
-    /// End with TMSUSPEND, and with TMMIGRATE, by which the association is nobody's.
+    /// End with TMSUSPEND, and with TMMIGRATE, by which the association becomes loose.
     #[tactic(auto, using(crate::proofs::Companies::room_company))]
     pub fn suspend(&mut self, session: u64, xid: &Xid, migrates: bool)
         requires { IsSome (opened_at self.old session) }
@@ -58,8 +58,8 @@ impl Sessions {
         }
     }
 
-    /// The session's own association with the XID ends, if it has one: in an end with TMSUCCESS or TMFAIL, and where a
-    /// marked branch was to be suspended or resumed.
+    /// The session's own association with the XID ends, if it has one: in an end with TMSUCCESS or TMFAIL, and if a
+    /// marked branch should have been suspended or resumed.
     #[tactic(auto, using(crate::proofs::Companies::room_company))]
     pub fn leave(&mut self, session: u64, xid: &Xid)
         requires { IsSome (opened_at self.old session) }

@@ -27,7 +27,7 @@ moment_of m = m.moment
 abbrev pub working_at : Branches → Triple → Option Kept
 working_at m xid = get xid_cmp m.working xid
 
--- what is kept of the prepared or completed branch with this XID: of one at work nothing, though it may have its room there
+-- what is kept of the prepared or completed branch with this XID: for one at work nothing, though it may have its room there
 abbrev pub unless_working : Option Kept → Option Lasting → Option Lasting
 unless_working None lasting = lasting
 unless_working (Some w) lasting = None
@@ -72,7 +72,7 @@ working_in held xid b = working_by held xid b.timestamp b.phase
 abbrev pub working_known : State → Triple → Option Kept
 working_known s xid = option_and_then (working_in s.associations xid) (known_of s.branches xid)
 
--- what lasts of a branch: of one at work nothing
+-- what lasts of a branch: for one at work nothing
 abbrev pub lasting_by : ℕ → Phase → Option Lasting
 lasting_by timestamp (Working x work) = None
 lasting_by timestamp (Prepared x) = Some (lasting.Prepared timestamp)

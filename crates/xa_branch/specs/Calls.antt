@@ -9,7 +9,7 @@ use Rattle.xa_model.specs.Phases.{is_associated}
 use Rattle.xa_branch.specs.declared.fault.BeginFault.{BeginFault}
 use Rattle.xa_branch.specs.declared.fault.BeginFault.TheVariants.{Duplicate, Full, Spent, Memory}
 
--- what the begin of a branch is refused for, where there is memory: its XID is known, or as many branches are known as
+-- what the begin of a branch is refused for, if there is memory: its XID is known, or as many branches are known as
 -- may be, or this boot gives no more timestamps
 abbrev pub begin_fault : Bool → ℕ → ℕ → Option BeginFault
 begin_fault is_taken known given =
@@ -29,7 +29,7 @@ fault_of (Err Full) = Some Full
 fault_of (Err Spent) = Some Spent
 fault_of (Err Memory) = None
 
--- why a branch can't be prepared: the code that answers
+-- why a branch can't be prepared: the code that is returned
 abbrev pub readiness : Fact → Bool → Option ℤ
 readiness Unknown is_associated = Some XAER_NOTA
 readiness (AtWork mark) true = Some XAER_PROTO

@@ -13,14 +13,14 @@ use Rattle.xa_branch.specs.declared.working.Working.{Working as Kept}
 use Rattle.xa_branch.specs.Due.{GainsDue, due_of, work_of}
 use Rattle.xa_branch.specs.Kinds.{own_kind}
 
--- what is at one XID is another, and nothing else is
+-- what is at one XID changes, and nothing else does
 pub record Sets
     {V : Type 0} (m : BTreeMap Triple V) (xid : Triple) (o : Option V) (m' : BTreeMap Triple V)
     : Type 0 where
   pub at : (q : Triple) → get xid_cmp m' q ≡ cond (is_eq (xid_cmp xid q)) o (get xid_cmp m q)
   pub number : btree_map_len m' + cond (is_some (get xid_cmp m xid)) 1 0 ≡ btree_map_len m + cond (is_some o) 1 0
 
--- a timestamp is among these from now on, or no more, and no other changes
+-- a timestamp is among these from now on, or no longer, and no other changes
 abbrev pub SetsTime : BTreeSet ℕ → ℕ → Bool → BTreeSet ℕ → Type 0
 SetsTime ts t b ts' = (u : ℕ) → contains nat_cmp ts' u ≡ cond (t == u) b (contains nat_cmp ts u)
 
@@ -40,7 +40,7 @@ new_kept timestamp start limit = record {
 abbrev pub marked : ℤ → Kept → Kept
 marked code w = record w { mark = or_mark w.mark code }
 
--- one association more, or less
+-- one more association, or one fewer
 abbrev pub one_more : ℕ → ℕ
 one_more n = min (n + 1) (2 ^ 64 - 1)
 
@@ -54,7 +54,7 @@ less_one kind.Active w = record w { active = w.active - 1 }
 less_one kind.Suspended w = record w { suspended = w.suspended - 1 }
 less_one kind.Loose w = record w { loose = w.loose - 1 }
 
--- a branch that a session leaves behind where it hangs up: its association of this kind ends, and the branch is marked
+-- a branch that a session leaves behind when it hangs up: its association of this kind ends, and the branch is marked
 abbrev pub left_behind : Kind → Kept → Kept
 left_behind k w = marked XA_RBCOMMFAIL (less_one k w)
 

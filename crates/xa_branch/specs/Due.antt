@@ -49,7 +49,7 @@ due_cmp x y = ordering_then (nat_cmp x.0 y.0) (xid_cmp x.1 y.1)
 abbrev pub due_among : BTreeSet (ℕ × Triple) → ℕ → Triple → Bool
 due_among due t xid = contains due_cmp due (t, xid)
 
--- an XID at the moment, if there is one, is among these from now on, or no more, and no other changes
+-- an XID at the moment, if there is one, is among these from now on, or no longer, and no other changes
 
 abbrev pub GainsDue : BTreeSet (ℕ × Triple) → Triple → Option ℕ → BTreeSet (ℕ × Triple) → Type 0
 GainsDue due xid o due' =
@@ -59,13 +59,13 @@ abbrev pub LosesDue : BTreeSet (ℕ × Triple) → Triple → Option ℕ → BTr
 LosesDue due xid o due' =
     (t : ℕ) (q : Triple) → due_among due' t q ≡ (due_among due t q && not (is_then o t && xid_eq xid q))
 
--- each of these XIDs is no more at the moment that follows from what is kept of it
+-- each of these XIDs is no longer at the moment that follows from what is kept of it
 abbrev pub LosesAllDue : BTreeMap Triple Kept → BTreeSet (ℕ × Triple) → BTreeSet Triple → BTreeSet (ℕ × Triple) → Type 0
 LosesAllDue m due own due' =
     (t : ℕ) (q : Triple)
     → due_among due' t q ≡ (due_among due t q && not (contains xid_cmp own q && is_then (due_kept (get xid_cmp m q)) t))
 
--- an XID whose moment has come is among these, and no more then
+-- an XID whose moment has come is among these, and no longer then
 pub record PopsDue (moment : ℕ) (due : BTreeSet (ℕ × Triple)) (xid : Triple) (due' : BTreeSet (ℕ × Triple)) : Type 0 where
   pub at : ℕ
   pub come : at ≤ moment

@@ -28,7 +28,7 @@ InSoundOf m P = (s : State) (n : ℕ) → IsSound s → BranchesStandFor m s →
 abbrev pub Follows : Branches → (State → State) → Branches → Type 0
 Follows m act m' = InSound m (λ s. BranchesStandFor m' (act s))
 
--- also of one that isn't sound
+-- also from one that isn't sound
 abbrev pub FollowsAlways : Branches → (State → State) → Branches → Type 0
 FollowsAlways m act m' = InEach m (λ s. BranchesStandFor m' (act s))
 

@@ -21,8 +21,8 @@ restored_by None d = option_map (λ e. lasting.Completed e.direction) d
 abbrev pub restored_at : List PreparedBranch → List Decided → Triple → Option Lasting
 restored_at ps ds xid = restored_by (find (λ p. xid_eq p.xid xid) ps) (find (λ d. xid_eq d.xid xid) ds)
 
--- In the boot of this number, which gave no timestamp yet, and at this moment these prepared branches and these XIDs that
--- the operator completed are known, and no branch is at work.
+-- In the boot of this number, which has given no timestamp yet, and at this moment these prepared branches and these XIDs
+-- that the operator completed are known, and no branch is at work.
 pub record HasRestored (m : Branches) (n now : ℕ) (ps : List PreparedBranch) (ds : List Decided) : Type 0 where
   pub boot : m.boot ≡ n
   pub given : m.given ≡ 0
@@ -49,7 +49,7 @@ RestoresCompleted m xid direction m' =
     → d.xid ≡ xid → d.direction ≡ direction → is_prepared xid ps ≡ false → is_decided xid ds ≡ false
     → HasRestored m boot moment ps ds → HasRestored m' boot moment ps (ds ++ d ∷ [])
 
--- where all that lasted is restored, the branches stand for each state at the same moment that it leads to
+-- once all that lasted is restored, the branches stand for each state at the same moment that it leads to
 abbrev pub RestoredStand : Type 0
 RestoredStand =
     (m : Branches) (d : Durable) (next : ℕ) (s : State)

@@ -31,7 +31,7 @@ HasRoom xid m s = HaveRooms (xid ∷ []) m s
 
 -- Rooms of several, of distinct XIDs, in the order in which they were made
 
--- another XID than these
+-- an XID other than these
 abbrev pub IsApart : Triple → List Triple → Type 0
 IsApart xid xids = AllByRecursion (λ q. xid_eq xid q ≡ false) xids
 
@@ -44,7 +44,7 @@ MakesRoom m xid m' =
 abbrev pub KeepsRooms : Branches → Branches → Type 0
 KeepsRooms m m' = (xids : List Triple) (s : State) → HaveRooms xids m s → HaveRooms xids m' s
 
--- one of them uses its room, wherever it stands among them, and the others have theirs still
+-- one of them uses its room, wherever it stands among them, and the others still have theirs
 abbrev pub UsesRoom : Branches → Triple → Branches → Type 0
 UsesRoom m xid m' =
     (before after : List Triple) (s : State) → IsApart xid (before ++ after) → IsSound s

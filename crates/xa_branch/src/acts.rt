@@ -44,7 +44,7 @@ impl Branches {
         }
     }
 
-    /// Why a branch can't begin, but for want of memory.
+    /// Why a branch can't begin, apart from lack of memory.
     fn begin_fault(&self, xid: &Xid) -> Option<BeginFault>
         ensures state { InEach self.now (λ s. result ≡ begin_fault_of s xid.now) }
         ensures lasting { IfNone result (lasting_at self.now xid.now ≡ None) }
@@ -87,7 +87,7 @@ impl Branches {
         }
     }
 
-    /// Marks a branch at work, unless it is marked: then it can only be rolled back. Of another XID nothing changes.
+    /// Marks a branch at work, unless it is marked: then it is rollback-only. For any other XID nothing changes.
     pub fn mark(&mut self, xid: &Xid, code: Code)
         ensures marks { FollowsAlways self.old (λ s. marked_with code s xid.now) self.new }
         ensures rooms { rooms_of self.new ≡ rooms_of self.old }

@@ -15,7 +15,7 @@ use crate::kind::Kind;
 use std::collections::BTreeSet;
 use xa_xid::Xid;
 
-/// How the associations of branches change. Of an XID that isn't known nothing changes.
+/// How the associations of branches change. For an unknown XID nothing changes.
 impl Branches {
     /// A session joins the branch: one more active association.
     pub fn join(&mut self, xid: &Xid)
@@ -43,7 +43,7 @@ impl Branches {
         }
     }
 
-    /// A session suspends its work for the branch: an active association is suspended, or becomes loose where it
+    /// A session suspends its work for the branch: an active association is suspended, or becomes loose if it
     /// migrates.
     pub fn suspend(&mut self, xid: &Xid, migrates: bool)
         ensures suspends { InSoundOf self.old (λ s n. list_any (works_in n xid.now) s.associations ≡ true
@@ -64,7 +64,7 @@ impl Branches {
         }
     }
 
-    /// An association of this kind ends: by an end of the session's work, or where the branch is marked and the session
+    /// An association of this kind ends: by an end of the session's work, or if the branch is marked and the session
     /// would resume or suspend its work.
     pub fn leave(&mut self, xid: &Xid, kind: Kind)
         ensures ended { InSoundOf self.old (λ s n. ended_kind s.associations n xid.now ≡ Some kind

@@ -12,15 +12,15 @@ use std::collections::{BTreeMap, BTreeSet};
 use xa_codes::{Code, Direction, XAER_NOTA, XAER_PROTO};
 use xa_xid::Xid;
 
-/// The known branches, by their XIDs, how many timestamps this boot gave, and the last moment that was told. What lasts over a restart stands by
-/// itself: the prepared branches, and the XIDs whose branches the operator completed, with how many there are of each.
-/// The timestamps of the branches at work and of the prepared ones stand in order, for the least of them; so do the
+/// The known branches, by their XIDs, how many timestamps this boot gave, and the last moment that was told. What survives a
+/// restart is kept apart: the prepared branches, and the XIDs whose branches the operator completed, with how many there are of
+/// each. The timestamps of the branches at work and of the prepared ones stand in order, for the least of them; so do the
 /// branches at work that will run out of time, by the moment at which they do.
 ///
 /// What a call promises holds for every state of the sequential resource manager that the branches stood for. Each call
 /// takes time that grows with the logarithm of the number of branches, `hang_up` that for each branch that the session
 /// leaves behind, `tick` that for each branch that runs out of time, and `list_after` and `known_after` also time for
-/// each XID that they list. Only calls that can fail for want of memory take it.
+/// each XID that they list. Only calls that can fail for lack of memory take it.
 #[derive(Debug, Drop)]
 pub struct Branches {
     pub(crate) boot: u32,
@@ -39,8 +39,8 @@ impl Branches {
     ghost use Rattle.xa_branch.specs.{Calls.readiness_of, Facts.fact_of, Follows.InEach, Follows.InSound, Restored.HasRestored};
     ghost use Rattle.xa_branch.specs.{State.state_of};
 
-    /// No branch is known in this boot, and `next` is the number of the boot's next timestamp: 1 where it gave none,
-    /// else one more than how many it gave. 0 counts as 1. `moment` is the last moment that was told, in seconds. Takes
+    /// No branch is known in this boot, and `next` is the number of the boot's next timestamp: 1 if it gave none,
+    /// otherwise one more than how many it gave. 0 counts as 1. `moment` is the last moment that was told, in seconds. Takes
     /// no memory.
     pub fn new(alloc: Global, boot: u32, next: u64, moment: u64) -> Branches
         ensures fresh { (s : ModelState) → s.boot ≡ boot → s.given + 1 ≡ next → s.moment ≡ moment → known_in s ≡ 0
@@ -69,7 +69,7 @@ impl Branches {
         self.working.len().saturating_add(lasting)
     }
 
-    /// Whether a branch at work may have its room: where as many are kept as last, none has.
+    /// Whether a branch at work may have its room: if no more are kept than last, none has.
     pub(crate) fn has_rooms(&self) -> bool
         ensures { result ≡ false → btree_map_len self.now.lasting ≤ self.now.prepared + self.now.completed }
     {
@@ -83,7 +83,7 @@ impl Branches {
         self.prepared
     }
 
-    /// How many branches the operator completed, and are not forgotten.
+    /// How many branches the operator completed that are not forgotten.
     pub fn completed(&self) -> usize
         ensures { InEach self.now (λ s. result ≡ length s.decided) }
     {
@@ -186,8 +186,8 @@ impl Branches {
         }
     }
 
-    /// Whether the branch may be prepared, or else the code that answers: XAER_NOTA where it isn't known, XAER_PROTO
-    /// where it is associated, prepared or completed, or its mark.
+    /// Whether the branch may be prepared, or else the code to answer with: XAER_NOTA if it isn't known, XAER_PROTO
+    /// if it is associated, prepared or completed, or its mark.
     pub fn ready_to_prepare(&self, xid: &Xid) -> Result<(), Code>
         ensures { InEach self.now (λ s.
             MatchResult result (λ _. readiness_of s xid.now ≡ None) (λ code. readiness_of s xid.now ≡ Some code)) }

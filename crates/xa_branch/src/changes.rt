@@ -10,7 +10,7 @@ use std::collections::{BTreeMap, BTreeSet};
 use xa_codes::{Code, XA_RBCOMMFAIL};
 use xa_xid::Xid;
 
-/// Adds what is kept of a branch, or puts it in the place of what was kept at its XID.
+/// Adds what is kept of a branch, or replaces what was kept at its XID.
 pub fn add<V: Drop>(kept: &mut BTreeMap<Xid, V>, xid: Xid, new: V) -> Result<(), AllocError>
     ensures ok { OnOk result (Sets kept.old xid (Some new) kept.new) }
     ensures err { OnErr result (kept.new.entries ≡ kept.old.entries) }
@@ -19,7 +19,7 @@ pub fn add<V: Drop>(kept: &mut BTreeMap<Xid, V>, xid: Xid, new: V) -> Result<(),
     Ok(())
 }
 
-/// Puts another in the place of what is kept of a branch.
+/// Replaces what is kept of a branch.
 pub fn set<V: Drop>(kept: &mut BTreeMap<Xid, V>, xid: &Xid, new: V)
     ensures { Sets kept.old xid.now (option_map (λ _. new) (get xid_cmp kept.old xid.now)) kept.new }
 {

@@ -10,7 +10,7 @@ use std::collections::BTreeMap;
 use xa_codes::Direction;
 use xa_xid::Xid;
 
-/// What a checkpoint writes of branches, each of which goes over what lasts once; and the boot that it begins.
+/// What a checkpoint writes of branches, each of which visits what lasts once; and the boot that it begins.
 impl Branches {
     /// The number of this boot.
     pub fn boot(&self) -> u32
@@ -31,7 +31,7 @@ impl Branches {
     /// The timestamps of the branches in doubt, by XID.
     ///
     /// # Errors
-    /// Want of memory, or a branch has its room.
+    /// Out of memory, or a branch has its room.
     pub fn in_doubt(&self, alloc: Global) -> Result<BTreeMap<Xid, u64>, AllocError>
         ensures { InSound self.now (λ s. IfOk result (TimesOf (durable s).prepared)) }
     {
@@ -50,7 +50,7 @@ impl Branches {
     /// What the operator completed and isn't forgotten, by XID.
     ///
     /// # Errors
-    /// Want of memory, or a branch has its room.
+    /// Out of memory, or a branch has its room.
     pub fn decided(&self, alloc: Global) -> Result<BTreeMap<Xid, Direction>, AllocError>
         ensures { InSound self.now (λ s. IfOk result (λ m. m.entries ≡ map decided_as (durable s).decided)) }
     {

@@ -19,7 +19,7 @@ impl Branches {
     /// Makes room for what will be kept of a branch at work once it is prepared, so that `prepare` takes no memory and
     /// can't fail. Several may have their rooms at once, of distinct XIDs (`HaveRooms`), and sessions work on meanwhile:
     /// no call but those of this file changes `rooms_of`. For each, either `prepare` or `give_back` has to follow. Whether
-    /// the branch may be prepared is to be asked before (`unprepared_refusal`, and its mark; `ready_to_prepare` tells
+    /// the branch may be prepared has to be asked before (`unprepared_refusal`, and its mark; `ready_to_prepare` tells
     /// both).
     ///
     /// # Errors
@@ -69,7 +69,7 @@ impl Branches {
         }
     }
 
-    /// The operator completes a prepared branch. Of another XID nothing changes.
+    /// The operator completes a prepared branch. For any other XID nothing changes.
     pub fn decide(&mut self, xid: &Xid, direction: Direction)
         ensures decided { InSound self.old (λ s. known_as s xid.now ≡ InDoubt
             → BranchesStandFor self.new (decided_by s direction xid.now)) }
@@ -87,7 +87,7 @@ impl Branches {
         }
     }
 
-    /// A branch at work or a prepared one is committed or rolled back, and known no more. Of another XID nothing
+    /// A branch at work or a prepared one is committed or rolled back, and no longer known. For any other XID nothing
     /// changes.
     pub fn finish(&mut self, xid: &Xid)
         ensures rolled_back { Follows self.old (λ s. rolled_back s xid.now) self.new }
@@ -111,7 +111,7 @@ impl Branches {
         }
     }
 
-    /// What the operator decided is forgotten. Of another XID nothing changes.
+    /// What the operator decided is forgotten. For any other XID nothing changes.
     pub fn forget(&mut self, xid: &Xid)
         ensures { Follows self.old (λ s. forgotten s xid.now) self.new }
     {

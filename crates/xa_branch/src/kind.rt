@@ -12,7 +12,7 @@ pub enum Kind {
 }
 
 impl Kind {
-    /// The kind of a session's own association with the XID, where the session is at work for `active`, or for none.
+    /// The kind of a session's own association with the XID, if the session is at work for `active`, or for none.
     pub(crate) fn of_own(xid: &Xid, active: Option<&Xid>) -> Kind
         ensures { result ≡ own_kind (option_copied active.entry) xid.now }
     {

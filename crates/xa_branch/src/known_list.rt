@@ -102,11 +102,11 @@ fn take_first(one: &mut Option<KnownBranch>, other: &mut Option<KnownBranch>) ->
 
 /// What the list of known branches has.
 impl Branches {
-    /// The first `count` of the known branches above the given XID, or of all, ascending. Others are not gone over.
+    /// The first `count` of the known branches above the given XID, or of all, ascending. No others are visited.
     /// Memory is taken once, for no more than `count`.
     ///
     /// # Errors
-    /// Want of memory, or a branch has its room.
+    /// Out of memory, or a branch has its room.
     pub fn known_after(
         &self,
         alloc: Global,

@@ -5,7 +5,7 @@ pub fn worked_states()
     ensures { WorkedStates }
 {}
 
-/// Where all that lasted is restored, the branches stand for each state that it leads to.
+/// Once all that lasted is restored, the branches stand for each state that it leads to.
 pub fn restored_stand()
     ensures { RestoredStand }
 {}

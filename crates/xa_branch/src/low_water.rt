@@ -5,9 +5,9 @@ ghost use Rattle.xa_branch.specs.Follows.{InSound};
 use crate::branches::Branches;
 use xa_limits::BOOT_TIMESTAMPS;
 
-/// Which timestamps nobody works below.
+/// Below which timestamps nobody works.
 impl Branches {
-    /// The least timestamp of the branches that are at work or prepared; where there are none, the last that this boot
+    /// The least timestamp of the branches that are at work or prepared; if there are none, the last that this boot
     /// gave, or before its first the boot's number times 2^32. Branches that the operator completed don't count. No
     /// later branch has a timestamp that is less, and as branches are completed this only rises. Takes no memory.
     pub fn low_water(&self) -> u64

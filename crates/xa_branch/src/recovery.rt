@@ -24,10 +24,10 @@ pub(crate) fn above(after: Option<&Xid>) -> Bound<&Xid>
 /// What recovery lists.
 impl Branches {
     /// The first `count` of the XIDs above the given one, or of all, whose branches are prepared or were completed by
-    /// the operator, ascending. Others are not gone over. Memory is taken once, for no more XIDs than `count`.
+    /// the operator, ascending. No others are visited. Memory is taken once, for no more XIDs than `count`.
     ///
     /// # Errors
-    /// Want of memory, or a branch has its room.
+    /// Out of memory, or a branch has its room.
     pub fn list_after(
         &self,
         alloc: Global,

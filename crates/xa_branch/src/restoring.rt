@@ -9,8 +9,8 @@ use xa_codes::Direction;
 use xa_xid::Xid;
 
 /// How what lasted is restored at a restart or an opening: into branches that are new (`Branches::new`, with 1 for the
-/// next timestamp) each prepared branch is put, and each XID that the operator completed, each XID once. Where there is
-/// no memory nothing is promised of the branches, which are to be dropped.
+/// next timestamp) each prepared branch is put, and each XID that the operator completed, each XID once. If there is
+/// no memory nothing is promised of the branches, which then have to be dropped.
 impl Branches {
     /// A branch is in doubt, with this timestamp.
     pub fn restore_prepared(&mut self, xid: Xid, timestamp: u64) -> Result<(), AllocError>

@@ -10,9 +10,9 @@ use xa_codes::{Code, XA_RBTIMEOUT, XAER_INVAL};
 
 /// How time passes: no clock is read, and moments are told in seconds.
 impl Branches {
-    /// Tells the moment: each unmarked branch at work with a limit that is as old as that is marked XA_RBTIMEOUT. How
-    /// many these are is answered. A moment below the last one is refused with XAER_INVAL, and changes nothing. Branches
-    /// that don't run out of time aren't gone over. Takes no memory.
+    /// Tells the moment: each unmarked branch at work with a limit that is as old as that is marked XA_RBTIMEOUT. The
+    /// number of these is returned. A moment below the last one is refused with XAER_INVAL, and changes nothing.
+    /// Branches that don't run out of time aren't visited. Takes no memory.
     pub fn tick(&mut self, moment: u64) -> Result<u64, Code>
         ensures early { InEach self.old (λ s. is_err result ≡ nat_lt moment s.moment) }
         ensures code { IfErr result (λ code. code ≡ XAER_INVAL) }

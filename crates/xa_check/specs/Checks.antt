@@ -15,7 +15,7 @@ abbrev pub fault_of : OpenFault → CheckFault
 fault_of log.Memory = Memory
 fault_of _ = Device
 
--- By the end, what was printed of a text: all; nothing, where it couldn't be had; some first bytes, where they couldn't be
+-- By the end, what was printed of a text: all; nothing, if it couldn't be made; some first bytes, if not all could be
 -- written.
 abbrev pub PrintsText : {X : Type 0} → Result X CheckFault → List ℕ → List ℕ → Type 0
 PrintsText (Ok x) all text = text ≡ all
@@ -26,12 +26,12 @@ PrintsText (Err Write) all text = IsFront text all
 abbrev pub AddsText : {X : Type 0} → Result X CheckFault → List ℕ → Option (List ℕ) → Option (List ℕ) → Type 0
 AddsText end all output output' = (text : List ℕ) × Appends output output' text × PrintsText end all text
 
--- the answer of two files that are told so
+-- the answer of two files that are told like this
 abbrev pub Answers : Result Bool CheckFault → Told → Told → Type 0
 Answers (Ok whole) first second = whole ≡ is_whole first second
 Answers (Err fault) first second = Unit {0}
 
--- A check of two files: what is told of them, which is what they are where their disks are honest, is written, and decides
+-- A check of two files: what is told of them, which is what they are if their disks are honest, is written, and decides
 -- the answer.
 pub record Checks (honest : Type 0) (end : Result Bool CheckFault) (path : List ℕ) (most : ℕ) (file other : List ℕ)
     (output output' : Option (List ℕ)) : Type 0 where

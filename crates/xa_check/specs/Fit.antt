@@ -9,7 +9,7 @@ use Rattle.xa_log.specs.declared.standing.Standing.TheVariants as standing_as
 use Rattle.xa_log.specs.declared.unfit.Unfit.{Unfit}
 use Rattle.xa_log.specs.declared.unfit.Unfit.TheVariants as unfit
 
--- the first file's log is taken before the second one's: by generation, on a tie by having records, or by coming first
+-- the first file's log beats the second one's: by generation, on a tie by having records, or by coming first
 abbrev pub comes_before : LogTold → LogTold → Bool
 comes_before mine other =
     nat_lt other.generation mine.generation
@@ -29,7 +29,7 @@ is_second Nothing (Log mine) = true
 is_second Stray (Log mine) = true
 is_second _ _ = false
 
--- An opening refuses by itself what is too long, as it does what is of a later format.
+-- An opening itself refuses what is too long, as it does what is of a later format.
 abbrev pub standing_told : Told → Standing
 standing_told (Log log) = standing_as.Log
 standing_told Nothing = standing_as.Nothing

@@ -19,14 +19,14 @@ abbrev pub current_text : Bool → List ℕ
 current_text true = codes ", current"
 current_text false = []
 
--- how many records chain behind the break, and how many branches are prepared in them
+-- how many records chain after the break, and how many branches are prepared in them
 unfoldable pub left_text : ℕ → ℕ → List ℕ
 left_text behind prepared =
     if behind == 0 then []
     else (codes ", " ++ decimal behind) ++ (codes " records behind it, " ++ decimal prepared)
     ++ codes " branches prepared in them"
 
--- where a log breaks off, and what is behind
+-- where a log breaks off, and what comes after
 unfoldable pub break_text : Break → List ℕ
 break_text damage =
     (codes ", damaged: record " ++ decimal damage.number) ++ (codes " at byte " ++ decimal damage.at)
@@ -64,7 +64,7 @@ missing_text path second = codes "log file missing or empty: " ++ file_text path
 unfoldable pub stray_text : List ℕ → Bool → List ℕ
 stray_text path second = file_text path second ++ codes ": not a log, and not empty" ++ 10 ∷ []
 
--- the line that tells which of two files isn't a log's, as a server tells it
+-- the line that tells which of two files isn't a log's, as a server reports it
 unfoldable pub unfit_text : List ℕ → Unfit → List ℕ
 unfit_text path unfit.Neither = []
 unfit_text path unfit.MissingFirst = missing_text path false

@@ -8,7 +8,7 @@ use Rattle.xa_record.specs.declared.record.Record.{Record}
 use Rattle.xa_record.specs.declared.record.Record.TheVariants.{Prepared, Completed}
 use Rattle.xa_xid.specs.Triple.{Triple, xid_cmp}
 
--- Whether a record prepares a branch that none of these completed ones is, and which are completed with it: XIDs in their
+-- Whether a record prepares a branch that is none of these completed ones, and which are completed with it: XIDs in their
 -- order.
 abbrev pub with_record : List Triple → Option Record → Bool × List Triple
 with_record completed (Some (Prepared xid timestamp writes)) = (not (list_any (is_at (xid_cmp xid)) completed), completed)
@@ -23,7 +23,7 @@ abbrev pub completed_in : List (List ℕ) → List Triple
 completed_in [] = []
 completed_in (body ∷ bodies) = (with_body (completed_in bodies) body).1
 
--- how many records prepare a branch that none behind them completes
+-- how many records prepare a branch that none after them completes
 abbrev pub prepared_in : List (List ℕ) → ℕ
 prepared_in [] = 0
 prepared_in (body ∷ bodies) =

@@ -19,13 +19,13 @@ use Rattle.xa_log.specs.declared.format.Format.{Format}
 use Rattle.xa_log.specs.declared.standing.Standing.{Standing}
 use Rattle.xa_log.specs.declared.standing.Standing.TheVariants as standing_as
 
--- the record at which a damaged log breaks off, and what these bodies behind it are
+-- the record at which a damaged log breaks off, and what these bodies after it are
 abbrev pub break_of : Bool → ℕ → ℕ → List (List ℕ) → Option Break
 break_of false number at left = None
 break_of true number at left =
     Some (record { number = number; at = at; behind = length left; prepared = prepared_in left })
 
--- a log of these bodies, which ends there, is damaged there or isn't, and has these behind
+-- a log of these bodies, which ends there, is damaged there or isn't, and has these after it
 abbrev pub log_told : Format → List (List ℕ) → ℕ → Bool → List (List ℕ) → LogTold
 log_told format bodies end damaged left = record {
   format = format;
@@ -56,6 +56,6 @@ fault_told file (Some fault.TooLong) = told.TooLong
 fault_told file (Some fault.TooNew) = told.Later
 fault_told file (Some _) = no_log_told (standing file)
 
--- what is told of a file, where a log has at most so many bytes
+-- what is told of a file, if a log has at most this many bytes
 unfoldable pub told_in : ℕ → List ℕ → Told
 told_in most file = fault_told file (fault_of most file)

@@ -14,8 +14,8 @@ use xa_disk::Disk;
 use xa_log::read_contents;
 use xa_output::write_text;
 
-/// Reads a log's two files, the first one at this path, and writes a line for each: its path and what stands in it. Where
-/// one of them isn't a log's, a line tells it behind them. Answers whether a server opens what they have: whether they
+/// Reads a log's two files, the first one at this path, and writes a line for each: its path and what stands in it. If
+/// one of them isn't a log's, a line after them says so. Returns whether a server opens what they have: whether they
 /// are one log's, and neither is damaged.
 ///
 /// All is read before anything is printed. Nothing is written to the files.
@@ -70,7 +70,7 @@ fn tell<D: Disk>(alloc: Global, disk: &mut D, log_bytes: u64) -> Result<Told, Ch
     Ok(told_of(alloc, &contents)?)
 }
 
-/// Writes a text, and what its writer kept.
+/// Writes a text, and what its writer has buffered.
 fn print<W: Write>(writer: &mut W, text: &[u8]) -> Result<(), CheckFault>
     ensures { AddsText result text.now (W.contents writer.old) (W.contents writer.new) }
 {

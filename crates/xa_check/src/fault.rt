@@ -6,7 +6,7 @@ use std::alloc::AllocError;
 use thiserror::Error;
 use xa_log::OpenFault;
 
-/// Why it isn't told what two files are. Its text is what `xarm` prints behind its name.
+/// Why it isn't told what two files are. Its text is what `xarm` prints after its name.
 #[derive(Clone, Copy, Debug, PartialEq, Eq, Error)]
 pub enum CheckFault {
     #[error("no memory")]

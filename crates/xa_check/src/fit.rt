@@ -27,7 +27,7 @@ pub(crate) fn is_second(first: &Told, second: &Told) -> bool
     }
 }
 
-/// Whether the first file's log is taken before the second one's.
+/// Whether the first file's log takes precedence over the second one's.
 fn comes_before(mine: &LogTold, other: &LogTold) -> bool
     ensures { result ≡ comes_before mine.now other.now }
 {

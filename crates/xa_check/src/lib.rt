@@ -6,7 +6,7 @@
 //! - `fit`: which file is the current one, whether the two fit, and whether a server opens them
 //! - `told`: `Told`, what is told of a file; `prepared`: how many branches are prepared in records
 //! - `fault`: `CheckFault`, why nothing is told
-//! - `laws`: `told_as_opened`, what an opening makes of two files that are told so
+//! - `laws`: `told_as_opened`, what an opening makes of two files with these lines
 #![tactic(auto)]
 
 mod check;

@@ -151,7 +151,7 @@ fn push_current(text: &mut Vec<u8>, is_current: bool) -> Result<(), AllocError>
     Ok(())
 }
 
-/// Adds where a log breaks off, and what is behind.
+/// Adds where a log breaks off, and what comes after.
 #[tactic(auto, unfolding(crate::specs::Lines::break_text))]
 fn push_break(alloc: Global, text: &mut Vec<u8>, damage: &Break) -> Result<(), AllocError>
     ensures { OnOk result (text.new.items ≡ text.old.items ++ break_text damage.now) }
@@ -161,7 +161,7 @@ fn push_break(alloc: Global, text: &mut Vec<u8>, damage: &Break) -> Result<(), A
     push_left(alloc, text, damage.behind as u64, damage.prepared as u64)
 }
 
-/// Adds how many records are behind, and how many branches are prepared in them, where there are any.
+/// Adds how many records come after it, and how many branches are prepared in them, if there are any.
 #[tactic(auto, unfolding(crate::specs::Lines::left_text))]
 fn push_left(
     alloc: Global,

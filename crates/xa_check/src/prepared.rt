@@ -8,7 +8,7 @@ use std::collections::BTreeSet;
 use xa_record::{Record, RecordFault, read};
 use xa_xid::Xid;
 
-/// How many of these bodies prepare a branch that none behind them completes.
+/// How many of these bodies prepare a branch that none after them completes.
 pub(crate) fn prepared_in(alloc: Global, bodies: &[Vec<u8>]) -> Result<usize, AllocError>
     ensures { IfOk result (λ count. count ≡ prepared_in (bodies_of bodies.now)) }
 {

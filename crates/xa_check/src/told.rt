@@ -27,8 +27,8 @@ pub struct LogTold {
     pub damage: Option<Break>,
 }
 
-/// Where a log breaks off: before a record, by its number from 1 and the byte at which it begins. So many records chain
-/// behind it, and so many branches are prepared in them.
+/// Where a log breaks off: before a record, by its number from 1 and the byte at which it begins. `behind` records
+/// chain after it, and `prepared` branches are prepared in them.
 #[derive(Clone, Copy, Debug, PartialEq, Eq)]
 pub struct Break {
     pub number: usize,
@@ -66,7 +66,7 @@ fn log_told(alloc: Global, log: &LogContents) -> Result<LogTold, AllocError>
     })
 }
 
-/// Where a log that is damaged breaks off, with these bodies behind.
+/// Where a log that is damaged breaks off, with these bodies after it.
 fn break_of(
     alloc: Global,
     damaged: bool,

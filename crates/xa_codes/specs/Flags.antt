@@ -1,4 +1,4 @@
--- Which flags a call may have (C193, with the calls on records and the operator's beside it).
+-- Which flags a call may have (C193, with the calls on records and the operator's besides it).
 use Rattle.std.specs.Prelude.{ℕ, ◌==◌, Bool, not, ◌&&◌, ◌||◌, bit_and, ◌-◌, ◌+◌}
 use Rattle.xa_codes.specs.declared.flags.TheConstants.{TMONEPHASE, TMFAIL, TMNOWAIT, TMRESUME, TMSUCCESS, TMSUSPEND}
 use Rattle.xa_codes.specs.declared.flags.TheConstants.{TMSTARTRSCAN, TMENDRSCAN, TMJOIN, TMMIGRATE}

@@ -21,7 +21,7 @@ pub enum Call {
     Timeout,
     /// Tells the moment, and ends what has passed its limit.
     Tick,
-    /// Begins the log anew, with what lasts, while branches go on.
+    /// Starts a new log, with what lasts, while branches go on.
     Trim,
     /// Lists the known branches.
     Branches,

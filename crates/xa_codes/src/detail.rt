@@ -1,16 +1,16 @@
-/// What a refusal is about, beside its code.
+/// What a refusal is about, besides its code.
 #[derive(Clone, Copy, Debug, PartialEq, Eq)]
 pub enum Detail {
     Nothing,
-    /// Memory was wanted. Nothing changed.
+    /// There was no memory. Nothing changed.
     Memory,
     /// The log's device failed.
     Device,
-    /// The version to be read is of another branch that is undecided.
+    /// The version to be read belongs to another branch, which is undecided.
     Busy,
     /// A branch with a later timestamp has read what this write would have changed.
     Late,
-    /// A limit of the manager's was met.
+    /// A limit of the manager was reached.
     Limit,
     /// The request doesn't decode.
     Frame,

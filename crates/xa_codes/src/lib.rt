@@ -1,14 +1,14 @@
 //! The numbers and names of the XA interface (X/Open C193), and the small types
-//! that the layers above share. In an order to read:
+//! that the layers above share. In reading order:
 //!
 //! - `codes`: `Code`, the code of a reply, and each by its name, from `XA_OK` to `XAER_OUTSIDE`; `names`: `code_name`
 //! - `flags`: each flag by its name, from `TMNOFLAGS` to `TMMIGRATE`; `legal_flags`, which of them a call may have; and
 //!   `worked_flags`, worked rows of that
 //! - `call`: `Call`, the nineteen calls of a session
-//! - `detail`: `Detail`, what a refusal is about, beside its code
+//! - `detail`: `Detail`, what a refusal is about, besides its code
 //! - `direction`: `Direction`, how a branch is to end
-//! - `listing`: `Listing`, values that contracts see as a list; `bytes`: `Bytes`, a byte string that they see so;
-//!   `write`: `Write`, what a branch leaves at a key
+//! - `listing`: `Listing`, values that contracts see as a list; `bytes`: `Bytes`, a byte string that they see like
+//!   that; `write`: `Write`, what a branch leaves at a key
 //!
 //! docs/PROTOCOL.md says what codes and flags mean.
 #![tactic(auto)]

@@ -8,7 +8,7 @@ use crate::codes::{
     XAER_OUTSIDE, XAER_PROTO, XAER_RMERR, XAER_RMFAIL,
 };
 
-/// C193's name of a code, or `?` for a number that is none. Takes no memory.
+/// C193's name of a code, or `?` for any other number. Takes no memory.
 pub fn code_name(code: Code) -> &'static str
     ensures { result.now ≡ name_of code }
 {

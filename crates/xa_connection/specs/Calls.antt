@@ -26,11 +26,11 @@ use Rattle.xa_connection.specs.declared.front.Front.TheVariants as front
 use Rattle.xa_connection.specs.declared.front.Front.TheVariants.{Whole, Cut}
 use Rattle.xa_connection.specs.Fronts.{BeginsTooLong, BeginsWhole}
 
--- nothing came in, and nothing is to be sent
+-- nothing came in, and nothing has to be sent
 abbrev pub new_connection : Connection
 new_connection = record { input = []; output = []; end = None }
 
--- by its end, what is to be sent and what came in: how many bytes it takes
+-- by its end, what has to be sent and what came in: how many bytes it takes
 abbrev pub room_in : Option Served → List ℕ → List ℕ → ℕ
 room_in None [] input = MOST_INPUT - length input
 room_in None (b ∷ output) input = 0
@@ -44,27 +44,27 @@ abbrev pub Feeds : Connection → List ℕ → ℕ → Connection → Type 0
 Feeds c bytes count c' =
     (count ≡ min (room_of c) (length bytes)) × (c' ≡ record c { input = c.input ++ take count bytes })
 
--- it goes on, and nothing is to be sent
+-- it goes on, and nothing has to be sent
 abbrev pub IsReady : Connection → Type 0
 IsReady c = (c.end ≡ None) × (c.output ≡ [])
 
--- it has nothing to answer: it is to end, a reply is to be sent first, or no whole frame came in
+-- it has nothing to answer: it has to end, a reply has to be sent first, or no whole frame came in
 abbrev pub IsIdle : Connection → Type 0
 IsIdle c = IsSome c.end ⊎ ((c.output ≢ []) ⊎ IsCut c.input)
 
--- a frame is at the front that asks the server to end
+-- the frame at the front asks the server to shut down
 abbrev pub AsksToEnd : List ℕ → Type 0
 AsksToEnd input = (count : ℕ) × BeginsWhole input count × (take count (drop 4 input) ≡ shutdown_content)
 
 -- what is at the front is owed this reply: a content, which is taken with its length; or a length that is too great,
--- which stays, and behind whose reply it is to end
+-- which stays, and after whose reply it has to end
 abbrev pub AnswersFront : {D : Type 0} → (D → Question → Reply → D → Type 0) → Connection → D → Reply → Option Served → List ℕ → D → Type 0
 AnswersFront called c d reply end input e =
     ((content : List ℕ) × IsShort content × (c.input ≡ frame content ++ input) × Answers called d content reply e
     × (end ≡ None))
     ⊎ (BeginsTooLong c.input × (input ≡ c.input) × (e ≡ d) × (reply ≡ bad_frame) × (end ≡ Some served.TooLong))
 
--- an answer: one reply was owed, and is to be sent, or found no memory; none is owed where the server is asked to end
+-- an answer: one reply was owed, and has to be sent, or found no memory; none is owed if the server is asked to shut down
 abbrev pub Turns : {D : Type 0} → (D → Question → Reply → D → Type 0) → Connection → D → Answering → Connection → D → Type 0
 Turns called c d Idle c' e = (IsIdle c ⊎ AsksToEnd c.input) × (c' ≡ c) × (e ≡ d)
 Turns called c d Answered c' e =
@@ -79,14 +79,14 @@ IsRefused content reply =
     ((f : FrameFault) × (f ≢ faults.Memory) × (fault_of_question content ≡ Some f) × (reply ≡ bad_frame))
     ⊎ ((fault_of_question content ≡ None) × (reply ≡ without_memory))
 
--- what a content asks for, of so many bytes: that the server end, or the question that it spells, or nothing of a door
+-- what a content asks for, of this many bytes: that the server shut down, the question that it spells, or nothing for a door
 abbrev pub AsksBy : ℕ → List ℕ → Asked → Type 0
 AsksBy count content (One n q) = (n ≡ count) × SpellsQuestion content q
 AsksBy count content (Refused (Whole n) reply) = (n ≡ count) × IsRefused content reply × (content ≢ shutdown_content)
 AsksBy count content Shutdown = content ≡ shutdown_content
 AsksBy count content _ = ⊥
 
--- what the front asks for: what the content of a frame does, or nothing of a door
+-- what the front asks for: what the content of a frame does, or nothing for a door
 abbrev pub Asks : Connection → Asked → Type 0
 Asks c asked.Idle = IsIdle c
 Asks c (One count q) = IsReady c × BeginsWhole c.input count × SpellsQuestion (take count (drop 4 c.input)) q
@@ -104,19 +104,19 @@ IsAsked (One count q) = IsQuestion q
 IsAsked (Refused front reply) = IsReply reply
 IsAsked Shutdown = Unit {0}
 
--- the door answered a question: of how it is doing it told, and stayed as it was
+-- the door answered a question: if asked how it is doing, it told that, and stayed as it was
 abbrev pub IsPut : {D : Type 0} → (D → Question → Reply → D → Type 0) → D → Question → Reply → D → Type 0
 IsPut called d (question.Call q) reply e = called d (question.Call q) reply e
 IsPut called d question.Status reply e =
     (s : Status) × (e ≡ d) × (reply ≡ doing s) × called d question.Status (doing s) d
 
--- a reply is to be sent, or found no memory
+-- a reply has to be sent, or found no memory
 abbrev pub Holds : Connection → Reply → Answering → Connection → Type 0
 Holds c reply Idle c' = ⊥
 Holds c reply Answered c' = c' ≡ record c { output = reply_frame reply }
 Holds c reply Memory c' = c' ≡ record c { output = []; end = Some served.Memory }
 
--- a reply to what is at the front: a frame is taken; after a length that is too great, which stays, it is to end
+-- a reply to what is at the front: a frame is taken; after a length that is too great, which stays, it has to end
 abbrev pub Replies : Connection → Front → Reply → Answering → Connection → Type 0
 Replies c (Whole count) reply answering c' = Holds (record c { input = drop (4 + count) c.input }) reply answering c'
 Replies c front.TooLong reply answering c' = Holds (record c { end = Some served.TooLong }) reply answering c'

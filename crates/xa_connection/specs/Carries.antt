@@ -14,8 +14,8 @@ use Rattle.xa_connection.specs.declared.connection.TheConstants.{MOST_INPUT}
 use Rattle.xa_connection.specs.Fronts.{BeginsTooLong}
 use Rattle.xa_connection.specs.Calls.{Feeds, Turns, new_connection}
 
--- what was sent and what is to be sent are the frames of these replies, in order, and at most the last of them is under
--- way
+-- what was sent and what has to be sent are the frames of these replies, in order, and at most the last of them is
+-- under way
 pub record Delivers (replies : List Reply) (sent unsent : List ℕ) : Type 0 where
   pub in_order : frames_of replies ≡ sent ++ unsent
   pub last : (unsent ≡ [])
@@ -35,12 +35,12 @@ Sends (Some end) replies input sent unsent = ⊥
 -- the contents that were answered, with their replies, of all the bytes that it was fed and those that were sent
 pub record Carries (contents : List (List ℕ)) (replies : List Reply) (fed sent : List ℕ) (c : Connection) : Type 0 where
   pub short : All IsShort contents
-  -- the frames that were answered, and behind them the one that is under way and the rest
+  -- the frames that were answered, and after them the one that is under way and the rest
   pub fed_is : fed ≡ flat_map frame contents ++ c.input
   pub sends : Sends c.end replies c.input sent c.output
   pub bounded : length c.input ≤ MOST_INPUT
 
--- so it begins, and so it stays with each call; an answer adds what the door was asked and has answered, if anything
+-- so it begins, and stays with each call; an answer adds what the door was asked and has answered, if anything
 pub record CarriesLaw {D : Type 0} (called : D → Question → Reply → D → Type 0) : Type 0 where
   pub begins : Carries [] [] [] [] new_connection
   pub fed : (contents : List (List ℕ)) (replies : List Reply) (fed sent bytes : List ℕ) (count : ℕ) (c c' : Connection)

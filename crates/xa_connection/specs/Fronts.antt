@@ -6,7 +6,7 @@ use Rattle.xa_desk.specs.Believed.Serving.{IsCut, IsTooLong}
 use Rattle.xa_connection.specs.declared.front.Front.{Front}
 use Rattle.xa_connection.specs.declared.front.Front.TheVariants.{Whole, Cut, TooLong}
 
--- a frame, whose content has so many bytes, and the bytes behind it
+-- a frame, whose content has this many bytes, and the bytes after it
 pub record BeginsWhole (bytes : List ℕ) (count : ℕ) : Type 0 where
   pub short : count ≤ MOST_CONTENT
   pub fits : 4 + count ≤ length bytes

@@ -17,7 +17,7 @@ pub record HasTalked {D : Type 0} (called : D → Question → Reply → D → T
   pub answered : AnswersAll called first contents replies d
   pub carries : Carries contents replies fed sent c
 
--- its end: None where it goes on, else by what its peer sent or took, or its own
+-- its end: None if it goes on, otherwise by what its peer sent or took, or its own
 abbrev pub HasEnded : Option Served → Connection → Type 0
 HasEnded None c = (c.end ≡ None) × (c.output ≡ [])
 HasEnded (Some Ended) c = (c.end ≡ None) × (c.output ≡ []) × (c.input ≡ [])
@@ -26,7 +26,7 @@ HasEnded (Some WriteFault) c = c.output ≢ []
 HasEnded (Some TooLong) c = (c.end ≡ Some TooLong) × (c.output ≡ [])
 HasEnded (Some Memory) c = c.end ≡ Some Memory
 
--- so it begins, and so it stays with each call; and with its end `serve` says the same of a reader that had what was
+-- so it begins, and stays with each call; and with its end `serve` says the same of a reader that had what was
 -- fed, of which it left the rest, and of a writer that took what was sent
 pub record TalkedLaw {D : Type 0} (called : D → Question → Reply → D → Type 0) : Type 0 where
   pub begins : (d : D) → HasTalked called d [] [] new_connection d

@@ -1,11 +1,11 @@
 /// What an answer came to.
 #[derive(Clone, Copy, Debug, PartialEq, Eq)]
 pub enum Answering {
-    /// There is nothing to answer now: no whole frame came in, a reply is to be sent first, the connection is to end, or the
-    /// server is.
+    /// There is nothing to answer now: no whole frame came in, a reply has to be sent first, the connection has to end, or
+    /// the server has.
     Idle,
-    /// A frame was answered, and its reply is to be sent; or a length that is too great was.
+    /// A frame was answered, and its reply has to be sent; or a length that is too great was.
     Answered,
-    /// The reply's bytes found no memory: the call was made, nothing of its reply is sent, and the connection is to end.
+    /// There was no memory for the reply: the call was made, nothing of its reply is sent, and the connection has to end.
     Memory,
 }

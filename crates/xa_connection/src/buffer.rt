@@ -7,7 +7,7 @@ use std::marker::Model;
 use xa_desk::make_frame;
 use xa_frame::Reply;
 
-/// Bytes in a row: what comes goes behind them, and they are taken from the front. Contracts see those that are left.
+/// Bytes in a row: what comes is appended, and they are taken from the front. Contracts see those that are left.
 ///
 /// Bytes that were taken stay until they are as many as those that are left. So a byte that stays is moved once at most
 /// for each that was taken, and the block is at most twice as long as what it held at its fullest.
@@ -50,7 +50,7 @@ impl Buffer {
         self.bytes.len() - self.taken
     }
 
-    /// Puts bytes behind those that are there, or none.
+    /// Appends these bytes, or none of them.
     pub fn put(&mut self, more: &[u8]) -> Result<(), AllocError>
         ensures ok { OnOk result (self.new ≡ self.old ++ more.now) }
         ensures err { OnErr result (self.new ≡ self.old) }
@@ -58,7 +58,7 @@ impl Buffer {
         self.bytes.extend_from_slice(more)
     }
 
-    /// Holds the frame of a reply in place of what it held, or nothing. Takes no memory where its block is long enough.
+    /// Holds the frame of a reply in place of what it held, or nothing. Takes no memory if its block is long enough.
     pub fn hold(&mut self, reply: &Reply) -> Result<(), AllocError>
         requires { IsReply reply.now }
         ensures ok { OnOk result (self.new ≡ reply_frame reply.now) }
@@ -72,7 +72,7 @@ impl Buffer {
         held
     }
 
-    /// Takes so many bytes from the front, or all.
+    /// Takes `count` bytes from the front, or all.
     pub fn take(&mut self, count: usize)
         ensures { self.new ≡ drop count self.old }
     {

@@ -17,17 +17,17 @@ use xa_limits::MOST_CONTENT;
 /// The most bytes that are kept of what came in: those of the longest frame.
 pub const MOST_INPUT: usize = 4 + MOST_CONTENT;
 
-/// One connection, without its socket: what came in and isn't answered, what is to be sent of the last reply, and
-/// whether it is to end.
+/// One connection, without its socket: what came in and isn't answered, what has to be sent of the last reply, and
+/// whether it has to end.
 ///
-/// A caller feeds it what its peer sent, as far as there is room, lets it answer, and sends what is to be sent, until
+/// A caller feeds it what its peer sent, as far as there is room, lets it answer, and sends what has to be sent, until
 /// there is nothing more to answer. While a reply isn't sent there is no room, so a peer that takes no replies is read
 /// no further, and no further frame of it is answered.
 #[derive(Debug, Drop)]
 pub struct Connection {
     input: Buffer,
     output: Buffer,
-    /// `TooLong` or `Memory`, where it is to end behind what is to be sent.
+    /// `TooLong` or `Memory`, if it has to end after what has to be sent.
     end: Option<Served>,
 }
 
@@ -42,7 +42,7 @@ impl Connection {
         }
     }
 
-    /// How many bytes it takes now: none while a reply is to be sent, nor where it is to end.
+    /// How many bytes it takes now: none while a reply has to be sent, nor if it has to end.
     pub fn room(&self) -> usize
         ensures { result ≡ room_of self.now }
     {
@@ -53,7 +53,7 @@ impl Connection {
         }
     }
 
-    /// Takes bytes that came in, the first of these, for as many as there is room; says how many.
+    /// Takes bytes that came in: as many of the first ones as there is room for. Returns how many.
     pub fn feed(&mut self, bytes: &[u8]) -> Result<usize, AllocError>
         ensures ok { IfOk result (λ count. Feeds self.old bytes.now count self.new) }
         ensures err { OnErr result (self.new ≡ self.old) }
@@ -63,8 +63,8 @@ impl Connection {
         Ok(count)
     }
 
-    /// Answers the frame at the front, where it is whole and nothing is to be sent. A length above `MOST_CONTENT` is
-    /// answered as a bad frame, and the connection is to end behind that.
+    /// Answers the frame at the front, if it is whole and nothing has to be sent. A length above `MOST_CONTENT` is
+    /// answered as a bad frame, and the connection has to end after that.
     pub fn answer<D: Door>(&mut self, alloc: Global, door: &mut D, session: u64) -> Answering
         ensures { Turns (D.called session) self.old door.old result self.new door.new }
     {
@@ -88,7 +88,7 @@ impl Connection {
         }
     }
 
-    /// What the front asks for, where it is whole and nothing is to be sent. It stays until it is replied to.
+    /// What the front asks for, if it is whole and nothing has to be sent. It stays until it is replied to.
     pub fn asked(&self, alloc: Global) -> Asked
         ensures asks { Asks self.now result }
         ensures limits { IsAsked result }
@@ -104,8 +104,8 @@ impl Connection {
         }
     }
 
-    /// Replies to what is at the front: a frame is taken, and after a length that is too great the connection is to end. So it
-    /// is where there is no memory for the reply.
+    /// Replies to what is at the front: a frame is taken, and after a length that is too great the connection has to end. So it
+    /// does if there is no memory for the reply.
     pub fn reply(&mut self, front: Front, reply: &Reply) -> Answering
         requires front { IsShortFront front }
         requires limits { IsReply reply.now }
@@ -123,14 +123,14 @@ impl Connection {
         Answering::Memory
     }
 
-    /// What is to be sent.
+    /// What has to be sent.
     pub fn unsent(&self) -> &[u8]
         ensures { result.now ≡ self.now.output }
     {
         self.output.as_slice()
     }
 
-    /// So many bytes were sent of what was to be sent, or all of them.
+    /// `count` bytes were sent of what had to be sent, or all of them.
     pub fn sent(&mut self, count: usize)
         ensures { self.new ≡ record self.old { output = drop count self.old.output } }
     {
@@ -151,14 +151,14 @@ impl Connection {
         }
     }
 
-    /// Whether it is to end: it takes no more bytes, and answers nothing more.
+    /// Whether it has to end: it takes no more bytes, and answers nothing more.
     pub fn is_closing(&self) -> bool
         ensures { IsTrue result ↔ IsSome self.now.end }
     {
         self.end.is_some()
     }
 
-    /// Whether it has ended: it is to end, and nothing is to be sent.
+    /// Whether it has ended: it has to end, and nothing is left to send.
     pub fn is_done(&self) -> bool
         ensures { IsTrue result ↔ (IsSome self.now.end × (self.now.output ≡ [])) }
     {
@@ -166,7 +166,7 @@ impl Connection {
     }
 }
 
-// What a content of so many bytes at the front asks for.
+// What a content of `count` bytes at the front asks for.
 fn asked_by(alloc: Global, count: usize, content: &[u8]) -> Asked
     requires { count ≡ length content.now }
     ensures asks { AsksBy count content.now result }

@@ -8,7 +8,7 @@ use xa_limits::MOST_CONTENT;
 /// What is at the front of some bytes.
 #[derive(Clone, Copy, Debug, PartialEq, Eq)]
 pub enum Front {
-    /// A frame, whose content has so many bytes.
+    /// A frame, whose content has this many bytes.
     Whole(usize),
     /// A part of a frame, or nothing.
     Cut,
@@ -16,7 +16,7 @@ pub enum Front {
     TooLong,
 }
 
-/// What is at the front of these bytes. Of a length that is too great nothing behind it is looked at.
+/// What is at the front of these bytes. After a length that is too great nothing is looked at.
 pub fn front_of(bytes: &[u8]) -> Front
     ensures front { IsFront bytes.now result }
     ensures cut { IsCut bytes.now → result ≡ Front.Cut }

@@ -3,8 +3,8 @@ ghost use Rattle.xa_connection.specs.{Carries.CarriesLaw, Talked.TalkedLaw};
 
 use xa_desk::Door;
 
-/// What was fed to a connection is the frames that were answered and what came in behind them, and the frames of their
-/// replies are what was sent and what is to be sent: so it is when it is new, and so it stays with each call, whatever
+/// What was fed to a connection is the frames that were answered and what came in after them, and the frames of their
+/// replies are what was sent and what has to be sent: this holds when it is new, and stays so with each call, whatever
 /// others do at the door between two calls. It does nothing.
 pub fn carries<D: Door>()
     ensures { (session : ℕ) → CarriesLaw (D.called session) }

@@ -1,4 +1,4 @@
--- What asks a server to end.
+-- What asks a server to shut down.
 use Rattle.std.specs.Prelude.{ℕ, List, [], ◌∷◌}
 
 -- the number of the operation

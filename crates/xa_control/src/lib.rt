@@ -1,4 +1,4 @@
-//! What a server is asked and no manager: that it end.
+//! What a server is asked and no manager: to shut down.
 //!
 //! - `shutdown`: `SHUTDOWN`, the content of the frame that asks for it; `is_shutdown`
 #![tactic(auto)]

@@ -8,12 +8,12 @@ use Rattle.xa_desk.specs.declared.connection.Filled.TheVariants as filled
 use Rattle.xa_desk.specs.declared.served.Served.{Served}
 use Rattle.xa_desk.specs.declared.served.Served.TheVariants.{Ended, ReadFault, WriteFault, Memory}
 
--- the end that a step came to, or None where it goes on
+-- the end that a step came to, or None if it goes on
 abbrev pub end_of : {X : Type 0} → Result X Served → Option Served
 end_of (Ok x) = None
 end_of (Err end) = Some end
 
--- a buffer is full, or has so many bytes where the input ended or a read failed
+-- a buffer is full, or has this many bytes when the input ended or a read failed
 abbrev pub Fills : Filled → Option (List ℕ) → Option (List ℕ) → List ℕ → Type 0
 Fills filled.Whole input input' buffer = Consumes input input' buffer
 Fills (filled.Ended n) input input' buffer =
@@ -27,7 +27,7 @@ ReadsLength (Err Ended) input input' = Consumes input input' [] × IsAtEnd input
 ReadsLength (Err ReadFault) input input' = (part : List ℕ) × (length part < 4) × Consumes input input' part
 ReadsLength (Err end) input input' = ⊥
 
--- a content of so many bytes was not read: there was no memory, or it is cut
+-- a content of this many bytes was not read: there was no memory, or it is cut
 abbrev pub Lacks : Served → ℕ → Option (List ℕ) → Option (List ℕ) → Type 0
 Lacks Memory count input input' = Consumes input input' []
 Lacks ReadFault count input input' = (part : List ℕ) × (length part < count) × Consumes input input' part

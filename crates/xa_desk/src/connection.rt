@@ -25,9 +25,9 @@ pub const MOST_FRAMES: u32 = 4_294_967_295;
 #[derive(Drop)]
 enum Filled {
     Whole,
-    /// The input ended after so many bytes.
+    /// The input ended after this many bytes.
     Ended(usize),
-    /// A read failed after so many bytes.
+    /// A read failed after this many bytes.
     Fault(usize),
 }
 
@@ -65,7 +65,7 @@ fn is_too_long(length: u32) -> bool
     length as usize > MOST_CONTENT
 }
 
-/// The reply where decoding found no memory.
+/// The reply if decoding found no memory.
 fn without_memory() -> Reply
     ensures reply { result ≡ without_memory }
     ensures limits { IsReply result }
@@ -73,7 +73,7 @@ fn without_memory() -> Reply
     Reply::detailed(XAER_RMFAIL, Detail::Memory)
 }
 
-/// Makes these bytes the frame of a reply, in place of what they were. Takes no memory where there is room for it.
+/// Makes these bytes the frame of a reply, in place of what they were. Takes no memory if there is room for it.
 pub fn make_frame(bytes: &mut Vec<u8>, reply: &Reply) -> Result<(), AllocError>
     requires { IsReply reply.now }
     ensures { OnOk result (bytes.new.items ≡ reply_frame reply.now) }
@@ -103,7 +103,7 @@ fn frame_of(alloc: Global, reply: &Reply) -> Result<Vec<u8>, AllocError>
     Ok(frame)
 }
 
-// Writes the frame of a reply. An end is want of memory or a write that failed.
+// Writes the frame of a reply. An end is lack of memory or a failed write.
 fn send<W: Write>(alloc: Global, writer: &mut W, reply: &Reply) -> Result<(), Served>
     requires { IsReply reply.now }
     ensures { Sends result (reply_frame reply.now) (W.contents writer.old) (W.contents writer.new) }
@@ -116,7 +116,7 @@ fn send<W: Write>(alloc: Global, writer: &mut W, reply: &Reply) -> Result<(), Se
     }
 }
 
-// The content of a frame. An end is want of memory or a content that is cut.
+// The content of a frame. An end is lack of memory or a content that is cut.
 fn read_content<R: Read>(alloc: Global, reader: &mut R, count: usize) -> Result<Vec<u8>, Served>
     ensures read { IfOk result (λ v. (length v.items ≡ count)
         × Consumes (R.remaining reader.old) (R.remaining reader.new) v.items) }
@@ -129,7 +129,7 @@ fn read_content<R: Read>(alloc: Global, reader: &mut R, count: usize) -> Result<
     }
 }
 
-// Reads a frame and answers it. An end, or Ok where it goes on.
+// Reads a frame and answers it. An end, or Ok if it goes on.
 fn exchange<D: Door, R: Read, W: Write>(
     alloc: Global,
     door: &mut D,
@@ -152,7 +152,7 @@ fn exchange<D: Door, R: Read, W: Write>(
 }
 
 /// The reply to a content: the door's, how it is doing, or one to a content that has a fault or couldn't be decoded for
-/// want of memory.
+/// lack of memory.
 pub fn answer<D: Door>(alloc: Global, door: &mut D, session: u64, content: &[u8]) -> Reply
     ensures answers { Answers (D.called session) door.old content.now result door.new }
     ensures limits { IsReply result }
@@ -165,7 +165,7 @@ pub fn answer<D: Door>(alloc: Global, door: &mut D, session: u64, content: &[u8]
     }
 }
 
-// Answers frames, so many at most. An end, or Ok behind the last of them.
+// Answers frames, `most` of them at most. An end, or Ok after the last of them.
 fn converse<D: Door, R: Read, W: Write>(
     alloc: Global,
     door: &mut D,
@@ -184,14 +184,14 @@ fn converse<D: Door, R: Read, W: Write>(
     Ok(())
 }
 
-/// Serves a session on a connection until it ends, and hangs the session up, always and once. Behind so many frames it
+/// Serves a session on a connection until it ends, and hangs the session up, always and once. After `most` frames it
 /// ends with `ReadFault`, and reads no further.
 ///
-/// Of each frame it reads the length and then the content, each by one read where the reader gives all that is asked,
-/// and nothing beyond: what stands behind the last frame or behind a length above `MOST_CONTENT` is left in the reader.
+/// Of each frame it reads the length and then the content, each by one read if the reader gives all that is asked,
+/// and nothing beyond: what stands after the last frame or after a length above `MOST_CONTENT` is left in the reader.
 /// So the caller may hand in a reader with a buffer. The frame of each reply is handed to the writer whole, and again
-/// only where the writer took a part. A read that fails ends the connection, whatever its error, and so does a write
-/// that fails, unless it was interrupted: then it is asked again.
+/// only if the writer took a part. A read that fails ends the connection, whatever its error, and so does a write
+/// that fails, unless it was interrupted: then it is retried.
 pub fn serve_upto<D: Door, R: Read, W: Write>(
     alloc: Global,
     door: &mut D,

@@ -14,7 +14,7 @@ pub enum Served {
     WriteFault,
     /// A frame's length was above `MOST_CONTENT`.
     TooLong,
-    /// A buffer or a reply's bytes found no memory.
+    /// There was no memory for a buffer or a reply's bytes.
     Memory,
 }
 

@@ -2,7 +2,7 @@
 use Rattle.std.specs.Prelude.{ℕ, ◌+◌, ◌-◌, ◌^◌, min}
 use Rattle.xa_disk.specs.declared.counts.Counts.{Counts}
 
--- the greatest count, where each stays: the greatest u64
+-- the greatest count, at which each stops: the greatest u64
 abbrev pub top : ℕ
 top = 2 ^ 64 - 1
 
@@ -15,7 +15,7 @@ no_calls = record { lengths = 0; reads = 0; read_bytes = 0; writes = 0; syncs = 
 abbrev pub with_length : Counts → Counts
 with_length c = record c { lengths = plus c.lengths 1 }
 
--- a read of so many bytes
+-- a read of this many bytes
 abbrev pub with_read : ℕ → Counts → Counts
 with_read bytes c = record c { reads = plus c.reads 1; read_bytes = plus c.read_bytes bytes }
 

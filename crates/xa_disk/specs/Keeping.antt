@@ -5,13 +5,13 @@ use Rattle.xa_disk.specs.declared.call.Call.{Call}
 use Rattle.xa_disk.specs.declared.call.Call.TheVariants.{Write, Sync}
 use Rattle.xa_disk.specs.Replay.{replay}
 
--- the calls behind the last sync, where these were made since one before
+-- the calls after the last sync, if these were made since one before
 abbrev pub unsynced : List Call → List Call → List Call
 unsynced since [] = since
 unsynced since (Write at bytes ∷ calls) = unsynced (since ++ Write at bytes ∷ []) calls
 unsynced since (Sync ∷ calls) = unsynced [] calls
 
--- how many bytes they wrote, where repeated writes of one place count each time
+-- how many bytes they wrote; repeated writes of one place count each time
 abbrev pub written_bytes : List Call → ℕ
 written_bytes [] = 0
 written_bytes (Write at bytes ∷ calls) = length bytes.items + written_bytes calls

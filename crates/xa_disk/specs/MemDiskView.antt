@@ -12,7 +12,7 @@ pub record MemDiskView : Type 0 where
   pub calls : List Call
   -- what a read gives
   pub bytes : List ℕ
-  -- which device calls from now on are to fail
+  -- which device calls from now on will fail
   pub faults : Faults
   -- how many faults there were
   pub failures : ℕ

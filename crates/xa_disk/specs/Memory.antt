@@ -33,13 +33,13 @@ pub record Stays (old new : MemDiskView) : Type 0 where
   pub failures : new.failures ≡ old.failures
   pub counts : new.counts ≡ old.counts
 
--- one write more, with its effect; no crash leaves it for sure
+-- one more write, with its effect; no crash leaves it for sure
 pub record Wrote (old new : MemDiskView) (at : ℕ) (bytes : List ℕ) : Type 0 where
   pub first : new.first ≡ old.first
   pub noted : (v : Vec ℕ Global) × (v.items ≡ bytes) × (new.calls ≡ old.calls ++ Write at v ∷ [])
   pub bytes_are : new.bytes ≡ put old.bytes at bytes
 
--- one sync more, with its effect
+-- one more sync, with its effect
 pub record Synced (old new : MemDiskView) : Type 0 where
   pub first : new.first ≡ old.first
   pub noted : new.calls ≡ old.calls ++ Sync ∷ []
@@ -55,7 +55,7 @@ pub record SameCounts (old new : MemDiskView) : Type 0 where
   pub failures : new.failures ≡ old.failures
   pub counts : new.counts ≡ old.counts
 
--- what the k-th device call from now will do, where it is planned to fail
+-- what the k-th device call from now will do, if it is planned to fail
 abbrev pub planned : MemDiskView → ℕ → Option Effect
 planned disk k = planned_in disk.faults k
 
@@ -63,7 +63,7 @@ planned disk k = planned_in disk.faults k
 abbrev pub stops : MemDiskView → ℕ → Bool
 stops disk k = stops_in disk.faults k
 
--- one plan more, which holds where no stop covers its call
+-- one more plan, which counts if no stop covers its call
 pub record Adds (k : ℕ) (effect : Effect) (old new : MemDiskView) : Type 0 where
   pub calls : (j : ℕ) → planned new j ≡ (if k == j && not (stops old j) then Some effect else planned old j)
   pub stopped : (j : ℕ) → stops new j ≡ stops old j
@@ -106,7 +106,7 @@ pub record Crashes (old new : MemDiskView) : Type 0 where
   pub failures : new.failures ≡ old.failures
   pub counts : new.counts ≡ old.counts
 
--- the same, where of the bytes written since the last sync the first k stay too, which are all of them where k is above
+-- the same, if of the bytes written since the last sync the first k stay too, which are all of them if k is above
 pub record CrashesKeeping (k : ℕ) (old new : MemDiskView) : Type 0 where
   pub seen : new.bytes ≡ kept old.first old.calls k
   pub all : written_bytes (unsynced [] old.calls) < k → new.bytes ≡ old.bytes

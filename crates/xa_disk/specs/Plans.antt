@@ -26,6 +26,6 @@ stops_at (Some first) k = nat_le first k
 abbrev pub stops_in : Faults → ℕ → Bool
 stops_in faults k = stops_at faults.stopped k
 
--- what the k-th device call from now will do, where it is planned to fail: a stop holds over a plan
+-- what the k-th device call from now will do, if it is planned to fail: a stop overrides a plan
 abbrev pub planned_in : Faults → ℕ → Option Effect
 planned_in faults k = if stops_in faults k then Some Lost else due faults.plans.items k

@@ -4,13 +4,13 @@ use Rattle.std.specs.Prelude.{ℕ, List}
 pub data RawCall : Type 0 where
   -- how many bytes it has
   Measures : RawCall
-  -- so many bytes are read from an offset on
+  -- this many bytes are read from an offset on
   Gets : (at count : ℕ) → RawCall
   -- these bytes are written at an offset
   Puts : (at : ℕ) (bytes : List ℕ) → RawCall
-  -- it is cut to so many bytes
+  -- it is cut to this many bytes
   Cuts : (to : ℕ) → RawCall
-  -- what was written is made to last
+  -- what was written is made durable
   Syncs : RawCall
-  -- the answer is taken of a sync by a handle of the file, made behind the last write
+  -- the answer of a sync by a handle of the file, made after the last write, is taken
   Takes : RawCall

@@ -5,7 +5,7 @@ use Rattle.xa_disk.specs.Disk.{put, Torn}
 use Rattle.xa_disk.specs.declared.call.Call.{Call}
 use Rattle.xa_disk.specs.declared.call.Call.TheVariants.{Write, Sync}
 
--- What a disk held at first: its bytes now, where no write has changed them.
+-- What a disk held at first: its bytes now, if no write has changed them.
 abbrev pub first_of : Option (Vec ℕ Global) → List ℕ → List ℕ
 first_of None bytes = bytes
 first_of (Some first) bytes = first.items
@@ -48,7 +48,7 @@ IsImage s c = Reaches s.stable s.pending c
 abbrev pub LeftSince : List ℕ → List Call → ℕ → List ℕ → Type 0
 LeftSince first calls t c = (k : ℕ) × (t ≤ k) × (k ≤ length calls) × IsImage (replay first (take k calls)) c
 
--- law: one call more
+-- law: one more call
 pub replay_more : (s : Now) (calls : List Call) (call : Call)
     → replay_from s (calls ++ call ∷ []) ≡ after call (replay_from s calls)
 replay_more s [] call = refl

@@ -4,7 +4,7 @@ ghost use Rattle.xa_disk.specs.Disk.{put, Reads};
 
 use std::alloc::AllocError;
 
-// Zeros behind the end, up to a length.
+// Zeros after the end, up to a length.
 fn grow(bytes: &mut Vec<u8>, len: usize) -> Result<(), AllocError>
     ensures ok { OnOk result (bytes.new.items ≡ bytes.old.items ++ replicate (len - length bytes.old.items) 0) }
     ensures err { OnErr result (bytes.new.items ≡ bytes.old.items) }
@@ -35,7 +35,7 @@ pub(crate) fn put_bytes(bytes: &mut Vec<u8>, at: u64, from: &[u8]) -> Result<(),
     Ok(())
 }
 
-// Fills `into` from an offset on, where there are so many bytes, and tells whether there are.
+// Fills `into` from an offset on, if there are that many bytes, and returns whether there are.
 pub(crate) fn read_bytes(bytes: &[u8], at: u64, into: &mut [u8]) -> bool
     ensures within { IsTrue result ↔ at + length into.old ≤ length bytes.now }
     ensures value { IsTrue result → Reads bytes.now at into.new }

@@ -65,7 +65,7 @@ fn replayed(alloc: Global, first: &[u8], calls: &[Call]) -> Result<Vec<u8>, Allo
     Ok(bytes)
 }
 
-// Writes the first k bytes of a range, or all of it, and gives how many may be written behind it.
+// Writes the first k bytes of a range, or all of it, and returns how many may be written after it.
 fn write_front(bytes: &mut Vec<u8>, at: u64, from: &[u8], k: u64) -> Result<u64, AllocError>
     ensures left { IfOk result (λ left. left ≡ k - length from.now) }
     ensures front { OnOk result (bytes.new.items ≡ put_front k bytes.old.items at from.now) }

@@ -1,7 +1,7 @@
 ghost use Rattle.std.specs.Prelude.{◌≡◌};
 ghost use Rattle.xa_disk.specs.Counts.{no_calls, with_length, with_read, with_write, with_sync};
 
-/// How many device calls a disk was asked for, failed or not, by kind. Each number stays at 2^64 - 1.
+/// How many device calls a disk was asked for, failed or not, by kind. Each number stops at 2^64 - 1.
 #[derive(Clone, Copy, Debug)]
 pub struct Counts {
     pub lengths: u64,

@@ -20,7 +20,7 @@ pub struct DiskFault;
 /// succeeds leaves what a read gives. A write that fails may have changed any bytes of its range and of a gap
 /// before it; a sync that fails may have made any part stable; a read or a length that fails changes nothing.
 ///
-/// The ghost members are what these words speak of. Where `honest` doesn't hold of a type, its clauses promise
+/// The ghost members are what these words speak of. If `honest` doesn't hold of a type, its clauses promise
 /// only the counts of calls and of failures.
 pub trait Disk {
     /// The clauses on values hold of this type of disk.
@@ -41,13 +41,13 @@ pub trait Disk {
     /// What a write of these bytes at this offset that fails may leave to a read, from what a read gave before.
     ghost tears: { List ℕ → ℕ → List ℕ → List ℕ → Type 0 };
 
-    /// How many calls have failed. Each fault adds one, and nothing else does; at 2^64 - 1 it stays.
+    /// How many calls have failed. Each fault adds one, and nothing else does; at 2^64 - 1 it stops.
     ghost failures: { Self → ℕ };
 
     /// How many calls were made, failed or not. Each call adds itself, and nothing else does.
     ghost counts: { Self → Counts };
 
-    /// Each disk of this type cuts its file where that is asked of it.
+    /// Each disk of this type cuts its file if it is asked to.
     ghost shortens: { Type 0 };
 
     /// How many bytes a read can give.
@@ -89,8 +89,8 @@ pub trait Disk {
         ensures calls { counts self.new ≡ with_sync (counts self.old) }
         ensures count { CountsFault result (failures self.old) (failures self.new) };
 
-    /// May cut what a read gives to so many bytes, or leave it as it is: whether it did. Until a sync, a crash may leave
-    /// either, or a length between. It is no device call, and no failure where it isn't done.
+    /// May cut what a read gives to `to` bytes, or leave it as it is: returns whether it did. Until a sync, a crash may
+    /// leave either, or a length between. It is no device call, and no failure if it isn't done.
     fn shorten(&mut self, to: u64) -> bool
         ensures cut { honest → seen self.new ≡ (if result then take to (seen self.old) else seen self.old) }
         ensures time { honest → Passes (Cut to) (moment self.old) (moment self.new)
@@ -106,7 +106,7 @@ pub trait Disk {
     fn syncer(&self) -> Syncer
         ensures { its_syncer self.now result };
 
-    /// Takes what a syncer of this disk was answered: as `sync`, which it makes itself where that isn't a sync of all that
+    /// Takes what a syncer of this disk was answered: as `sync`, which it makes itself if that isn't a sync of all that
     /// was written. A sync that failed is one that fails here, whenever it was made and of whichever disk.
     fn take_sync(&mut self, answer: SyncAnswer) -> Result<(), DiskFault>
         ensures durable { honest → OnOk result (Only (seen self.old) (may_leave self.new)) }
@@ -117,8 +117,8 @@ pub trait Disk {
         ensures count { CountsFault result (failures self.old) (failures self.new) }
         ensures failed { HasFailed answer → IsErr result };
 
-    /// Takes what a syncer of this disk was answered, where its sync is no call of the disk: were it lost, an error of it
-    /// would be, too. Nothing else changes.
+    /// Takes what a syncer of this disk was answered, if its sync is no call of the disk: if it were lost, an error of it
+    /// would be lost, too. Nothing else changes.
     fn leave_sync(&mut self, answer: SyncAnswer)
         ensures same { honest → seen self.new ≡ seen self.old }
         ensures time { honest → Passes Same (moment self.old) (moment self.new)

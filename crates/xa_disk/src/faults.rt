@@ -4,7 +4,7 @@ ghost use Rattle.xa_disk.specs.Plans.{stops_at, stops_in, planned_in};
 use crate::plan::{Effect, Plan, take_due};
 use std::alloc::{AllocError, Global};
 
-/// Which device calls from now on are to fail: single ones, and each from some call on.
+/// Which device calls from now on will fail: single ones, and each from some call on.
 #[derive(Debug, Drop)]
 pub(crate) struct Faults {
     plans: Vec<Plan>,
@@ -46,7 +46,7 @@ impl Faults {
         }
     }
 
-    // Of two plans for one call the later one holds, and over both a stop.
+    // Of two plans for one call the later one counts, and a stop overrides both.
     pub(crate) fn plan(&mut self, k: u64, effect: Effect) -> Result<(), AllocError>
         ensures planned { OnOk result ((j : ℕ) → planned_in self.new j
             ≡ (if k == j && not (stops_in self.old j) then Some effect else planned_in self.old j)) }
@@ -57,7 +57,7 @@ impl Faults {
         Ok(())
     }
 
-    // Of two stops the earlier one holds.
+    // Of two stops the earlier one counts.
     pub(crate) fn stop(&mut self, k: u64)
         ensures planned { (j : ℕ)
             → planned_in self.new j ≡ (if nat_le k j then Some Effect.Lost else planned_in self.old j) }

@@ -1,8 +1,8 @@
 //! A disk that is a file.
 //!
-//! Each call of a `Disk` is exactly one call of the file, with its arguments; behind a sync that failed each further sync,
-//! read and length fails, and is none. So the disk keeps what the trait says where its file does. No contract can say what
-//! the system does: of `HostFile`, whose calls are the system's, that is a premise of whoever rests on it. The code above a
+//! Each call of a `Disk` is exactly one call of the file, with its arguments; after a sync that failed each further sync,
+//! read and length fails, and makes none. So the disk keeps what the trait says if its file does. No contract can say what
+//! the system does: of `HostFile`, whose calls are the system's, that is a premise of whoever relies on it. The code above a
 //! `Disk` is generic, so it is the same code that is proved over each honest disk.
 ghost use Rattle.std.specs.Prelude.{◌≡◌, ◌≢◌, ◌≤◌, ◌∷◌, true, false, None, if◌then◌else◌, length, take, IfOk, OnOk, OnErr, IsErr, MatchResult};
 ghost use Rattle.xa_disk.specs.Counts.{no_calls, with_length, with_read, with_write, with_sync};
@@ -18,15 +18,15 @@ use crate::{Disk, DiskFault, FileCall, FileFault, HostFile, RawFile};
 use std::fs::File;
 use std::io;
 
-/// A disk that is a file, with counts of its calls and of those that failed. While it is there no other
-/// `FileDisk` writes to the file, in this process or another. The first call that fails is told on standard error.
+/// A disk that is a file, with counts of its calls and of those that failed. While it exists no other
+/// `FileDisk` writes to the file, in this process or another. The first call that fails is reported on standard error.
 #[derive(Debug, Drop)]
 pub struct FileDisk<F: RawFile = HostFile> {
     file: F,
     tally: Tally,
-    // A sync has failed. The system may have dropped what that one was to write, so a later one that succeeds would
-    // say nothing of it. Reads may give these bytes though a crash loses them, or not give them: it stays so until the
-    // file is opened anew.
+    // A sync has failed. The system may have dropped what that one should have written, so a later one that succeeds would
+    // say nothing of it. Reads may give these bytes though a crash loses them, or not give them: that stays so until the
+    // file is reopened.
     unsynced: bool,
     ghost whole: { unsynced ≡ false → F.is_whole file ≡ true },
 }
@@ -45,8 +45,8 @@ impl FileDisk<HostFile> {
     }
 
     /// The regular file at a path, or that a link there leads to, locked for this disk alone until it is dropped. One that
-    /// isn't there is created, readable and writable by its owner alone, but not behind a link. It is synced, and so are its
-    /// entry in its folder and the link's; the system is told to drop what it keeps of it in memory, so that reads give
+    /// isn't there is created, readable and writable by its owner alone, but not behind a link. It is synced, and so are
+    /// its directory entry and the link's; the system is told to drop what it keeps of it in memory, so that reads give
     /// what the medium has.
     pub fn open(rt: &HostRuntime, path: &str) -> Result<FileDisk, FileFault>
         ensures failures { IfOk result (λ disk. disk.tally.failures ≡ 0) }
@@ -59,7 +59,7 @@ impl FileDisk<HostFile> {
     }
 
     /// The regular file at a path, for reads: each write fails. It may be one that can't be written. Nothing is
-    /// created. `InUse` where a disk that writes has it; where the file can't be locked, that isn't known. It is synced, and
+    /// created. `InUse` if a disk that writes has it; if the file can't be locked, that isn't known. It is synced, and
     /// dropped from memory, as `open` does.
     pub fn for_reading(rt: &HostRuntime, path: &str) -> Result<FileDisk, FileFault>
         ensures failures { IfOk result (λ disk. disk.tally.failures ≡ 0) }
@@ -84,7 +84,7 @@ impl FileDisk<HostFile> {
 }
 
 impl<F: RawFile + Drop> FileDisk<F> {
-    /// A disk on a file that was opened at a path, which is told with its faults.
+    /// A disk on a file that was opened at a path, which is reported with its faults.
     pub fn on(rt: &HostRuntime, path: &str, file: F) -> Result<FileDisk<F>, FileFault>
         requires { F.is_whole file ≡ true }
         ensures file { IfOk result (λ disk. disk.file ≡ file) }
@@ -103,7 +103,7 @@ impl<F: RawFile + Drop> FileDisk<F> {
         })
     }
 
-    /// What the system said of the first call that failed, as that there is no space; `None` where none has.
+    /// What the system said of the first call that failed, such as that there is no space; `None` if none has.
     pub fn error(&self) -> Option<io::Error>
         ensures { result ≡ self.now.tally.error }
     {
@@ -137,7 +137,7 @@ fn try_sync<F: RawFile>(file: &mut F, unsynced: bool, answer: SyncAnswer) -> io:
     }
 }
 
-// Takes what a sync was answered. Where that isn't one of all that was written to this file, the file is synced: that
+// Takes what a sync was answered. If that isn't one of all that was written to this file, the file is synced: that
 // fails, too, if the other one has.
 fn take_told<F: RawFile>(file: &mut F, told: Told) -> io::Result<()>
     requires { F.is_whole file.old ≡ true }
@@ -284,7 +284,7 @@ impl<F: RawFile> Disk for FileDisk<F> {
         self.take_sync(SyncAnswer::none())
     }
 
-    // The system may keep the file as it is, as one that can't be cut: that is told nobody, since it costs room alone.
+    // The system may keep the file as it is, as one that can't be cut: nobody is told, since that only costs space.
     fn shorten(&mut self, to: u64) -> bool
         ensures cut { F.honest
             → F.seen self.new.file ≡ (if result then take to (F.seen self.old.file) else F.seen self.old.file) }
@@ -310,7 +310,7 @@ impl<F: RawFile> Disk for FileDisk<F> {
             (F.left_since self.old.file) (F.left_since self.new.file)
             (F.may_leave self.old.file) (F.may_leave self.new.file) }
         ensures none { F.recorded → self.old.unsynced ≡ true → F.calls self.new.file ≡ F.calls self.old.file }
-        // The answer of the sync that is due is taken, and of no other: behind another one the file is synced.
+        // The answer of the sync that is due is taken, and of no other: after another one the file is synced.
         ensures takes { F.recorded → self.old.unsynced ≡ false
             → IsDueSync answer (F.file self.old.file) (F.written self.old.file)
             → F.calls self.new.file ≡ Takes ∷ F.calls self.old.file }

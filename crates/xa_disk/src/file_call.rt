@@ -1,6 +1,6 @@
 use std::fmt;
 
-/// A call of the system on a file, or on its folder. Its text is the call's name in POSIX.
+/// A call of the system on a file, or on its directory. Its text is its name in POSIX.
 #[derive(Clone, Copy, Debug, PartialEq, Eq)]
 pub enum FileCall {
     Open,

@@ -11,7 +11,7 @@ pub enum FileFault {
     /// Another disk has it, of this process or of another.
     #[error("in use")]
     InUse,
-    /// It is a folder, a device, a pipe or a socket.
+    /// It is a directory, a device, a pipe or a socket.
     #[error("no regular file")]
     Irregular,
     /// It isn't there, and the other one of its log has records: so it was removed, and none is made in its place.

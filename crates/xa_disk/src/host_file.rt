@@ -1,7 +1,7 @@
 //! The calls of the system.
 //!
 //! No contract can say what a file holds, nor which calls a library makes of the system: `honest` and `recorded` are no
-//! facts of this type, and that it keeps the clauses is a premise of whoever rests on them. Each call is a line here.
+//! facts of this type, and that it keeps the clauses is a premise of whoever relies on them. Each call is a line here.
 ghost use Rattle.std.specs.Prelude.{◌≡◌, [], refl, true};
 ghost use Rattle.xa_disk.specs.Images.{torn_by_nothing};
 
@@ -102,7 +102,7 @@ impl RawFile for HostFile {
         self.file.write_all_at(from, at)
     }
 
-    // Only where it is longer: the system's call would make it as long otherwise.
+    // Only if it is longer: otherwise the system's call would extend it.
     fn shorten(&mut self, to: u64) -> bool {
         self.writes = self.writes.saturating_add(1);
         match self.file.metadata() {
@@ -129,7 +129,7 @@ impl RawFile for HostFile {
     }
 }
 
-/// Shows the name alone.
+/// Shows only the name.
 impl fmt::Debug for HostFile {
     fn fmt<W: fmt::Write>(&self, f: &mut fmt::Formatter<W>) -> fmt::Result {
         f.debug_struct("HostFile").finish_non_exhaustive()

@@ -5,8 +5,8 @@
 //! - `counts`: `Counts`, how many device calls of each kind a disk was asked for
 //! - `memory`: `MemDisk`, of which all of that is proved; with `call` (the record of its writes and syncs) and `bytes`
 //!   (the bytes alone)
-//! - `faults`: which calls of a `MemDisk` are to fail; `plan`: a single one of them, and with which `Effect`
-//! - `file`: `FileDisk`, a file, which is a disk where its `RawFile` is; with `tally` (its counts) and `teller` (what
+//! - `faults`: which calls of a `MemDisk` will fail; `plan`: a single one of them, and with which `Effect`
+//! - `file`: `FileDisk`, a file, which is a disk if its `RawFile` is; with `tally` (its counts) and `teller` (what
 //!   tells its first fault)
 //! - `raw_file`: the trait `RawFile`, the calls on an open file; `host_file`: `HostFile`, the system's
 //! - `syncer`: `Syncer`, which makes a sync while others use the disk, and `SyncAnswer`, what it was answered, if it was made:

@@ -44,7 +44,7 @@ fn keep_first(first: &mut Option<Vec<u8>>, bytes: &[u8], alloc: Global) -> Resul
     Ok(())
 }
 
-// What a disk held at first: its bytes now, where no write has changed them.
+// What a disk held at first: its bytes now, if no write has changed them.
 fn held_first<'a>(first: &'a Option<Vec<u8>>, bytes: &'a [u8]) -> &'a [u8]
     ensures { result.now ≡ first_of first.now bytes.now }
 {
@@ -79,8 +79,8 @@ impl MemDisk {
         }
     }
 
-    /// Plans that the k-th device call from now fails, where 1 is the next one. Of two plans for one call the
-    /// later one holds, and over both a stop. Nothing else changes.
+    /// Plans that the k-th device call from now fails; 1 is the next one. Of two plans for one call the
+    /// later one counts, and a stop overrides both. Nothing else changes.
     pub fn fail(&mut self, k: u64, effect: Effect) -> Result<(), AllocError>
         ensures planned { OnOk result (Adds k effect self.old self.new) }
         ensures err { OnErr result (SamePlans self.old self.new) }
@@ -90,7 +90,7 @@ impl MemDisk {
     }
 
     /// From the k-th device call from now on each fails and has no effect, until a crash. Of two stops the earlier
-    /// one holds. Nothing else changes.
+    /// one counts. Nothing else changes.
     pub fn stop(&mut self, k: u64)
         ensures planned { Stops k self.old self.new }
         ensures same { Stays self.old self.new }
@@ -98,7 +98,7 @@ impl MemDisk {
         self.faults.stop(k);
     }
 
-    /// A crash: the plans are gone, a stop, and all that no sync made stable. Moments count from 0 again.
+    /// A crash: the plans and a stop are gone, and all that no sync made stable. Moments count from 0 again.
     pub fn crash(&mut self) -> Result<(), AllocError>
         ensures ok { OnOk result (Crashes self.old self.new) }
         ensures err { OnErr result (self.new ≡ self.old) }

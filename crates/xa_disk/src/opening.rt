@@ -7,7 +7,7 @@ use std::os::fd::AsRawFd;
 use std::os::unix::fs::OpenOptionsExt;
 use std::path::Path;
 
-// With what the file of a log begins, by its format.
+// What the file of a log begins with, by its format.
 const LOG_NAMES: [&[u8; 8]; 2] = [b"XARMLOG1", b"XARMLOG2"];
 
 // What a call answered, or that it failed.
@@ -18,7 +18,7 @@ fn called<T: Drop>(call: FileCall, answer: io::Result<T>) -> Result<T, FileFault
     }
 }
 
-// Has the system let go of what it keeps of a file in memory. It answers the error's number.
+// Has the system drop what it keeps of a file in memory. It returns the error's number.
 fn drop_pages(file: &File) -> io::Result<()> {
     match libc::posix_fadvise(file.as_raw_fd(), 0, 0, libc::POSIX_FADV_DONTNEED) {
         0 => Ok(()),
@@ -26,28 +26,28 @@ fn drop_pages(file: &File) -> io::Result<()> {
     }
 }
 
-// Has reads give what is on the medium. Where a sync had failed, or was still waited for when its process was killed, the
+// Has reads give what is on the medium. If a sync had failed, or was still waited for when its process was killed, the
 // system may keep pages that it couldn't write, and marks them as written: reads would give them, and no later sync write
-// them. The sync comes first, since a page that is still to be written isn't let go.
+// them. The sync comes first, since a page that is still to be written isn't dropped.
 fn settle(file: &File) -> Result<(), FileFault> {
     called(FileCall::SyncAll, file.sync_all())?;
     called(FileCall::Advise, drop_pages(file))
 }
 
-// Makes the entries of the folder that a path is in last.
+// Makes the entries of the directory that a path is in durable.
 fn sync_folder(rt: &HostRuntime, path: &str) -> io::Result<()> {
     let folder = match Path::new(path).parent() {
         Some(folder) if !folder.as_str().is_empty() => folder,
         _ => Path::new("."),
     };
     match File::open(rt, folder)?.sync_all() {
-        // The file system has no such call for folders, so nothing else can be asked of it. PostgreSQL and LevelDB go on, too.
+        // The file system has no such call for directories, and no other one serves. PostgreSQL and LevelDB go on, too.
         Err(error) if error.kind() == ErrorKind::InvalidInput => Ok(()),
         synced => synced,
     }
 }
 
-// Makes a file's name last: of a link its own, and that of the file that it leads to.
+// Makes a file's name durable: of a link its own, and that of the file that it leads to.
 fn sync_names(rt: &HostRuntime, path: &str) -> io::Result<()> {
     sync_folder(rt, path)?;
     if fs::symlink_metadata(rt, path)?.is_symlink() {
@@ -57,7 +57,7 @@ fn sync_names(rt: &HostRuntime, path: &str) -> io::Result<()> {
     Ok(())
 }
 
-// The file at a path, for reading and writing; a new one is its owner's alone. None is made behind a link: where it leads
+// The file at a path, for reading and writing; a new one is its owner's alone. None is made behind a link: if it leads
 // nowhere, the volume of its file may not be there yet, and an empty file in its place would be taken for a new log's.
 fn opened(rt: &HostRuntime, path: &str) -> Result<File, FileFault> {
     let mut how = OpenOptions::new();
@@ -74,7 +74,7 @@ fn opened(rt: &HostRuntime, path: &str) -> Result<File, FileFault> {
     }
 }
 
-// The same, where it is a regular file that no other disk has.
+// The same, if it is a regular file that no other disk has.
 pub(crate) fn locked(rt: &HostRuntime, path: &str) -> Result<File, FileFault> {
     let file = opened(rt, path)?;
     if !called(FileCall::Length, file.metadata())?.is_file() {
@@ -86,12 +86,12 @@ pub(crate) fn locked(rt: &HostRuntime, path: &str) -> Result<File, FileFault> {
         Err(TryLockError::Error(error)) => return called(FileCall::Lock, Err(error)),
     }
     settle(&file)?;
-    // Each time: a file that was moved here from a backup has a name that no disk has made last.
+    // Each time: a file that was moved here from a backup has a name that no disk has made durable.
     called(FileCall::SyncFolder, sync_names(rt, path))?;
     Ok(file)
 }
 
-// The regular file at a path, for reading alone, where no disk writes to it. One that can't be locked is read as it is.
+// The regular file at a path, for reading alone, if no disk writes to it. One that can't be locked is read as it is.
 pub(crate) fn shared(rt: &HostRuntime, path: &str) -> Result<File, FileFault> {
     // Before it is opened, since that waits for the writer of a pipe.
     if !called(FileCall::Open, fs::metadata(rt, path))?.is_file() {

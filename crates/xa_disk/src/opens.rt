@@ -16,20 +16,20 @@ pub trait Opens {
     /// It was asked for the file at a path, by the path's bytes, and refused it for this reason.
     ghost refused: { List ℕ → FileFault → Type 0 };
 
-    /// The file at a path, one of a log's two, of which the other one is at the path `beside`. It is made if it isn't there,
-    /// unless the other one is a log: both are made before the first byte is written, so it was removed. No other disk may have
-    /// it.
+    /// The file at a path, one of a log's two, of which the other one is at the path `beside`. It is created if it isn't there,
+    /// unless the other one is a log: both are created before the first byte is written, so it was removed. No other disk may
+    /// have it.
     fn open_disk(&self, path: &str, beside: &str) -> Result<Self::Disk, FileFault>
         ensures opened { IfOk result (λ disk. opened disk path.now) }
         ensures refused { IfErr result (refused path.now) };
 
-    /// The file at a path, for reads. It isn't made, and no other disk that writes may have it.
+    /// The file at a path, for reads. It isn't created, and no other disk that writes may have it.
     fn read_disk(&self, path: &str) -> Result<Self::Disk, FileFault>
         ensures opened { IfOk result (λ disk. opened disk path.now) }
         ensures refused { IfErr result (refused path.now) };
 }
 
-/// Of a file a contract can't say more than that its disk had no failure yet, and of one that wasn't opened nothing.
+/// A contract can say of a file only that its disk had no failure yet, and nothing of one that wasn't opened.
 impl Opens for HostRuntime {
     ghost use Rattle.std.specs.Prelude.{◌≡◌};
 

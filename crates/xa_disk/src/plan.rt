@@ -1,13 +1,13 @@
-//! Device calls that are to fail.
+//! Device calls that are planned to fail.
 ghost use Rattle.std.specs.Prelude.{◌≡◌, ◌+◌, ◌≤◌, ℕ, map};
 ghost use Rattle.xa_disk.specs.Plans.{due, counted};
 
 /// What a device call that is planned to fail does all the same.
 #[derive(Clone, Copy, Debug, PartialEq, Eq)]
 pub enum Effect {
-    /// It has its effect, and answers a fault.
+    /// It has its effect, and returns a fault.
     Kept,
-    /// It has none, and answers a fault.
+    /// It has none, and returns a fault.
     Lost,
 }
 
@@ -40,7 +40,7 @@ fn count_down(plans: &mut [Plan])
     }
 }
 
-// Drops the plans whose calls are made.
+// Drops the plans whose calls have been made.
 fn drop_met(plans: &mut Vec<Plan>)
     ensures { (k : ℕ) → 1 ≤ k → due plans.new.items k ≡ due plans.old.items k }
 {

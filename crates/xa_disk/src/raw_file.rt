@@ -5,12 +5,12 @@ use std::io;
 
 /// The calls of the system on one open file that a disk is made of: each is made once, with these arguments.
 ///
-/// The ghost members are those of `Disk`, and the clauses on values say of a file what `Disk` says of a disk, where
-/// `honest` holds of the type. `calls` is the record of the calls, where `recorded` holds of the type.
+/// The ghost members are those of `Disk`, and the clauses on values say of a file what `Disk` says of a disk, if
+/// `honest` holds of the type. `calls` is the record of the calls, if `recorded` holds of the type.
 ///
-/// A sync that fails may have made the system give up what it was to write, and report that this once: reads may then give
+/// A sync that fails may have made the system give up what it should have written, and report that this once: reads may then give
 /// what was there before or what was written, each byte its own, and a sync that succeeds says nothing of it. So of a file
-/// of which a sync has failed no clause says what is read, nor what a sync has made last.
+/// of which a sync has failed no clause says what is read, nor what a sync has made durable.
 pub trait RawFile {
     ghost use Rattle.std.specs.Prelude.{◌≡◌, ◌≤◌, ◌∷◌, Bool, true, List, ℕ, length, IfOk, IfSome, OnOk, OnErr, take, if◌then◌else◌};
     ghost use Rattle.xa_disk.specs.Counts.{plus};
@@ -49,10 +49,10 @@ pub trait RawFile {
     /// Which file it is.
     ghost file: { Self → FileId };
 
-    /// Each file of this type is cut where that is asked of it.
+    /// Each file of this type is cut if that is asked of it.
     ghost shortens: { Type 0 };
 
-    /// How many writes and cuts were asked for, done or not; at 2^64 - 1 it stays.
+    /// How many writes and cuts were asked for, done or not; it stops at 2^64 - 1.
     ghost written: { Self → ℕ };
 
     fn id(&self) -> FileId
@@ -93,7 +93,7 @@ pub trait RawFile {
         ensures whole { is_whole self.old ≡ true → is_whole self.new ≡ true }
         ensures file { (file self.new ≡ file self.old) × (written self.new ≡ plus (written self.old) 1) };
 
-    /// Cuts the file to so many bytes, or leaves it as it is, as where it has no more: whether it was cut. Until a sync, a
+    /// Cuts the file to `to` bytes, or leaves it, for example if it has no more: whether it was cut. Until a sync, a
     /// crash may leave either, or a length between.
     fn shorten(&mut self, to: u64) -> bool
         ensures cut { honest → seen self.new ≡ (if result then take to (seen self.old) else seen self.old) }
@@ -114,11 +114,11 @@ pub trait RawFile {
         ensures whole { is_whole self.old ≡ true → OnOk result (is_whole self.new ≡ true) }
         ensures file { (file self.new ≡ file self.old) × (written self.new ≡ written self.old) };
 
-    /// A handle of this file, for a sync while others use it; None where its syncs are made here alone.
+    /// A handle of this file, for a sync while others use it; None if its syncs are made here alone.
     fn handle(&self) -> Option<HostHandle>
         ensures { IfSome result (λ handle. handle.id ≡ file self.now) };
 
-    /// Takes what a sync by a handle of this file was answered that was made behind the last write: as `sync`.
+    /// Takes the answer of a sync by a handle of this file, made after the last write: as `sync`.
     fn take_sync(&mut self, told: Told) -> io::Result<()>
         requires { IsDue told (file self.old) (written self.old) }
         ensures is { result ≡ told.answer }

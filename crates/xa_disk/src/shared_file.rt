@@ -17,10 +17,10 @@ pub trait SharedFile {
     /// Which file it is of.
     ghost file: { Self → FileId };
 
-    /// A sync by it was answered so: whether it succeeded.
+    /// A sync by it had this result: whether it succeeded.
     ghost answers: { Self → Bool → Type 0 };
 
-    /// Makes what was written to the file last.
+    /// Makes what was written to the file durable.
     fn sync(&self) -> io::Result<()>
         ensures { answers self.now (is_ok result) };
 

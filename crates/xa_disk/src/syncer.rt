@@ -6,20 +6,20 @@ use crate::shared_file::HostHandle;
 use crate::told::Told;
 use std::fmt;
 
-/// Makes the sync that is due of a disk's file. Whoever has it needn't have the disk: others may read it meanwhile, and a
-/// write is none of this sync's. It can't be let go: its sync is made.
+/// Makes the sync that is due of a disk's file. Who has it needn't have the disk: others may read it meanwhile, and a
+/// write is none of this sync's. It can't be dropped: its sync is made.
 pub struct Syncer {
-    /// None where the disk makes its syncs itself.
+    /// None if the disk makes its syncs itself.
     handle: Option<HostHandle>,
     /// How many writes there had been.
     writes: u64,
 }
 
 /// What a sync by a `Syncer` was answered. Its disk takes it (`Disk::take_sync`, `Disk::leave_sync`): the system may tell an
-/// error once, so one that is lost would be taken for none. So it can't be let go otherwise.
+/// error once, so one that is lost would be taken for none. So it can't be dropped otherwise.
 #[derive(Debug)]
 pub struct SyncAnswer {
-    /// None: the disk is to make the sync.
+    /// None: the disk has to make the sync.
     told: Option<Told>,
 }
 
@@ -34,14 +34,14 @@ impl Syncer {
         }
     }
 
-    /// One of a file to which there were so many writes.
+    /// One of a file to which there were this many writes.
     pub(crate) fn of(handle: Option<HostHandle>, writes: u64) -> Syncer
         ensures { (result.handle ≡ handle) × (result.writes ≡ writes) }
     {
         Syncer { handle, writes }
     }
 
-    /// Makes the sync. Its answer is one of that file, behind as many writes as there had been.
+    /// Makes the sync. Its answer is one of that file, after as many writes as there had been.
     pub fn sync(self) -> SyncAnswer
         ensures { IsAnswerOf self result }
     {
@@ -56,14 +56,14 @@ impl Syncer {
 }
 
 impl SyncAnswer {
-    /// None: the disk is to make the sync.
+    /// None: the disk has to make the sync.
     pub fn none() -> SyncAnswer
         ensures { result.told ≡ None }
     {
         SyncAnswer { told: None }
     }
 
-    /// What was told, where a sync was made.
+    /// What was told, if a sync was made.
     pub(crate) fn into_told(self) -> Option<Told>
         ensures { result ≡ self.told }
     {

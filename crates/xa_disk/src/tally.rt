@@ -6,7 +6,7 @@ use crate::{Counts, DiskFault, FileCall};
 use std::alloc::AllocError;
 use std::io;
 
-/// How many calls a disk was asked for and how many of them failed, of which the first is told on standard error.
+/// How many calls a disk was asked for and how many failed, of which the first is reported on standard error.
 #[derive(Debug, Drop)]
 pub(crate) struct Tally {
     pub failures: u64,
@@ -29,7 +29,7 @@ impl Tally {
         })
     }
 
-    // Answers a call. One that failed is counted, and the first one's error is told and kept.
+    // Answers a call. One that failed is counted, and the first one's error is reported and kept.
     pub(crate) fn answer<T: Drop>(
         &mut self,
         call: FileCall,
@@ -51,7 +51,7 @@ impl Tally {
         }
     }
 
-    // Tells an error and keeps it, if it is the first.
+    // Reports an error and keeps it, if it is the first.
     fn keep(&mut self, call: FileCall, error: io::Error)
         ensures some { self.new.error ≢ None }
         ensures first { self.old.error ≢ None → self.new.error ≡ self.old.error }

@@ -19,7 +19,7 @@ abbrev pub ◌>>=◌ : {A B F : Type 0} → Result A F → (A → Result B F) �
 abbrev pub Reads : Type 0 → Type 0
 Reads A = List ℕ → Result (A × List ℕ) FieldFault
 
--- so many bytes
+-- this many bytes
 abbrev pub bytes_at : ℕ → Reads (List ℕ)
 bytes_at n bytes = if nat_lt (length bytes) n then Err Cut else Ok (take n bytes, drop n bytes)
 

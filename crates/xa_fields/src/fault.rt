@@ -3,6 +3,6 @@
 pub enum FieldFault {
     /// Its length, or what that announces, is cut.
     Cut = 1,
-    /// It is out of its limits, or no XID.
+    /// It is outside its limits, or no XID.
     Limit = 2,
 }

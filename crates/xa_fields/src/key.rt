@@ -25,7 +25,7 @@ impl Model for Key {
 }
 
 impl Key {
-    /// A key of these bytes; `None` where they are none, or more than `MOST_KEY`. Takes no memory.
+    /// A key of these bytes; `None` if there are none, or more than `MOST_KEY`. Takes no memory.
     pub fn new(bytes: &[u8]) -> Option<Key>
         ensures key { IfSome result (λ k. k ≡ bytes.now) }
         ensures valid { IsSome result ↔ IsKey bytes.now }
@@ -36,7 +36,7 @@ impl Key {
         Some(held(bytes))
     }
 
-    /// The key behind its length of one byte, and what stands after it. Takes no memory.
+    /// The key after its length of one byte, and what stands after it. Takes no memory.
     pub fn take(bytes: &[u8]) -> Result<(Key, &[u8]), FieldFault>
         ensures { Gives (λ x. (x.0, x.1.now)) result (key_at bytes.now) }
     {

@@ -8,7 +8,7 @@ use xa_codes::Direction;
 use xa_limits::{MOST_KEY, MOST_VALUE};
 use xa_xid::Xid;
 
-/// The most bytes behind a length of one byte.
+/// The most bytes after a length of one byte.
 pub const MOST_SHORT: usize = 255;
 
 fn take_bytes(len: usize, bytes: &[u8]) -> Result<(&[u8], &[u8]), FieldFault>
@@ -21,7 +21,7 @@ fn take_bytes(len: usize, bytes: &[u8]) -> Result<(&[u8], &[u8]), FieldFault>
     Ok(bytes.split_at(len))
 }
 
-/// The bytes behind a length of one byte, and what stands after them. Takes no memory.
+/// The bytes after a length of one byte, and what stands after them. Takes no memory.
 #[tactic(auto, unfolding(crate::specs::Reading::short_at))]
 pub fn take_short(bytes: &[u8]) -> Result<(&[u8], &[u8]), FieldFault>
     ensures { Gives (λ x. (x.0.now, x.1.now)) result (short_at bytes.now) }
@@ -32,7 +32,7 @@ pub fn take_short(bytes: &[u8]) -> Result<(&[u8], &[u8]), FieldFault>
     }
 }
 
-/// The key behind its length of one byte, and what stands after it. Takes no memory.
+/// The key after its length of one byte, and what stands after it. Takes no memory.
 #[tactic(auto, unfolding(crate::specs::Reading::key_at))]
 pub fn take_key(bytes: &[u8]) -> Result<(&[u8], &[u8]), FieldFault>
     ensures key { Gives (λ x. (x.0.now, x.1.now)) result (key_at bytes.now) }
@@ -50,7 +50,7 @@ pub fn take_key(bytes: &[u8]) -> Result<(&[u8], &[u8]), FieldFault>
     }
 }
 
-/// The value behind its length of two bytes, and what stands after it. Takes no memory.
+/// The value after its length of two bytes, and what stands after it. Takes no memory.
 #[tactic(auto, unfolding(crate::specs::Reading::value_at))]
 pub fn take_value(bytes: &[u8]) -> Result<(&[u8], &[u8]), FieldFault>
     ensures { Gives (λ x. (x.0.now, x.1.now)) result (value_at bytes.now) }

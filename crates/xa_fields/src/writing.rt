@@ -10,7 +10,7 @@ use xa_codes::Direction;
 use xa_limits::XID_BYTES;
 use xa_xid::Xid;
 
-/// Appends bytes behind their length in one byte: the last byte of it, where they are more than `MOST_SHORT`.
+/// Appends bytes after their length in one byte: the last byte of it, if they are more than `MOST_SHORT`.
 pub fn put_short(out: &mut Vec<u8>, bytes: &[u8]) -> Result<(), AllocError>
     ensures { OnOk result (out.new.items ≡ out.old.items ++ short_bytes bytes.now) }
 {
@@ -18,7 +18,7 @@ pub fn put_short(out: &mut Vec<u8>, bytes: &[u8]) -> Result<(), AllocError>
     out.extend_from_slice(bytes)
 }
 
-/// Appends a value behind its length in two bytes.
+/// Appends a value after its length in two bytes.
 pub fn put_value(out: &mut Vec<u8>, value: &[u8]) -> Result<(), AllocError>
     ensures { OnOk result (out.new.items ≡ out.old.items ++ value_bytes value.now) }
 {

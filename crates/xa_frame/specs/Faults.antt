@@ -10,15 +10,15 @@ use Rattle.xa_frame.specs.declared.fault.FrameFault.{FrameFault}
 use Rattle.xa_frame.specs.declared.fault.FrameFault.TheVariants.{Short, Long, Version, Operation, Field, Trailing}
 use Rattle.xa_frame.specs.Spelling.{numbered, detail_numbered, state_numbered}
 
--- What stands behind a field, or the field's fault.
+-- What stands after a field, or the field's fault.
 abbrev pub After : Type 0
 After = List ℕ → Result (List ℕ) FrameFault
 
--- so many bytes
+-- this many bytes
 abbrev pub after_bytes : ℕ → After
 after_bytes n bytes = if nat_lt (length bytes) n then Err Short else Ok (drop n bytes)
 
--- a length of one byte, and so many bytes
+-- a length of one byte, and that many bytes
 abbrev pub after_info : After
 after_info [] = Err Short
 after_info (n ∷ rest) = after_bytes n rest
@@ -28,7 +28,7 @@ abbrev pub after_key : After
 after_key [] = Err Short
 after_key (n ∷ rest) = if (n == 0) || nat_lt MOST_KEY n then Err Field else after_bytes n rest
 
--- a length of two bytes, at most MOST_VALUE, and so many bytes
+-- a length of two bytes, at most MOST_VALUE, and that many bytes
 abbrev pub after_value : After
 after_value bytes =
     if nat_lt (length bytes) 2 then Err Short
@@ -84,12 +84,12 @@ abbrev pub after_branch : After
 after_branch =
     after_both after_xid (after_both after_state (after_both (after_bytes 4) (after_both (after_bytes 8) after_counts)))
 
--- so many of them
+-- this many of them
 abbrev pub after_each : After → ℕ → After
 after_each after zero bytes = Ok bytes
 after_each after (suc n) bytes = and_then (after bytes) (after_each after n)
 
--- a count of two bytes, at most MOST_XIDS, and so many of them
+-- a count of two bytes, at most MOST_XIDS, and that many of them
 abbrev pub after_counted : After → After
 after_counted after bytes =
     if nat_lt (length bytes) 2 then Err Short
@@ -113,7 +113,7 @@ abbrev pub go_on : Result (List ℕ) FrameFault → (List ℕ → Option FrameFa
 go_on (Ok rest) f = f rest
 go_on (Err e) f = Some e
 
--- the first fault of these fields, of which nothing stands behind the last
+-- the first fault of these fields, of which nothing stands after the last
 abbrev pub fault_in : List After → List ℕ → Option FrameFault
 fault_in [] bytes = if length bytes == 0 then None else Some Trailing
 fault_in (after ∷ others) bytes = go_on (after bytes) (fault_in others)
@@ -148,7 +148,7 @@ abbrev pub fault_of_operation : List ℕ → Option FrameFault
 fault_of_operation [] = Some Short
 fault_of_operation (n ∷ bytes) = fault_of_fields (numbered n) bytes
 
--- the version is 1, and something of this sort stands behind it
+-- the version is 1, and something of this sort stands after it
 abbrev pub fault_behind_version : (List ℕ → Option FrameFault) → List ℕ → Option FrameFault
 fault_behind_version f [] = Some Short
 fault_behind_version f (version ∷ bytes) = if version == 1 then f bytes else Some Version

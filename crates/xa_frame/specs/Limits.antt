@@ -33,7 +33,7 @@ IsBody _ = Unit {0}
 abbrev pub IsReply : Reply → Type 0
 IsReply reply = IsBody reply.body
 
--- what the types of a program hold anyway: numbers of so many bits, and XIDs
+-- what the types of a program hold anyway: numbers with a fixed number of bits, and XIDs
 
 abbrev pub HoldsCursor : Option Triple → Type 0
 HoldsCursor None = Unit {0}

@@ -28,7 +28,7 @@ use Rattle.xa_frame.specs.Spelling.{numbered, detail_numbered, state_numbered}
 abbrev pub Reads : Type 0 → Type 0
 Reads A = List ℕ → Result (A × List ℕ) FrameFault
 
--- what stands behind a field, and the field's value
+-- what stands after a field, and the field's value
 abbrev pub rest_of : {A : Type 0} → Result (A × List ℕ) FrameFault → Result (List ℕ) FrameFault
 rest_of (Ok x) = Ok x.1
 rest_of (Err e) = Err e
@@ -41,7 +41,7 @@ value_of_first (Err e) = Err e
 abbrev pub ended : {A : Type 0} → A → List ℕ → Result A FrameFault
 ended x bytes = if length bytes == 0 then Ok x else Err Trailing
 
--- one field and nothing behind it, and two
+-- one field and nothing after it, and two
 abbrev pub one_of : {A : Type 0} → Reads A → List ℕ → Result A FrameFault
 one_of f bytes = do
   x ← f bytes
@@ -84,7 +84,7 @@ field_as make f bytes = do
   x ← f bytes
   Ok (make x.0, x.1)
 
--- so many of them
+-- this many of them
 unfoldable pub each_at : {A : Type 0} → Reads A → ℕ → Reads (List A)
 each_at f zero bytes = Ok ([], bytes)
 each_at f (suc n) bytes = do
@@ -151,7 +151,7 @@ abbrev pub behind_version : List ℕ → Result (List ℕ) FrameFault
 behind_version [] = Err Short
 behind_version (version ∷ rest) = if version == 1 then Ok rest else Err Version
 
--- what stands behind the version of a content that isn't too long
+-- what stands after the version of a content that isn't too long
 unfoldable pub versioned_at : List ℕ → Result (List ℕ) FrameFault
 versioned_at bytes = if nat_lt MOST_CONTENT (length bytes) then Err Long else behind_version bytes
 
@@ -221,7 +221,7 @@ status_of x = record {
   seconds = x.1.1.1.1.1.1.1.1.1;
 }
 
--- a number, and what is read behind it
+-- a number, and what is read after it
 abbrev pub and_number : {A : Type 0} → Reads A → Reads (ℕ × A)
 and_number f = both_at (number_at w64) f
 

@@ -144,7 +144,7 @@ FaultyRequests =
     × (fault_of_request [] ≡ Some Short)
     × (fault_of_request (2 ∷ []) ≡ Some Version)
     × (fault_of_request (1 ∷ []) ≡ Some Short)
-    -- operations 0, 18, 64, 67 and 255, a byte behind a restart, one behind a trim
+    -- operations 0, 18, 64, 67 and 255, a byte after a restart, one after a trim
     × (fault_of_request (1 ∷ 0 ∷ []) ≡ Some Operation)
     × (fault_of_request (1 ∷ 18 ∷ []) ≡ Some Operation)
     × (fault_of_request (1 ∷ 64 ∷ []) ≡ Some Operation)
@@ -161,11 +161,11 @@ FaultyRequests =
     × (fault_of_request (1 ∷ 10 ∷ 0 ∷ []) ≡ Some Field)
     × (fault_of_request (1 ∷ 10 ∷ 65 ∷ []) ≡ Some Field)
     × (fault_of_request (1 ∷ 10 ∷ 2 ∷ 107 ∷ []) ≡ Some Short)
-    -- a limit whose seconds are cut, a moment that is cut, and one with a byte behind it
+    -- a limit whose seconds are cut, a moment that is cut, and one with a byte after it
     × (fault_of_request (1 ∷ 16 ∷ 0 ∷ 0 ∷ 0 ∷ []) ≡ Some Short)
     × (fault_of_request (1 ∷ 17 ∷ 0 ∷ 0 ∷ 0 ∷ 10 ∷ []) ≡ Some Short)
     × (fault_of_request (1 ∷ 17 ∷ 0 ∷ 0 ∷ 0 ∷ 0 ∷ 0 ∷ 0 ∷ 0 ∷ 10 ∷ 0 ∷ []) ≡ Some Trailing)
-    -- of branches: a count that is cut, no word on a cursor, one that is neither, an XID that is cut, and a byte behind
+    -- of branches: a count that is cut, no word on a cursor, one that is neither, an XID that is cut, and a byte after
     × (fault_of_request (1 ∷ 66 ∷ 0 ∷ 0 ∷ 1 ∷ []) ≡ Some Short)
     × (fault_of_request (1 ∷ 66 ∷ 0 ∷ 0 ∷ 1 ∷ 0 ∷ []) ≡ Some Short)
     × (fault_of_request (1 ∷ 66 ∷ 0 ∷ 0 ∷ 1 ∷ 0 ∷ 2 ∷ []) ≡ Some Field)
@@ -174,7 +174,7 @@ FaultyRequests =
 
 abbrev pub FaultyQuestions : Type 0
 FaultyQuestions =
-    -- for the status, and with a byte behind; operations 64, 66 with no field, and 68; no byte, another version, no operation
+    -- for the status, and with a byte after; operations 64, 66 with no field, and 68; no byte, another version, no operation
     (fault_of_question (1 ∷ 67 ∷ []) ≡ None)
     × (fault_of_question (1 ∷ 67 ∷ 0 ∷ []) ≡ Some Trailing)
     × (fault_of_question (1 ∷ 64 ∷ []) ≡ Some Operation)
@@ -184,7 +184,7 @@ FaultyQuestions =
     × (fault_of_question (2 ∷ 67 ∷ []) ≡ Some Version)
     × (fault_of_question (1 ∷ []) ≡ Some Short)
 
--- the bytes of a list of one known branch, of which this stands behind the XID
+-- the bytes of a list of one known branch, of which this stands after the XID
 abbrev pub behind_xid : List ℕ → List ℕ
 behind_xid bytes = front_bytes ++ 5 ∷ 0 ∷ 1 ∷ 0 ∷ 0 ∷ 0 ∷ 1 ∷ 1 ∷ 0 ∷ 170 ∷ bytes
 
@@ -199,7 +199,7 @@ FaultyReplies =
     × (fault_of_reply (front_bytes ++ 4 ∷ 1 ∷ 1 ∷ []) ≡ Some Field)
     × (fault_of_reply (front_bytes ++ 5 ∷ 1 ∷ 1 ∷ []) ≡ Some Field)
     -- of a known branch: an XID that is cut, no state, states 0 and 5, a mark, a timestamp and a count that are cut, and
-    -- a byte behind
+    -- a byte after
     × (fault_of_reply (front_bytes ++ 5 ∷ 0 ∷ 1 ∷ 0 ∷ []) ≡ Some Field)
     × (fault_of_reply (behind_xid []) ≡ Some Short)
     × (fault_of_reply (behind_xid (0 ∷ [])) ≡ Some Field)
@@ -208,6 +208,6 @@ FaultyReplies =
     × (fault_of_reply (behind_xid (2 ∷ 0 ∷ 0 ∷ 0 ∷ 0 ∷ 0 ∷ 0 ∷ 0 ∷ 0 ∷ 0 ∷ 0 ∷ 0 ∷ [])) ≡ Some Short)
     × (fault_of_reply (front_bytes ++ 5 ∷ 0 ∷ 1 ∷ take 26 working_bytes) ≡ Some Short)
     × (fault_of_reply (listed_bytes ++ 0 ∷ []) ≡ Some Trailing)
-    -- a status that is cut, and one with a byte behind
+    -- a status that is cut, and one with a byte after
     × (fault_of_reply (take 94 day_bytes) ≡ Some Short)
     × (fault_of_reply (day_bytes ++ 0 ∷ []) ≡ Some Trailing)

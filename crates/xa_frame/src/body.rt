@@ -9,8 +9,8 @@ pub type Xids = Listing<Xid>;
 /// Known branches that contracts see as a list.
 pub type KnownBranches = Listing<KnownBranch>;
 
-/// What a reply carries beside its code. A value has at most `MOST_VALUE` bytes; there are at most `MOST_XIDS` XIDs or
-/// branches.
+/// What a reply carries besides its code. A value has at most `MOST_VALUE` bytes; there are at most `MOST_XIDS` XIDs
+/// or branches.
 #[derive(Debug, Drop)]
 pub enum Body {
     Nothing,
@@ -18,7 +18,7 @@ pub enum Body {
     Number(u64),
     /// What a Get found.
     Value(Bytes),
-    /// What a Get answers where the key has no value.
+    /// What a Get answers if the key has no value.
     Absent,
     /// What a Recover lists.
     Xids(Xids),

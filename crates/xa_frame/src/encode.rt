@@ -181,7 +181,7 @@ fn reply_room(body: &Body) -> usize
     }
 }
 
-/// Appends the content that spells the reply. Takes no memory where there is room for it.
+/// Appends the content that spells the reply. Takes no memory if there is room for it.
 pub fn put_reply(out: &mut Vec<u8>, reply: &Reply) -> Result<(), AllocError>
     requires { IsReply reply.now }
     ensures bytes { OnOk result (out.new.items ≡ out.old.items ++ bytes_of_reply reply.now) }

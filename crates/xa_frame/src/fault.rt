@@ -21,13 +21,13 @@ pub enum FrameFault {
     /// The operation isn't one of 1 to 17, or 65 to 67.
     #[error("operation not one of 1 to 17, or 65 to 67")]
     Operation = 4,
-    /// A field is out of its limits, or no XID.
+    /// A field is outside its limits, or no XID.
     #[error("field out of its limits")]
     Field = 5,
     /// Bytes are left.
     #[error("bytes behind the last field")]
     Trailing = 6,
-    /// There is a value, but memory was wanted.
+    /// There is a value, but there was no memory for it.
     #[error("no memory")]
     Memory = 7,
 }

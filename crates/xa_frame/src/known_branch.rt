@@ -23,7 +23,7 @@ pub struct AssociationCounts {
     pub loose: u16,
 }
 
-/// What a list of the known branches tells of one: its XID, where it stands, the mark that it may have, else XA_OK, its
+/// What a list of the known branches tells of one: its XID, where it stands, its mark, or XA_OK if it has none, its
 /// timestamp, 0 of one that the operator completed, and its associations.
 #[derive(Debug, Drop)]
 pub struct KnownBranch {

@@ -22,7 +22,7 @@
 //! - `fault`: `FrameFault`, the first fault of a content, read from left to right
 //! - `laws`: `one_request`, `one_question` and `one_reply`, one value and one content; `worked_contents`, worked rows
 //!
-//! A content is what stands in a frame behind its length; that one is `xa_desk`'s. docs/PROTOCOL.md has the format,
+//! A content is what stands in a frame after its length; the latter is `xa_desk`'s. docs/PROTOCOL.md has the format,
 //! from "Frames" on.
 #![tactic(auto)]
 

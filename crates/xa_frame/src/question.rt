@@ -37,12 +37,12 @@ pub fn encode_question(alloc: Global, question: &Question) -> Result<Vec<u8>, Al
     }
 }
 
-/// The question whose content these bytes are, or the first fault, read from left to right. Memory is wanted only where
+/// The question whose content these bytes are, or the first fault, read from left to right. Memory is needed only if
 /// they have none.
 pub fn decode_question(alloc: Global, content: &[u8]) -> Result<Question, FrameFault>
-    // What is decoded is spelled so.
+    // What is decoded has this spelling.
     ensures found { IfOk result (λ q. SpellsQuestion content.now q) }
-    // What is spelled so is decoded, unless memory is wanted.
+    // What has this spelling is decoded, unless memory runs out.
     ensures only { (q : Question) → SpellsQuestion content.now q → IsOrWants result q }
     ensures fault { IfErr result (IsFault (fault_of_question content.now)) }
     ensures memory { result ≡ Err Memory → fault_of_question content.now ≡ None }

@@ -35,7 +35,7 @@ fn value_alone(bytes: &[u8]) -> Result<&[u8], FrameFault>
     Ok(value)
 }
 
-/// What stands behind so many.
+/// What stands after `count` of them.
 fn behind<T: Listed + Drop>(count: u16, bytes: &[u8]) -> Result<&[u8], FrameFault>
     ensures { Gives (λ x. x.now) result (rest_of (each_at T.at count bytes.now)) }
 {
@@ -47,7 +47,7 @@ fn behind<T: Listed + Drop>(count: u16, bytes: &[u8]) -> Result<&[u8], FrameFaul
     Ok(rest)
 }
 
-/// So many, which stand there.
+/// The `count` of them that stand there.
 fn list_of<T: Listed + Drop>(
     alloc: Global,
     count: u16,
@@ -148,12 +148,12 @@ fn whole(alloc: Global, content: &[u8]) -> Result<Reply, FrameFault>
     answer_of(alloc, versioned(content)?)
 }
 
-/// The reply whose content these bytes are, or the first fault, read from left to right. Memory is wanted only where
+/// The reply whose content these bytes are, or the first fault, read from left to right. Memory is needed only if
 /// they have none.
 pub fn decode_reply(alloc: Global, content: &[u8]) -> Result<Reply, FrameFault>
-    // What is decoded is spelled so.
+    // What is decoded has this spelling.
     ensures found { IfOk result (λ r. SpellsReply content.now r) }
-    // What is spelled so is decoded, unless memory is wanted.
+    // What has this spelling is decoded, unless memory runs out.
     ensures only { (r : Reply) → SpellsReply content.now r → IsOrWants result r }
     ensures fault { IfErr result (IsFault (fault_of_reply content.now)) }
     ensures memory { result ≡ Err Memory → fault_of_reply content.now ≡ None }

@@ -22,13 +22,13 @@ pub enum Request {
     Decide { direction: Direction, xid: Xid },
     Doom { xid: Xid },
     Restart,
-    /// Branches that the session begins later may be at work for so many seconds; 0 sets no limit.
+    /// Branches that the session begins later may be at work for this many seconds; 0 sets no limit.
     Timeout { seconds: u32 },
-    /// What the clock says, in seconds from an instant that all who tell it share.
+    /// What the clock says, in seconds from an instant that all who report it share.
     Tick { moment: u64 },
     /// What lasts, and it alone, goes into the other file of the log, which is the current one from then on; branches at
     /// work go on.
     Trim,
-    /// The first so many known branches above an XID, or of all.
+    /// The first `count` known branches above an XID, or of all.
     Branches { count: u32, after: Option<Xid> },
 }

@@ -174,7 +174,7 @@ fn fields_of(alloc: Global, call: Call, bytes: &[u8]) -> Result<Request, FrameFa
     }
 }
 
-/// The call on a branch: Forget where it is none of the five before it.
+/// The call on a branch: Forget if it is none of the five before it.
 fn on_branch(call: Call, flags: u32, xid: Xid) -> Request
     ensures { result ≡ branch_request call flags xid }
 {
@@ -202,7 +202,7 @@ fn operation_of(alloc: Global, bytes: &[u8]) -> Result<Request, FrameFault>
     }
 }
 
-/// What stands behind the version of a content that isn't too long.
+/// What stands after the version of a content that isn't too long.
 #[tactic(auto, unfolding(crate::specs::Reading::versioned_at))]
 pub(crate) fn versioned(bytes: &[u8]) -> Result<&[u8], FrameFault>
     ensures { Gives (λ x. x.now) result (versioned_at bytes.now) }
@@ -225,16 +225,16 @@ fn whole(alloc: Global, content: &[u8]) -> Result<Request, FrameFault>
     operation_of(alloc, versioned(content)?)
 }
 
-/// The request whose content these bytes are, or the first fault, read from left to right. Memory is wanted only where
+/// The request whose content these bytes are, or the first fault, read from left to right. Memory is needed only if
 /// they have none.
 pub fn decode_request(alloc: Global, content: &[u8]) -> Result<Request, FrameFault>
-    // What is decoded is spelled so.
+    // What is decoded has this spelling.
     ensures found { IfOk result (λ r. SpellsRequest content.now r) }
-    // What is spelled so is decoded, unless memory is wanted.
+    // What has this spelling is decoded, unless memory runs out.
     ensures only { (r : Request) → SpellsRequest content.now r → IsOrWants result r }
     ensures fault { IfErr result (IsFault (fault_of_request content.now)) }
     ensures memory { result ≡ Err Memory → fault_of_request content.now ≡ None }
-    // Memory is wanted for an info or a value alone.
+    // Memory is needed only for an info or a value.
     ensures bare { (r : Request) → SpellsRequest content.now r → brings_bytes r ≡ false → result ≡ Ok r }
 {
     whole(alloc, content)

@@ -22,7 +22,7 @@ pub struct Status {
     pub branches: u64,
     /// How many of them are prepared.
     pub prepared: u64,
-    /// How many of them the operator completed, and are not forgotten.
+    /// How many of them the operator completed that are not forgotten.
     pub completed: u64,
     /// How many sessions are connected.
     pub sessions: u64,
@@ -30,7 +30,7 @@ pub struct Status {
     pub versions: u64,
     /// How many entries the history has: connects, calls and hang-ups.
     pub calls: u64,
-    /// For how many seconds the server is up.
+    /// For how many seconds the server has been up.
     pub seconds: u64,
 }
 

@@ -10,7 +10,7 @@ use Rattle.xa_model.specs.Phases.{heuristic_refusal}
 use Rattle.xa_branch.specs.declared.state.State.{State}
 use Rattle.xa_branch.specs.State.{state_by}
 
--- A branch of which this is known may be in this state: so it is with some associations, or with none.
+-- A branch of which this is known may be in this state: with some associations, or with none.
 pub record IsStateOf (state : State) (known : Known) : Type 0 where
   pub is_active : Bool
   pub rests : Bool
@@ -30,6 +30,6 @@ completes call.Commit = true
 completes call.Rollback = true
 completes _ = false
 
--- what such a call is refused where the operator completed the branch
+-- how such a call is refused if the operator completed the branch
 abbrev pub completion_refusal : Call → Known → Option Reply
 completion_refusal asked known = if completes asked then heuristic_refusal known else None

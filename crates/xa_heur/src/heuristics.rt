@@ -8,7 +8,7 @@ use xa_codes::{Call, Code, Direction, XA_HEURCOM, XA_HEURRB, XAER_PROTO};
 use xa_record::Record;
 use xa_xid::Xid;
 
-/// The record of an operator's decision. Only a branch that is in doubt is decided: of another one, also of one that
+/// The record of an operator's decision. Only a branch that is in doubt is decided: for another one, also one that
 /// was decided before, XAER_PROTO.
 pub fn decide(state: State, xid: &Xid, direction: Direction) -> Result<Record, Code>
     ensures refusal { (known : Known) → IsStateOf state known → refused result ≡ decide_refusal known }
@@ -28,8 +28,8 @@ pub fn decide(state: State, xid: &Xid, direction: Direction) -> Result<Record, C
     }
 }
 
-/// What a commit in two phases or a rollback is answered where the operator completed the branch: XA_HEURCOM where he
-/// committed it, XA_HEURRB where he rolled it back, whichever of the two is asked. Of other calls and other branches
+/// What a commit in two phases or a rollback is answered if the operator completed the branch: XA_HEURCOM if he
+/// committed it, XA_HEURRB if he rolled it back, whichever of the two is asked. For other calls and other branches
 /// nothing.
 pub fn answer_completed(state: State, call: Call) -> Option<Code>
     ensures { (known : Known) → IsStateOf state known → answered result ≡ completion_refusal call known }
@@ -48,7 +48,7 @@ pub fn answer_completed(state: State, call: Call) -> Option<Code>
     }
 }
 
-/// The record that forgets what the operator decided. Of a branch that he did not complete, XAER_PROTO.
+/// The record that forgets what the operator decided. For a branch that he did not complete, XAER_PROTO.
 pub fn forget(state: State, xid: &Xid) -> Result<Record, Code>
     ensures refusal { (known : Known) → IsStateOf state known → refused result ≡ forget_refusal known }
     ensures logs { IfOk result (λ r. r ≡ logged.Forgotten xid.now) }

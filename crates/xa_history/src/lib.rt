@@ -4,8 +4,8 @@
 //! - `manages`: `Manages`, what is asked of a manager whose history is kept; `manager`: that the manager over a log does
 //!   it
 //! - `start`: `Start`, where a history begins
-//! - `entry`: `Entry`, one event of a history; `receipt`: `Receipt`, what whoever asked is given of it
-//! - `replies`: `is_memory`, whether a reply tells that memory was wanted; `placed`, a reply with its place
+//! - `entry`: `Entry`, one event of a history; `receipt`: `Receipt`, what whoever asked gets of it
+//! - `replies`: `is_memory`, whether a reply says that there was no memory; `placed`, a reply with its place
 //! - `taking`: `take`, how threads take the one lock under which a history is kept
 #![tactic(auto)]
 

@@ -2,8 +2,8 @@ use xa_assoc::ConnectFault;
 use xa_frame::{Reply, Request, Status};
 use xa_model::Outcome;
 
-/// What is asked of a manager whose history is kept. Each event is a step of the sequential resource manager, from whichever state the
-/// manager stood for, and where memory was wanted it stands for whatever it stood for.
+/// What is asked of a manager whose history is kept. Each event is a step of the sequential resource manager, from whichever state
+/// the manager stood for, and if memory ran out it stands for whatever it stood for.
 pub trait Manages {
     ghost use Rattle.std.specs.Prelude.{ℕ, ◌≡◌, ◌+◌, Bool, true, List, MatchResult, pos};
     ghost use Rattle.xa_frame.specs.Limits.{IsReply};
@@ -15,7 +15,7 @@ pub trait Manages {
     /// The states that it stands for.
     ghost stands: { Self → State → Type 0 };
 
-    /// The premises on its devices, of which restarts alone speak.
+    /// The premises on its devices, which only restarts speak of.
     ghost trusts: { Type 0 };
 
     /// What the device did in the last event that found its memory.
@@ -30,7 +30,7 @@ pub trait Manages {
     /// What a crash at any moment of calls that are asked together leaves, between one and the other.
     ghost crashes_together: { List Event → Self → Self → Type 0 };
 
-    /// How many calls of each of its two devices have failed. A count stays at 2^64 - 1.
+    /// How many calls of each of its two devices have failed. A count stops at 2^64 - 1.
     ghost failures: { Self → ℕ × ℕ };
 
     /// Whether a session is connected.

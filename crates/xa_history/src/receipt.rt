@@ -1,7 +1,7 @@
 use xa_frame::Reply;
 use xa_model::Event;
 
-/// What whoever asked is given of an entry.
+/// What whoever asked gets of an entry.
 #[derive(Debug, Drop)]
 pub struct Receipt {
     pub place: u64,

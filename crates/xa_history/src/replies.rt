@@ -5,7 +5,7 @@ ghost use Rattle.xa_history.specs.Believed.Book.{placed};
 use xa_codes::Detail;
 use xa_frame::Reply;
 
-/// Whether it tells that memory was wanted.
+/// Whether it says that there was no memory.
 pub fn is_memory(reply: &Reply) -> bool
     ensures { result ≡ is_memory reply.now.detail }
 {

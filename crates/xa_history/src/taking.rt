@@ -11,7 +11,7 @@ const TRIES: u32 = 16;
 /// How long it pauses after a try, in pauses of the processor: some 50 to 500 nanoseconds.
 const PAUSES: u32 = 10;
 
-/// Takes the lock. It is given back soon, mostly within a few microseconds, and a thread that sleeps is woken only
+/// Takes the lock. It is released soon, mostly within a few microseconds, and a thread that sleeps is woken only
 /// after more than that: so whoever wants it looks for it again and again, and lets others run in between, before it
 /// sleeps. To let others run is a call of the system, which costs them time too, so it tries several times before that.
 pub fn take<'a, T, R: Wait>(rt: &R, lock: &'a Mutex<T>) -> MutexGuard<'a, T> {

@@ -25,7 +25,7 @@ abbrev pub unless : Option Reply → State → Answer → Answer
 unless (Some reply) s go_on = answer reply s
 unless None s go_on = go_on
 
--- a branch that is marked is answered its mark, and leaves the state that is named first
+-- a marked branch is answered with its mark, and leaves the state that is named first
 abbrev pub marked : Option ℤ → State → Answer → Answer
 marked (Some code) s go_on = answer (plain code) s
 marked None s go_on = go_on

@@ -200,7 +200,7 @@ start_by s n flags xid =
     else if has flags TMRESUME then resume_by s n xid
     else begin_by s n xid
 
--- End with TMSUSPEND: the session's active association is suspended, or with TMMIGRATE nobody's
+-- End with TMSUSPEND: the session's active association is suspended, or loose with TMMIGRATE
 
 abbrev pub end_refusal : Known → Bool → Option Reply
 end_refusal known holds = first ((is_unknown known, plain XAER_NOTA) ∷ (not holds, plain XAER_PROTO) ∷ [])

@@ -40,13 +40,13 @@ commit_one_phase_turn s xid =
     (marked_now (mark_in (known_as s xid)) (rolled_back s xid)
     (if is_empty (writes_in s xid) then Now (ok (committed s xid)) else commit_written s xid))
 
--- Commit in two phases: the coordinator may ask again where the record is refused
+-- Commit in two phases: the coordinator may ask again if the record is refused
 abbrev pub commit_two_phase_turn : State → Triple → Turn
 commit_two_phase_turn s xid =
     unless_now (two_phase_refusal (known_as s xid)) s
     (unless_now (heuristic_refusal (known_as s xid)) s (logs s (logged.Completed xid Commit) XA_RETRY s))
 
--- Rollback: only of a prepared branch anything is logged
+-- Rollback: only for a prepared branch anything is logged
 abbrev pub roll_back_turn : State → Triple → Known → Turn
 roll_back_turn s xid InDoubt = logs s (logged.Completed xid Rollback) XAER_RMERR s
 roll_back_turn s xid known = marked_now (mark_in known) (rolled_back s xid) (Now (ok (rolled_back s xid)))

@@ -37,15 +37,15 @@ IsFate s d = Contains (fates s) d
 abbrev pub IsFateBehind : State → Happening → Outcome → Durable → Type 0
 IsFateBehind s happening outcome d = IsSomeAnd (step s happening outcome) (λ a. IsFate a.after d)
 
--- At any moment while this happens, with this outcome, a crash may leave what it may leave before and behind it, and
--- what it may where the append is lost: a record that is kept at last, or refused, stands there before that is settled.
+-- At any moment while this happens, with this outcome, a crash may leave what it may leave before and after it, and
+-- what it may if the append is lost: a record that is finally kept, or refused, stands there before that is settled.
 abbrev pub MayBeLeft : State → Happening → Outcome → Durable → Type 0
 MayBeLeft s happening outcome d =
     IsFate s d ⊎ IsFateBehind s happening outcome d ⊎ IsFateBehind s happening (lost_of outcome) d
 
 -- Groups
 
--- A crash may leave this where the append of a group was lost, and with it those of these entries that joined it.
+-- A crash may leave this if the append of a group was lost, and with it those of these entries that joined it.
 abbrev pub MayBeLostWith : State → List Entry → Durable → Type 0
 MayBeLostWith s [] d = IsFate s d
 MayBeLostWith s (entry ∷ entries) d =
@@ -54,7 +54,7 @@ MayBeLostWith s (entry ∷ entries) d =
     × IsSomeAnd (step s entry.happening (Joined Lost)) (λ a. MayBeLostWith a.after entries d))
 
 -- At any moment while this entry happens, and with it those of the later ones that join it, a crash may leave this: the
--- records of a group are on their way together from its first entry on, whatever their device call is answered at last.
+-- records of a group are on their way together from its first entry on, whatever their device call finally returns.
 abbrev pub MayBeLeftWith : State → Entry → List Entry → Durable → Type 0
 MayBeLeftWith s entry later d =
     MayBeLeft s entry.happening entry.outcome d

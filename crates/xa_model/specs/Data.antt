@@ -42,7 +42,7 @@ get_by s key (Some (xid, b)) = marked (mark_of b.phase) s (get_from s key xid b 
 
 -- Put, and Delete, which writes no value
 
--- a further key, where there are as many as there may be
+-- a further key, if there are as many as there may be
 abbrev pub is_full : List ℕ → List Operation → Bool
 is_full key ops = not (is_some (write_of key ops)) && not (nat_lt (written_keys ops) MOST_WRITES)
 

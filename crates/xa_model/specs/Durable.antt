@@ -1,4 +1,4 @@
--- What lasts over a crash: what the log's records come to, and what a state would leave.
+-- What survives a crash: what the log's records come to, and what a state would leave.
 use Rattle.std.specs.Prelude.{◌≡◌, ℕ, ◌+◌, ◌≤◌, ◌/◌, ◌%◌, ◌==◌, nat_lt, nat_le, Bool, true, false, not, ◌&&◌}
 use Rattle.std.specs.Prelude.{Option, Some, None, List, [], ◌∷◌, length, reverse, find, filter, filter_map, option_map}
 use Rattle.std.specs.Prelude.{bytes_eq, if◌then◌else◌}
@@ -22,9 +22,9 @@ pub record PreparedBranch : Type 0 where
   pub timestamp : ℕ
   pub writes : List Write
 
--- `boot` is the greatest that was logged, 0 where none was. Branches ascend by timestamp,
+-- `boot` is the greatest that was logged, 0 if none was. Branches ascend by timestamp,
 -- XIDs that the operator completed by XID. Committed branches stand by timestamp and not
--- their keys in one list, since a snapshot has a record a branch.
+-- their keys in one list, since a snapshot has a record per branch.
 pub record Durable : Type 0 where
   pub boot : ℕ
   pub committed : List CommittedBranch
@@ -38,7 +38,7 @@ abbrev pub insert : {A : Type 0} → (A → A → Bool) → A → List A → Lis
 insert before x [] = x ∷ []
 insert before x (y ∷ ys) = if before y x then y ∷ insert before x ys else x ∷ y ∷ ys
 
--- each member passes with each one behind it
+-- each member passes with each one after it
 abbrev pub Pairwise : {A : Type 0} → (A → A → Bool) → List A → Type 0
 Pairwise test [] = Unit {0}
 Pairwise test (x ∷ xs) = AllByRecursion (λ y. test x y ≡ true) xs × Pairwise test xs

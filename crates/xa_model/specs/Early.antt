@@ -57,7 +57,7 @@ needs_open call.Trim = false
 needs_open call.Branches = false
 needs_open _ = true
 
--- on Recover TMASYNC is an illegal flag, and no more
+-- on Recover TMASYNC is an illegal flag, and nothing more
 abbrev pub is_async : Call → ℕ → Bool
 is_async call.Recover flags = false
 is_async _ flags = has flags TMASYNC

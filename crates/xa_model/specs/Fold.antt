@@ -80,7 +80,7 @@ abbrev pub is_used : ℕ → List ℕ → Bool
 is_used t timestamps = list_any (λ u. u == t) timestamps
 
 -- A timestamp that a boot up to the last one gave, and that no record has yet. A branch keeps its timestamp for as long
--- as it is at work, also while later boots begin, so it may come behind an Opened of a later boot than its own. Of each
+-- as it is at work, also while later boots begin, so it may come after an Opened of a later boot than its own. Of each
 -- timestamp the log has at most one branch: those of all that was read are kept.
 abbrev pub is_timely : ℕ → Reading → Bool
 is_timely t x = is_past (x.durable.boot + 1) t && not (is_used t x.timestamps)
@@ -89,7 +89,7 @@ is_timely t x = is_past (x.durable.boot + 1) t && not (is_used t x.timestamps)
 abbrev pub is_new : Triple → ℕ → Reading → Bool
 is_new xid t x = is_timely t x && is_unknown xid x.durable
 
--- A snapshot stands behind the first boot: committed branches, prepared ones,
+-- A snapshot stands after the first boot: committed branches, prepared ones,
 -- XIDs that the operator completed, each ascending.
 abbrev pub fits : Record → Reading → Bool
 fits (Opened boot) x = nat_lt x.durable.boot boot
@@ -131,7 +131,7 @@ read r x = record {
   timestamps = timestamps_with r x.timestamps;
 }
 
--- what the records come to, read on from the one with this index; or the index of the first that is out of order
+-- what the records come to, read from the one with this index; or the index of the first that is out of order
 abbrev pub fold_from : ℕ → Reading → List Record → Result Durable ℕ
 fold_from i x [] = Ok x.durable
 fold_from i x (r ∷ rs) = if fits r x then fold_from (i + 1) (read r x) rs else Err i

@@ -30,7 +30,7 @@ abbrev pub Leads : State → List Entry → State → Type 0
 Leads first [] last = last ≡ first
 Leads first (entry ∷ entries) last = (mid : State) × Steps first entry mid × Leads mid entries last
 
--- the replies to a list of happenings with their outcomes; None where an outcome doesn't fit
+-- the replies to a list of happenings with their outcomes; None if an outcome doesn't fit
 abbrev pub replay : State → List (Happening × Outcome) → Option (List Reply)
 replay s [] = Some []
 replay s (x ∷ xs) =
@@ -43,7 +43,7 @@ abbrev pub joins : Outcome → Bool
 joins (Joined appending) = true
 joins _ = false
 
--- what became of the record that an entry appends, by itself or with others
+-- what became of the record that an entry appends, alone or with others
 abbrev pub append_in : Outcome → Option Appending
 append_in (Appended appending) = Some appending
 append_in (Joined appending) = Some appending

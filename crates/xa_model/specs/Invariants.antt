@@ -1,4 +1,4 @@
--- What every state of a history has, and what a log's records say of the state that they stand behind.
+-- What every state of a history has, and what a log's records say of the state that they back.
 pub mod Sound
 pub mod MayLog
 pub mod Loggable

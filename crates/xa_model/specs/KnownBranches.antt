@@ -17,7 +17,7 @@ use Rattle.xa_model.specs.Listed.{in_order, is_above}
 abbrev pub known_names : State → List Triple
 known_names s = filter_map (λ b. name_of b.phase) s.branches ++ map (λ d. d.xid) s.decided
 
--- the first so many of them that are above the given one, or of all, in their order
+-- the first `count` of them that are above the given one, or of all, in their order
 abbrev pub known_after : Option Triple → ℕ → State → List Triple
 known_after after count s = take count (filter (is_above after) (in_order (known_names s)))
 
@@ -40,7 +40,7 @@ counts_of held xid = record {
   loose = loose_of held xid;
 }
 
--- What is told of an XID: nothing, if it isn't known. The mark is XA_OK where there is none, and the timestamp 0 of a
+-- What is told of an XID: nothing, if it isn't known. The mark is XA_OK if there is none, and the timestamp 0 of a
 -- branch that the operator completed.
 
 abbrev pub mark_or_ok : Option ℤ → ℤ
@@ -75,7 +75,7 @@ abbrev pub told_of : State → Triple → Option KnownBranch
 told_of s xid =
     told_among xid (counts_of s.associations xid) (known_of s.branches xid) (decided_of s.decided xid)
 
--- what is told of the first so many known XIDs above the given one, or of all
+-- what is told of the first `count` known XIDs above the given one, or of all
 abbrev pub branches_after : Option Triple → ℕ → State → List KnownBranch
 branches_after after count s = filter_map (told_of s) (known_after after count s)
 

@@ -41,8 +41,8 @@ KeepsSound =
     (s : State) (e : Event) (outcome : Outcome) (a : Answer) → IsSound s → begins_boot e ≡ false
     → step s (Asked e) outcome ≡ Some a → IsSound a.after
 
--- a state stays sound where a branch without associations is prepared, where the operator completes one in doubt, and
--- where that is forgotten
+-- a state stays sound if a branch without associations is prepared, if the operator completes one in doubt, and
+-- if that is forgotten
 abbrev pub KeepsSoundPrepared : Type 0
 KeepsSoundPrepared = (s : State) (xid : Triple) → IsSound s → is_associated s xid ≡ false → IsSound (prepared s xid)
 

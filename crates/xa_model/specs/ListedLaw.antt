@@ -26,7 +26,7 @@ use Rattle.xa_model.specs.History.{Entry, Leads, fresh}
 use Rattle.xa_model.specs.Invariants.Loggable.{IsRecoverable}
 use Rattle.xa_model.specs.Invariants.Restored.{IsRestored}
 
--- whether recovery lists the XID of what lasts
+-- whether recovery lists the XID from what lasts
 abbrev pub lists : Triple → Durable → Bool
 lists xid d = list_any (λ x. xid_eq x xid) (listed d)
 
@@ -74,7 +74,7 @@ CallsPrepare xid e = is_request (is_prepare xid) e.happening ≡ true
 abbrev pub HaveRealMarks : State → Type 0
 HaveRealMarks s = AllByRecursion (λ b. mark_of b.phase ≡ Some XA_OK → ⊥) s.branches
 
--- in a history from this state: behind a prepare that was answered XA_OK recovery lists the XID as long as nobody asks
+-- in a history from this state: after a prepare that was answered XA_OK, recovery lists the XID as long as nobody asks
 -- for its completion, whatever else is asked, decided, restarted and opened again
 abbrev pub ListsUntilAsked : State → Type 0
 ListsUntilAsked first =
@@ -87,7 +87,7 @@ ListsUntilAsked first =
 abbrev pub ListedUntilAsked : Type 0
 ListedUntilAsked = (first : State) → IsRecoverable first → HaveRealMarks first → ListsUntilAsked first
 
--- so it is from each restart and each opening on
+-- the same from each restart and each opening on
 abbrev pub ListedSinceBoot : Type 0
 ListedSinceBoot = (d : Durable) (next : ℕ) (first : State) → IsRestored d next first → ListsUntilAsked first
 

@@ -19,7 +19,7 @@ use Rattle.xa_model.specs.Turn.{Turn, Appends}
 
 -- Room: what is prepared can always be completed and forgotten, and what the operator completed be forgotten
 
--- whether a log of so many bytes that ends there keeps the room of so many prepared branches and completed XIDs
+-- whether a log of this size that ends there keeps the room of this many prepared branches and completed XIDs
 abbrev pub log_room : ℕ → ℕ → ℕ → ℕ → Bool
 log_room log_bytes end prepared decided =
     nat_le (end + LENGTH_BYTES + PREPARED_ROOM * prepared + DECIDED_ROOM * decided) log_bytes
@@ -32,7 +32,7 @@ is_in_doubt Committed = false
 abbrev pub prepared_count : State → ℕ
 prepared_count s = count (λ b. is_in_doubt b.phase) s.branches
 
--- whether the record, with so many more prepared branches, leaves that room
+-- whether the record, with this many more prepared branches, leaves that room
 abbrev pub has_room : State → Record → ℕ → Bool
 has_room s r more = log_room s.log_bytes (s.end + size_of r) (prepared_count s + more) (length s.decided)
 
@@ -42,7 +42,7 @@ log_full s xid = answer (detailed XA_RBOTHER detail.LogFull) (rolled_back s xid)
 
 -- What a record does to a state
 
--- where the log ends that begins with the snapshot of what lasts, behind its format's name
+-- where the log ends that begins with the snapshot of what lasts, after its format's name
 abbrev pub snapshot_end : State → ℕ → ℕ
 snapshot_end s boot = FIRST_OFFSET + sizes (snapshot (durable s) boot)
 
@@ -50,7 +50,7 @@ snapshot_end s boot = FIRST_OFFSET + sizes (snapshot (durable s) boot)
 abbrev pub appended : Record → State → State
 appended r s = record s { end = s.end + size_of r }
 
--- An opened record stands first in a snapshot. No other record of a snapshot is appended by itself.
+-- An opened record stands first in a snapshot. No other record of a snapshot is appended alone.
 abbrev pub applied : Record → State → State
 applied (logged.Opened boot) s = record s { logged_boot = boot; end = snapshot_end s boot }
 applied (logged.Prepared xid t ws) s = appended (logged.Prepared xid t ws) (prepared s xid)
@@ -74,7 +74,7 @@ down s = record s { standing = Down }
 abbrev pub lost : State → Record → Answer
 lost s r = answer (detailed XAER_RMFAIL detail.Device) (record (down s) { open_records = r ∷ [] })
 
--- a record that was refused is answered this code, and leaves this state
+-- a record that was refused is answered with this code, and leaves this state
 abbrev pub append_became : State → Record → ℤ → State → Appending → Answer
 append_became s r code left Kept = ok (applied r s)
 append_became s r code left Refused = answer (detailed code detail.Device) left
@@ -90,7 +90,7 @@ supposed s = record (applied_all s.open_records s) { standing = Up; open_records
 abbrev pub lost_too : State → Record → Answer
 lost_too s r = answer (detailed XAER_RMFAIL detail.Device) (record s { open_records = s.open_records ++ r ∷ [] })
 
--- a boot's record is lost by itself
+-- a boot's record is lost alone
 abbrev pub is_boot : Record → Bool
 is_boot (logged.Opened boot) = true
 is_boot _ = false

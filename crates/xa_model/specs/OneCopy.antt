@@ -49,7 +49,7 @@ HasNoGet [] = Unit {0}
 HasNoGet (Got k answer source ∷ older) = ⊥
 HasNoGet (Wrote k value ∷ older) = HasNoGet older
 
--- so it is at each place of a history that begins without reads
+-- the same at each place of a history that begins without reads
 abbrev pub AlwaysOneCopy : Type 0
 AlwaysOneCopy =
     (first last : State) (entries : List Entry) → IsRecoverable first

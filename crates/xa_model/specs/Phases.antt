@@ -17,7 +17,7 @@ rolled_back s xid = record s { branches = without (is_known_as xid) s.branches }
 abbrev pub as_committed : Branch → Branch
 as_committed b = record b { phase = Committed }
 
--- the branch is committed, and known no more
+-- the branch is committed, and no longer known
 abbrev pub committed : State → Triple → State
 committed s xid = record s { branches = change (is_known_as xid) as_committed s.branches }
 
@@ -41,7 +41,7 @@ abbrev pub unprepared_refusal : Known → Bool → Option Reply
 unprepared_refusal known is_associated =
     first ((is_unknown known, plain XAER_NOTA) ∷ (is_associated || is_lasting known, plain XAER_PROTO) ∷ [])
 
--- Commit in two phases: a branch that is neither prepared nor completed is not committed so
+-- Commit in two phases: a branch that is neither prepared nor completed is not committed like this
 
 abbrev pub two_phase_refusal : Known → Option Reply
 two_phase_refusal known = first ((is_unknown known, plain XAER_NOTA) ∷ (not (is_lasting known), plain XAER_PROTO) ∷ [])

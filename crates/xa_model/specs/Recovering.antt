@@ -39,7 +39,7 @@ scanning s n scan = record s { sessions = change (λ x. x.number == n) (with_sca
 abbrev pub listing : List Triple → Reply
 listing xids = record { code = pos (length xids); detail = detail.Nothing; place = 0; body = body.Xids xids }
 
--- the first so many XIDs above the cursor, of those in doubt and those that the operator completed
+-- the first `count` XIDs above the cursor, of those in doubt and those that the operator completed
 abbrev pub recovered : State → ℕ → ℕ → ℕ → Option Triple → Answer
 recovered s n flags count cursor =
     let xids = list_after cursor count (durable s) in

@@ -26,13 +26,13 @@ fates_with s (r ∷ rs) = durable s ∷ fates_with (applied r s) rs
 abbrev pub fates : State → List Durable
 fates s = fates_with s s.open_records
 
--- the state with the first so many of these, if there are so many
+-- the state with the first k of these, if there are that many
 abbrev pub with_first : ℕ → List Record → State → Option State
 with_first zero rs s = Some s
 with_first (suc k) [] s = None
 with_first (suc k) (r ∷ rs) s = with_first k rs (applied r s)
 
--- the log was read, and the first so many stand there
+-- the log was read, and the first k stand there
 abbrev pub looked : State → State
 looked s = record s { open_records = [] }
 
@@ -110,7 +110,7 @@ abbrev pub reopen_turn : State → List ℕ → ℕ → Turn
 reopen_turn s name log_bytes =
     Rereads (ok (refused_opening s name log_bytes)) (λ k. option_map (reopening name log_bytes) (survived s k))
 
--- The state of a manager that was opened on a log, and asked nothing. Of a branch its writes are known, and no more.
+-- The state of a manager that was opened on a log, and asked nothing. Of a branch only its writes are known.
 
 abbrev pub wrote : Write → Operation
 wrote w = Wrote w.key w.value

@@ -11,7 +11,7 @@ pub record Version : Type 0 where
   pub committed : Bool
   pub value : Option (List ℕ)
 
--- the value of the last put or delete of the key; None where there is none
+-- the value of the last put or delete of the key; None if there is none
 abbrev pub write_of : List ℕ → List Operation → Option (Option (List ℕ))
 write_of key [] = None
 write_of key (Got k answer source ∷ older) = write_of key older

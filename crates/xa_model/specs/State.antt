@@ -6,7 +6,7 @@ use Rattle.xa_xid.specs.Triple.{Triple, xid_eq}
 use Rattle.xa_record.specs.declared.record.Record.{Record}
 use Rattle.xa_limits.specs.declared.TheConstants.{BOOT_TIMESTAMPS}
 
--- What a branch did: a get, with its answer and the timestamp of the answer's source (0 where the key was absent
+-- What a branch did: a get, with its answer and the timestamp of the answer's source (0 if the key was absent
 -- before all branches), or a put or delete that was accepted. A deleted key has no value.
 pub data Operation : Type 0 where
   Got : (key : List ℕ) (answer : Option (List ℕ)) (source : ℕ) → Operation
@@ -19,8 +19,8 @@ pub record Work : Type 0 where
   pub start : ℕ
   pub limit : ℕ
 
--- Where a branch stands: it is known under an XID, at work or prepared; or it is committed and known no more. A branch
--- that was rolled back stands nowhere.
+-- Where a branch stands: it is known under an XID, at work or prepared; or it is committed and no longer known. A
+-- branch that was rolled back stands nowhere.
 pub data Phase : Type 0 where
   Working : (xid : Triple) (work : Work) → Phase
   Prepared : (xid : Triple) → Phase
@@ -68,7 +68,7 @@ pub data Standing : Type 0 where
   Down : Standing
   Ended : Standing
 
--- Known and committed branches stand in one list, the greatest timestamp first; beside it stand the XIDs that the
+-- Known and committed branches stand in one list, the greatest timestamp first; besides it there are the XIDs that the
 -- operator completed. `given` counts the timestamps that this boot has given. `logged_boot` is the greatest boot number
 -- in the log, which a restart that failed may have left above `boot`. `end` is where the log's next record would begin.
 -- `open_records` are the records whose append was lost, one or a group, in the log's order: no restart has settled
@@ -221,7 +221,7 @@ works_in n xid a = is_active n a.holder && xid_eq a.xid xid
 abbrev pub suspends : ℕ → Triple → Association → Bool
 suspends n xid a = is_suspended n a.holder && xid_eq a.xid xid
 
--- one of nobody's
+-- a loose one
 abbrev pub is_loose_with : Triple → Association → Bool
 is_loose_with xid a = is_loose a.holder && xid_eq a.xid xid
 
@@ -260,7 +260,7 @@ limit_by None = 0
 abbrev pub limit_of : State → ℕ → ℕ
 limit_of s n = limit_by (session_of s.sessions n)
 
--- the least number from n on, within so many, that is not connected
+-- the least number from n on, within this many, that is not connected
 abbrev pub free_from : List Session → ℕ → ℕ → ℕ
 free_from sessions zero n = n
 free_from sessions (suc tries) n = if is_some (session_of sessions n) then free_from sessions tries (n + 1) else n

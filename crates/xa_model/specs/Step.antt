@@ -85,7 +85,7 @@ abbrev pub record_in : Turn → Option Record
 record_in (Appends r after) = Some r
 record_in _ = None
 
--- The record that the call would append after those whose fates are unknown. None where it would append none, and where
+-- The record that the call would append after those whose fates are unknown. None if it would append none, and if
 -- none may be lost with them.
 abbrev pub further_record : State → Event → Option Record
 further_record s event =

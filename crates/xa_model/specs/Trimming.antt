@@ -1,4 +1,4 @@
--- Trim: a boot begins while the manager is up, and all that is at work goes on.
+-- Trim: a boot begins while the manager is up, and all work goes on.
 use Rattle.std.specs.Prelude.{ℕ, ◌+◌, nat_lt, not, Option, [], ◌∷◌}
 use Rattle.xa_codes.specs.declared.codes.TheConstants.{XAER_RMERR}
 use Rattle.xa_codes.specs.declared.detail.Detail.TheVariants as detail

@@ -24,7 +24,7 @@ pub data Rereading : Type 0 where
 -- A turn: what is asked of the device, and what each of its answers leads to. Nobody answers,
 -- no device call is made, one record is appended, a record of a new boot is appended as the first
 -- of a new file, before the snapshot of what lasts, or the log is read again: that fails, or the first
--- so many of the records whose fates were unknown are there, if there are so many. Or the append of a group was lost,
+-- k of the records whose fates were unknown are there, if there are that many. Or the append of a group was lost,
 -- and the call is refused, or was asked with the group, and its record is lost with it.
 pub data Turn : Type 0 where
   Nobody : Turn
@@ -34,7 +34,7 @@ pub data Turn : Type 0 where
   Rereads : (failed : Answer) (found : ℕ → Option Rereading) → Turn
   Joins : (refused : Answer) (appended : Record) (lost : Answer) → Turn
 
--- where the outcome doesn't fit, there is no answer
+-- if the outcome doesn't fit, there is no answer
 abbrev pub going_on : Option Appending → Rereading → Option Answer
 going_on None (Stops answer) = Some answer
 going_on (Some appending) (Stops answer) = None
@@ -45,7 +45,7 @@ abbrev pub taken_now : Answer → Outcome → Option Answer
 taken_now answer Quiet = Some answer
 taken_now answer _ = None
 
--- After the first record of a group that isn't lost, each further one is kept or refused as one by itself. Where the
+-- After the first record of a group that isn't lost, each further one is kept or refused like a single one. If the
 -- first was lost, the manager is down by then.
 abbrev pub taken_appending : (Appending → Answer) → Outcome → Option Answer
 taken_appending after (Appended appending) = Some (after appending)

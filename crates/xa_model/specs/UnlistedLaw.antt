@@ -10,7 +10,7 @@ use Rattle.xa_model.specs.Invariants.Loggable.{IsRecoverable}
 use Rattle.xa_model.specs.Invariants.Restored.{IsRestored}
 use Rattle.xa_model.specs.ListedLaw.{IsListed, HasCompleted, CallsPrepare}
 
--- in a history from this state: behind a commit, a rollback or a forget that was answered XA_OK recovery doesn't list
+-- in a history from this state: after a commit, a rollback or a forget that was answered XA_OK, recovery doesn't list
 -- the XID, until a prepare of it is called, whatever else is asked, decided, restarted and opened again
 abbrev pub UnlistedUntilPrepared : State → Type 0
 UnlistedUntilPrepared first =
@@ -23,6 +23,6 @@ UnlistedUntilPrepared first =
 abbrev pub AlwaysUnlisted : Type 0
 AlwaysUnlisted = (first : State) → IsRecoverable first → UnlistedUntilPrepared first
 
--- so it is from each restart and each opening on
+-- the same from each restart and each opening on
 abbrev pub UnlistedSinceBoot : Type 0
 UnlistedSinceBoot = (d : Durable) (next : ℕ) (first : State) → IsRestored d next first → UnlistedUntilPrepared first

@@ -61,7 +61,7 @@ pub fn worked_versions()
     ensures read_over { ReadOver }
 {}
 
-/// Worked rows of branches that can only be rolled back.
+/// Worked rows of branches that are rollback-only.
 pub fn worked_marks()
     ensures marks { Marks }
     ensures first_mark { FirstMark }
@@ -157,7 +157,7 @@ pub fn worked_turns()
 {}
 
 /// Worked rows of branches in doubt: what recovery lists, what restarts find of records that were lost, what the
-/// operator decides, and where the log is full or the device refuses.
+/// operator decides, and when the log is full or the device refuses.
 pub fn worked_recovery()
     ensures recovered { Recovered }
     ensures read_only { PreparedWithoutWrites }
@@ -193,7 +193,7 @@ pub fn worked_groups()
 {}
 
 /// Worked lists of committed branches: one that is one copy, and three that aren't, since a read missed a write before
-/// it, or found one behind it. And a get that is answered: what is recorded is what was answered.
+/// it, or found one after it. And a get that is answered: what is recorded is what was answered.
 pub fn worked_copies()
     ensures below { ReadsBelow }
     ensures misses { MissesDelete }
@@ -208,7 +208,7 @@ pub fn worked_low_water()
 {}
 
 /// Worked rows of a trim: what it writes and leaves, each refusal, what the device's answers lead to, and what goes on
-/// over it.
+/// during it.
 pub fn worked_trims()
     ensures trimmed { Trimmed }
     ensures limits { TrimLimits }

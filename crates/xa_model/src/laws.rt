@@ -39,7 +39,7 @@ pub fn one_history()
 /// Each event and each opening, in every state, is answered with each outcome that fits its turn, and
 /// with no other; and some outcome fits, unless the manager's process ended, after which only an opening
 /// is answered. A restart and an opening fit a look that finds the first of the records whose fates were
-/// unknown, as many as may be: none always, and no more than there are.
+/// unknown, however many: always none, and no more than there are.
 pub fn total()
     ensures step { StepIsTotal }
     ensures some { NothingIsStuck }
@@ -48,7 +48,7 @@ pub fn total()
     ensures opening { OpeningsLook }
 {}
 
-/// Every event that begins no boot leads from a sound state to a sound one, with every outcome of its device calls. Of
+/// Every event that begins no boot leads from a sound state to a sound one, with every outcome of its device calls. For
 /// restarts, trims and openings `recoverable` says more.
 pub fn sound()
     ensures { KeepsSound }
@@ -62,7 +62,7 @@ pub fn sound_lasting()
     ensures forgotten { KeepsSoundForgotten }
 {}
 
-/// What the log's records come to, and the snapshot that a new file begins with: one record more, the first that is out
+/// What the log's records come to, and the snapshot that a new file begins with: one more record, the first that is out
 /// of order, the one form of what lasts, that a snapshot comes to the same and is no longer, and that a sound state
 /// would leave that form.
 pub fn lasting()
@@ -82,7 +82,7 @@ pub fn lasting()
 {}
 
 /// What is logged is what lasts: what a record does to a state that may log it keeps the state sound, and does to what
-/// would last what it does to what the log's records come to; behind records that come to what would last, it fits if
+/// would last what it does to what the log's records come to; after records that come to what would last, it fits if
 /// its timestamp is a new one. So each event, a restart, an opening and a trim leave what lasts.
 pub fn logged_lasts()
     ensures sound { KeepsSoundApplied }
@@ -100,8 +100,8 @@ pub fn recoverable()
     ensures history { AlwaysRecoverable }
 {}
 
-/// The log's records stand behind every state: what may be logged fits behind them, and with each turn and each answer
-/// of the device they go on with the state; and with what a look finds of a lost group, which stands after them.
+/// The log's records back every state: what may be logged fits after them, and with each turn and each answer
+/// of the device they keep up with the state; and with what a look finds of a lost group, which stands after them.
 pub fn backed()
     ensures order { LoggedInOrder }
     ensures turn { KeepsBacked }
@@ -119,8 +119,8 @@ pub fn restored()
 
 /// A log keeps the room to complete and forget what is prepared, and to forget what the operator completed, also
 /// however many of the records whose fates are unknown are found there: every event but a restart keeps it, with every
-/// outcome of its device calls, and so does all that happens where records stand behind the state; and there no trim is
-/// refused for want of room.
+/// outcome of its device calls, and so does all that happens where records back the state; and there no trim is
+/// refused for lack of room.
 pub fn roomy()
     ensures asked { KeepsRoom }
     ensures restart { RestartKeepsRoom }
@@ -130,28 +130,28 @@ pub fn roomy()
 /// One-copy serializability, in the order of timestamps: take the committed branches of any state that a history leads
 /// to, and execute them alone, one after another from the least timestamp to the greatest, on a plain map from keys to
 /// values that is empty at first. Then every get that they were answered finds the value, or the absence, that it was
-/// answered. Every prefix of a history is one, so it is so at each of its places.
+/// answered. Every prefix of a history is one, so this holds at each of its places.
 ///
 /// Restarts, openings and lost records are among what happens, and so are branches in doubt: a branch that
 /// commits long after later ones have read, or after a restart, still takes the place of its timestamp.
 /// Reads of branches that were rolled back count for nothing. The history begins with any state that a
-/// restart may begin with, if no branch in it has read; so with a new manager, and with one that was opened
-/// on a log's records, of whose branches the log has the writes alone.
+/// restart may begin with, if no branch in it has read, such as a new manager, or one that was opened
+/// on a log's records, of whose branches the log has only the writes.
 pub fn one_copy()
     ensures always { AlwaysOneCopy }
     ensures fresh { FreshOneCopy }
     ensures opened { OpenedOneCopy }
 {}
 
-/// A vote to commit is kept: behind a prepare that was answered XA_OK recovery lists its XID at every place
+/// A vote to commit is kept: after a prepare that was answered XA_OK, recovery lists its XID at every place
 /// of the history, until somebody asks for its completion, by a commit, a rollback or a forget that is
 /// answered XA_OK, or whose append was lost, so that it may have been done. A commit that the device refuses
 /// (XA_RETRY), a lost append of any other record, crashes, restarts, openings and what the operator decides
 /// leave it listed, and so does all that is done with other XIDs.
 ///
 /// The history begins with any state that a restart may begin with, if no branch in it is marked with the code of
-/// success; so with all that restarts and openings lead to: with a new manager, with one that was opened on a log's
-/// records, and with one that was opened again.
+/// success; such are all that restarts and openings lead to: a new manager, one that was opened on a log's
+/// records, and one that was opened again.
 pub fn listed_until_asked()
     ensures always { ListedUntilAsked }
     ensures boot { ListedSinceBoot }
@@ -160,21 +160,21 @@ pub fn listed_until_asked()
     ensures reopened { ReopenedLists }
 {}
 
-/// What was completed is gone: behind a commit, a rollback or a forget that was answered XA_OK recovery doesn't list
-/// its XID at any place of the history, until a prepare of that XID is called again, whatever that is answered: where
+/// What was completed is gone: after a commit, a rollback or a forget that was answered XA_OK, recovery doesn't list
+/// its XID at any place of the history, until a prepare of that XID is called again, whatever that is answered: if
 /// its append was lost, a restart may find it. A crash, a restart or an opening doesn't bring a completed branch back,
 /// nor does what the operator decides.
 ///
-/// The history begins with any state that a restart may begin with; so with all that restarts and openings lead to.
+/// The history begins with any state that a restart may begin with; such are all that restarts and openings lead to.
 pub fn unlisted_until_prepared()
     ensures always { AlwaysUnlisted }
     ensures boot { UnlistedSinceBoot }
 {}
 
 /// What a crash may leave at any moment of an event, of a restart or of an opening: what it may leave before it, what
-/// it may behind it, and what it may where the append is lost, which is what lasts with the record or without it; of a
-/// group, with the first of its records, as many as may be.
-/// Where nothing is appended that is no more than before; once no record's fate is unknown, it is exactly what lasts.
+/// it may after it, and what it may if the append is lost, which is what lasts with the record or without it; of a
+/// group, with the first of its records, however many.
+/// If nothing is appended, that is no more than before; once no record's fate is unknown, it is exactly what lasts.
 /// It is what a look at the log may find: what lasts with the first of the records whose fates are unknown, and one
 /// more record of a lost group is one more that may be found.
 pub fn crash_at_any_moment()
@@ -216,11 +216,11 @@ pub fn lost_together()
 {}
 
 /// Calls on different XIDs that are asked together: what the record of one does leaves what another looks at, and so
-/// does one that is answered at once; so each appends the same record after it, and where those before it are kept,
+/// does one that is answered at once; so each appends the same record after it, and if those before it are kept,
 /// refused or lost, as long as there is room: that is there, if it is with the bytes of those before it and the
 /// branches that they prepare, and without what they complete. So the entries of a group that is kept lead to what its
 /// records do one after another, and those of one that is lost to a manager that is down, all of whose records are
-/// open. Where it is kept, the log's records are followed by the group's, and else they stay what they were. A session's
+/// open. If it is kept, the log's records are followed by the group's, otherwise they stay what they were. A session's
 /// work on another branch logs nothing, and leaves a group as it is.
 pub fn asked_together()
     ensures leaves { LeavesOthers }
@@ -236,8 +236,8 @@ pub fn asked_together()
     ensures backs { BacksTogether }
 {}
 
-/// A group that the device refuses: each call is answered as where it is refused alone, and leaves what it leaves then;
-/// the log, and what lasts, stay as they were. No legal history has it otherwise. Like every group it tells of one
+/// A group that the device refuses: each call is answered as if it were refused alone, and leaves what it leaves then;
+/// the log, and what lasts, stay as they were. No legal history has it otherwise. Like every group it reports one
 /// device call.
 pub fn refused_together()
     ensures alone { RefusedAlone }
@@ -246,7 +246,7 @@ pub fn refused_together()
     ensures one { TellsOfOne }
 {}
 
-/// What a crash leaves at any moment of a run keeps the promises of the history before it. Recovery lists of it each
+/// What a crash leaves at any moment of a run keeps the promises of the history before it. Recovery lists from it each
 /// XID whose prepare was answered XA_OK, while its completion wasn't asked for before the run, nor called in it; and
 /// none whose completion was answered XA_OK, while no prepare of it was called again. A manager that is opened on what
 /// is left lists the same.
@@ -260,7 +260,7 @@ pub fn crash_keeps_promises()
 {}
 
 /// A scan lists what recovery lists, in the XIDs' order and each once. The calls of one scan, with nothing between
-/// them, are answered the first of these XIDs, as many as they ask for; and where they are answered fewer than they ask
+/// them, are answered the first of these XIDs, as many as they ask for; and if they are answered fewer than they ask
 /// for, they are answered all. In an opened session of a manager that is up they are answered so, whatever they ask for
 /// within a call's limit.
 pub fn scan_lists_all()
@@ -270,8 +270,8 @@ pub fn scan_lists_all()
     ensures answered { ScanIsAnswered }
 {}
 
-/// A restart that no session asked for is that of a session which is connected, or where none is, of one that connects,
-/// asks for it, and is hung up: of a sound state that isn't ended, these entries lead to the state that the restart
+/// A restart that no session asked for is that of a session which is connected, or if none is, of one that connects,
+/// asks for it, and is hung up: from a sound state that isn't ended, these entries lead to the state that the restart
 /// leads to.
 pub fn restart_leads()
     ensures leads { RestartLeads }
@@ -303,7 +303,7 @@ pub fn moments()
 {}
 
 /// A trim, whatever the device did in it: all that is at work goes on, and recovery lists the same. What is said of each
-/// event is said of it too.
+/// event holds of it too.
 pub fn trim()
     ensures goes_on { TrimGoesOn }
     ensures lists { TrimLists }

@@ -3,7 +3,7 @@
 //! Hadzilacos and Goodman, 5.3). What the contracts of the layers above speak of stands in `specs/`;
 //! the program's part is the types of events and outcomes.
 //!
-//! The definitions, in an order to read; docs/MODEL.md retells them:
+//! The definitions, in reading order; docs/MODEL.md retells them:
 //!
 //! - `State`, the state; `Source`, which version of a key a timestamp reads
 //! - `Early`, the refusals before a call's row. The rows: `Associations`, `TimeLimits`, `Phases`, `Data`,

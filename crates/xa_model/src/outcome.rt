@@ -1,4 +1,4 @@
-/// What the device did of an append.
+/// What the device made of an append.
 #[derive(Clone, Copy, Debug, PartialEq, Eq)]
 pub enum Appending {
     /// The record is stable.
@@ -14,14 +14,14 @@ pub enum Appending {
 pub enum Outcome {
     /// No device call was made.
     Quiet,
-    /// One record was to be appended, alone or as the first of a group that one device call appends.
+    /// One record had to be appended, alone or as the first of a group that one device call appends.
     Appended(Appending),
-    /// A further record of the group was to be appended, with the entry before.
+    /// A further record of the group had to be appended, with the entry before.
     Joined(Appending),
     /// In a restart or an opening: the log could not be read.
     Failed,
-    /// In a restart or an opening: the log was read. How many of the records whose fates were unknown are there, the
-    /// first so many of them, and what became of the record of the new boot, where one was to be appended.
+    /// In a restart or an opening: the log was read. `survived` of the records whose fates were unknown are there,
+    /// the first ones; and what became of the record of the new boot, if one had to be appended.
     Reread {
         survived: usize,
         appended: Option<Appending>,

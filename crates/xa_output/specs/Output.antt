@@ -10,6 +10,6 @@ IsFront front text = (rest : List ℕ) × (text ≡ front ++ rest)
 abbrev pub IsPart : List ℕ → List ℕ → Type 0
 IsPart part text = (rest : List ℕ) × (rest ≢ []) × (text ≡ part ++ rest)
 
--- a part of a text was written, behind what a writer held
+-- a part of a text was written, after what a writer held
 abbrev pub AppendsPart : List ℕ → Option (List ℕ) → Option (List ℕ) → Type 0
 AppendsPart text old new = (part : List ℕ) × IsPart part text × Appends old new part

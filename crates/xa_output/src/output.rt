@@ -6,7 +6,7 @@ ghost use Rattle.xa_output.specs.Output.{AppendsPart};
 
 use std::io::{self, ErrorKind, Write};
 
-/// Writes a text, in whatever pieces the writer takes. Where this isn't done, what was written is a part of it.
+/// Writes a text, in whatever pieces the writer takes. If this fails, what was written is a part of it.
 ///
 /// The loop is our own, since std's `write_all` doesn't say what it had written before it failed.
 pub fn write_text<W: Write>(writer: &mut W, text: &[u8]) -> bool
@@ -26,8 +26,8 @@ pub fn write_text<W: Write>(writer: &mut W, text: &[u8]) -> bool
     rest.is_empty()
 }
 
-/// What is left of a text that isn't empty, by what its writer answered: nothing where the writing is to end, since it
-/// failed or took no byte. One that was interrupted is asked again.
+/// What is left of a text that isn't empty, by what its writer answered: nothing if the writing has to end, since it
+/// failed or took no byte. An interrupted one is retried.
 fn left_of(written: io::Result<usize>, text: &[u8]) -> Option<&[u8]>
     requires { IfOk written (λ count. count ≤ length text.now) }
     ensures taken { IfOk written (λ count. 0 < count → option_copied result ≡ Some (drop count text.now)) }

@@ -50,7 +50,7 @@ write_at previous bytes = do
   value ← left_at key.1
   Some (record { key = key.0; value = value.0 }, value.1)
 
--- so many writes above this key, and nothing behind them
+-- this many writes above this key, and nothing after them
 unfoldable pub writes_at : ℕ → List ℕ → List ℕ → Option (List Write)
 writes_at zero previous bytes = ended [] bytes
 writes_at (suc n) previous bytes = do

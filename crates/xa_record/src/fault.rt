@@ -10,7 +10,7 @@ pub enum RecordFault {
     /// They are no record's body.
     #[error("record malformed")]
     Malformed = 1,
-    /// They are one, but memory was wanted.
+    /// They are one, but there was no memory.
     #[error("no memory")]
     Memory = 2,
 }

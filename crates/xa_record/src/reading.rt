@@ -71,7 +71,7 @@ fn write_of<'a>(previous: &[u8], bytes: &'a [u8]) -> Option<(&'a [u8], Option<&'
     Some((key, value, rest))
 }
 
-/// Whether the bytes are so many writes, ascending by key, and nothing else.
+/// Whether the bytes are `count` writes, ascending by key, and nothing else.
 fn are_writes(count: u16, bytes: &[u8]) -> bool
     ensures { result ≡ is_some (writes_at count [] bytes.now) }
 {
@@ -253,13 +253,13 @@ fn body(alloc: Global, bytes: &[u8]) -> Result<Record, RecordFault>
     }
 }
 
-/// The record that all of the bytes are the body of. Memory is wanted only where they are one.
+/// The record that all of the bytes are the body of. Memory is needed only if they are one.
 pub fn read(alloc: Global, bytes: &[u8]) -> Result<Record, RecordFault>
-    // What is read is spelled so.
+    // What is read has this spelling.
     ensures found { IfOk result (λ r. IsRecord r × (bytes.now ≡ spelled r)) }
-    // What is spelled so is read, unless memory runs out.
+    // What has this spelling is read, unless memory runs out.
     ensures only { (r : Record) → IsRecord r → bytes.now ≡ spelled r → Gives result r }
-    // Memory is wanted only for what is spelled.
+    // Memory is needed only for what spells a record.
     ensures memory { result ≡ Err Memory → (r : Record) × IsRecord r × (bytes.now ≡ spelled r) }
     ensures exact { Answers result (record_at bytes.now) }
 {

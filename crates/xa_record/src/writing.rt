@@ -18,14 +18,14 @@ use xa_xid::Xid;
 /// What stands in a body before its writes: the kind, a timestamp and their number.
 const BEFORE_WRITES: usize = 11;
 
-/// What an XID has beside its two parts.
+/// What an XID has besides its two parts.
 const AROUND_PARTS: usize = 6;
 
 const BESIDE_KEY: usize = 2;
 
 const BEFORE_VALUE: usize = 2;
 
-/// The body of a record within its limits, as every record is that was read. Of another the lengths would be cut.
+/// The body of a record within its limits, as every record that was read is. For another the lengths would be cut.
 pub fn write(alloc: Global, record: &Record) -> Result<Vec<u8>, AllocError>
     requires { IsRecord «record».now }
     ensures { IfOk result (λ v. v.items ≡ spelled «record».now) }
@@ -92,14 +92,14 @@ pub fn write_small(record: &Record, out: &mut ArrayVec<u8, MOST_SMALL>)
     }
 }
 
-/// The body of a base, whose writes are lent: that of `Record::Base`.
+/// The body of a base, whose writes are borrowed: that of `Record::Base`.
 pub fn write_base(alloc: Global, timestamp: u64, writes: &Writes) -> Result<Vec<u8>, AllocError>
     ensures { IfOk result (λ v. v.items ≡ spelled (Base timestamp writes.now)) }
 {
     base(alloc, timestamp, writes)
 }
 
-/// The body of a held branch, whose name and writes are lent: that of `Record::Held`.
+/// The body of a held branch, whose name and writes are borrowed: that of `Record::Held`.
 pub fn write_held(
     alloc: Global,
     xid: &Xid,
@@ -185,7 +185,7 @@ fn put_left(out: &mut Vec<u8>, value: &Option<Bytes>) -> Result<(), AllocError>
     }
 }
 
-/// How many bytes the body of a base with these writes has. A wrong length costs memory and no more: the vector grows.
+/// How many bytes the body of a base with these writes has. A wrong length only costs memory: the vector grows.
 fn stamped_len(writes: &[Write]) -> usize {
     writes.iter().fold(
         BEFORE_WRITES,

@@ -9,6 +9,6 @@ use Rattle.xa_model.specs.Durable.{is_written_in}
 abbrev pub has_key : BTreeSet (List ℕ) → List ℕ → Bool
 has_key keys key = contains (slice_cmp nat_cmp) keys key
 
--- the keys of these writes are noted beside the others
+-- the keys of these writes are noted besides the others
 abbrev pub Notes : BTreeSet (List ℕ) → List Write → BTreeSet (List ℕ) → Type 0
 Notes old writes new = (key : List ℕ) → has_key new key ≡ (is_written_in key writes || has_key old key)

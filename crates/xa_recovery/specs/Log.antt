@@ -33,7 +33,7 @@ pub record IsFirstMalformed (i : ℕ) (bodies : List (List ℕ)) : Type 0 where
   pub limits : AllByRecursion IsRecord before
   pub malformed : IsNoBody body
 
--- What their records come to; or the index of the first that is malformed; or, where none is, that of the first record
+-- What their records come to; or the index of the first that is malformed; or, if none is, that of the first record
 -- out of order; or there was no memory.
 abbrev pub LogRebuilt : List (List ℕ) → Result Durable LogFault → Type 0
 LogRebuilt bodies (Ok d) = (rs : List Record) × AreBodiesOf rs bodies × (fold rs ≡ Ok d)

@@ -51,7 +51,7 @@ pub record HasRead (m : Rebuilding) (rs : List Record) : Type 0 where
   pub ordered : fold rs ≡ Ok (reading unread rs).durable
   pub stands : StandsFor m (reading unread rs)
 
--- one record more: it was read, or there was no memory, or it is out of order
+-- one more record: it was read, or there was no memory, or it is out of order
 abbrev pub Taken : List Record → Record → Result Rebuilding AddFault → Type 0
 Taken rs r (Ok m) = HasRead m (rs ++ r ∷ [])
 Taken rs r (Err Memory) = Unit {0}

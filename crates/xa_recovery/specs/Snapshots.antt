@@ -1,4 +1,4 @@
--- Bodies of records, one behind the other.
+-- Bodies of records, one after another.
 use Rattle.std.specs.Prelude.{◌≡◌, ℕ, List, ◌++◌, map, Vec}
 use Rattle.std.specs.declared.alloc.Global.{Global}
 use Rattle.xa_codes.specs.declared.direction.Direction.{Direction}
@@ -13,7 +13,7 @@ use Rattle.xa_recovery.specs.Durable.{as_committed, as_prepared, as_decided}
 abbrev pub bytes_of : List (Vec ℕ Global) → List (List ℕ)
 bytes_of bodies = map (λ b. b.items) bodies
 
--- these bodies stand behind those that were there
+-- these bodies stand after those that were there
 abbrev pub Puts : Vec (List ℕ) Global → List (List ℕ) → Vec (List ℕ) Global → Type 0
 Puts old more new = new.items ≡ old.items ++ more
 

@@ -20,7 +20,7 @@ pub enum Progress {
     OutOfOrder(usize),
 }
 
-/// Reads one record more, the one with this index.
+/// Reads one more record, the one with this index.
 fn add_record(progress: Progress, index: usize, record: Record) -> Result<Progress, LogFault>
     requires { IsRecord «record» }
     ensures { (before : List (List ℕ)) → length before ≡ index → HasComeTo progress before
@@ -36,7 +36,7 @@ fn add_record(progress: Progress, index: usize, record: Record) -> Result<Progre
     }
 }
 
-/// Reads one body more, the one with this index.
+/// Reads one more body, the one with this index.
 fn add_body(
     alloc: Global,
     progress: Progress,
@@ -53,12 +53,12 @@ fn add_body(
     }
 }
 
-/// What the bodies of a log come to. Each is read once and let go then, so that what they come to takes their place in
+/// What the bodies of a log come to. Each is read once and then freed, so that what they come to takes their place in
 /// memory. All are read before an order is refused, so that a malformed body anywhere goes before a record out of order
 /// anywhere.
 ///
 /// # Errors
-/// The index of the first body that is no record's; where each is one's, that of the first record out of order; or want
+/// The index of the first body that is no record's; if each is one's, that of the first record out of order; or lack
 /// of memory.
 pub fn rebuild_log(alloc: Global, bodies: Vec<Vec<u8>>) -> Result<Durable, LogFault>
     ensures { LogRebuilt (bytes_of bodies.items) result }

@@ -39,8 +39,8 @@ impl Model for Durable {
 }
 
 impl Durable {
-    /// What lasts, of its parts: the greatest boot that was logged, the committed branches and those in doubt by
-    /// timestamp, and what the operator decided by XID. Takes no memory.
+    /// What lasts, from its parts: the greatest boot that was logged, the committed branches and those in doubt
+    /// by timestamp, and what the operator decided by XID. Takes no memory.
     pub fn new(
         boot: u32,
         committed: BTreeMap<u64, Writes>,

@@ -8,10 +8,10 @@ use thiserror::Error;
 /// Why a record wasn't taken.
 #[derive(Clone, Copy, Debug, PartialEq, Eq, Error)]
 pub enum AddFault {
-    /// Want of memory.
+    /// Out of memory.
     #[error("no memory")]
     Memory,
-    /// It may not stand behind those that were read.
+    /// It may not follow those that were read.
     #[error("record out of order")]
     Order,
 }
@@ -19,10 +19,10 @@ pub enum AddFault {
 /// Why records come to nothing.
 #[derive(Clone, Copy, Debug, PartialEq, Eq, Error)]
 pub enum RebuildFault {
-    /// Want of memory.
+    /// Out of memory.
     #[error("no memory")]
     Memory,
-    /// The record with this index, counted from 0, is the first that may not stand behind those before it.
+    /// The record with this index, counted from 0, is the first that may not follow those before it.
     #[error("record {0} out of order")]
     Order(usize),
 }

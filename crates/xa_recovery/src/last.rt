@@ -36,11 +36,11 @@ fn keep(last: &mut BTreeMap<u64, Writes>, timestamp: u64, writes: Writes) -> Res
     Ok(())
 }
 
-/// How many keys at least are noted twice, where there are so many.
+/// How many keys at least are noted twice, if there are that many.
 const FIRST: usize = 1_024;
 
-/// Notes the first keys once more. An allocator keeps a few blocks of each size for itself, of those that are let go first:
-/// if these are let go before the others, it is blocks that lie before them.
+/// Notes the first keys once more. An allocator keeps a few blocks of each size for itself, of those that are freed first:
+/// if these are freed before the others, it is blocks that lie before them.
 fn note_first(
     alloc: Global,
     first: &mut BTreeSet<Bytes>,
@@ -55,7 +55,7 @@ fn note_first(
 /// How many bytes a block has at which an allocator looks for memory that it can give back to the system.
 const BLOCK: usize = 98_304;
 
-/// Lets a block go, after many small ones: at those, an allocator gives nothing back.
+/// Frees a block, after many small ones: at those, an allocator gives nothing back.
 fn give_back(alloc: Global) {
     let _block: Result<Vec<u8>, AllocError> = Vec::with_capacity(alloc, BLOCK);
 }

@@ -1,8 +1,8 @@
 //! What the log's records come to when a resource manager starts, and what follows from it: the next boot's number, the
-//! records that a new file begins with, and the XIDs that recovery lists. In an order to read:
+//! records that a new file begins with, and the XIDs that recovery lists. In reading order:
 //!
 //! - `durable`: `Durable`, what lasts, with `InDoubt`, a branch of it; and `next_boot`
-//! - `rebuilding`: `Rebuilding`, what was read so far, to which one record more is added. `order` says whether it may
+//! - `rebuilding`: `Rebuilding`, what was read so far, to which one more record is added. `order` says whether it may
 //!   stand there, `acts` does what it says, and `last` keeps of the committed branches the last writes of keys; `fault`
 //!   has `AddFault` and `RebuildFault`
 //! - `bodies`: `rebuild_log`, of the bodies of a log, with `LogFault` of `log_fault`; `records`: `rebuild`, of records

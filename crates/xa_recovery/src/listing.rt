@@ -51,7 +51,7 @@ fn add_decided(
     Ok(())
 }
 
-/// The first of a set, at most so many.
+/// The first of a set, at most `count`.
 fn first(alloc: Global, mut above: BTreeSet<Xid>, count: usize) -> Result<Vec<Xid>, AllocError>
     ensures { IfOk result (λ v. v.items ≡ take count above.keys) }
 {
@@ -69,7 +69,7 @@ fn first(alloc: Global, mut above: BTreeSet<Xid>, count: usize) -> Result<Vec<Xi
 /// `count`, ascending.
 ///
 /// # Errors
-/// Want of memory.
+/// Out of memory.
 pub fn list_after(
     alloc: Global,
     durable: &Durable,

@@ -7,13 +7,13 @@ use thiserror::Error;
 /// Why the bodies of a log come to nothing. Indices count from 0.
 #[derive(Clone, Copy, Debug, PartialEq, Eq, Error)]
 pub enum LogFault {
-    /// Want of memory.
+    /// Out of memory.
     #[error("no memory")]
     Memory,
     /// The body with this index is the first that is no record's.
     #[error("record {0} malformed")]
     Malformed(usize),
-    /// Each body is a record's, and the record with this index is the first that may not stand behind those before it.
+    /// Each body is a record's, and the record with this index is the first that may not follow those before it.
     #[error("record {0} out of order")]
     Order(usize),
 }

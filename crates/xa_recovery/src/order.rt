@@ -21,7 +21,7 @@ fn is_past(boot: u64, timestamp: u64) -> bool
 
 /// The order in which records may stand.
 impl Rebuilding {
-    /// Whether the record may stand behind those that were read.
+    /// Whether the record may follow those that were read.
     pub(crate) fn fits(&self, record: &Record) -> bool
         ensures { InEach self.now (λ x. result ≡ fits «record».now x) }
     {

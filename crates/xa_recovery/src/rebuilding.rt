@@ -21,7 +21,7 @@ pub struct Rebuilding {
     pub(crate) boot: u32,
     /// Whether the first boot and its snapshot are all that was read.
     pub(crate) is_snapshot: bool,
-    /// By timestamp, with the writes that were written over.
+    /// By timestamp, with the writes that were overwritten.
     pub(crate) committed: BTreeMap<u64, Writes>,
     pub(crate) prepared: BTreeMap<u64, InDoubt>,
     /// The timestamps of the branches in doubt.
@@ -50,7 +50,7 @@ impl Rebuilding {
         }
     }
 
-    /// Reads one record more. After a fault nothing is left.
+    /// Reads one more record. After a fault nothing is left.
     pub fn add(mut self, record: Record) -> Result<Rebuilding, AddFault>
         ensures { (rs : List Record) → HasRead self rs → Taken rs «record» result }
     {
@@ -64,7 +64,7 @@ impl Rebuilding {
     /// What the records come to.
     ///
     /// # Errors
-    /// Want of memory.
+    /// Out of memory.
     pub fn done(self) -> Result<Durable, AllocError>
         ensures { (rs : List Record) → HasRead self rs → IfOk result (λ d. fold rs ≡ Ok d) }
     {

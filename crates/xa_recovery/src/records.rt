@@ -9,7 +9,7 @@ use crate::rebuilding::Rebuilding;
 use std::alloc::Global;
 use xa_record::Record;
 
-/// Reads one record more, the one with this index.
+/// Reads one more record, the one with this index.
 fn add_at(
     alloc: Global,
     rebuilding: Rebuilding,
@@ -28,7 +28,7 @@ fn add_at(
 /// What the records of a log come to.
 ///
 /// # Errors
-/// The index of the first that is out of order, or want of memory.
+/// The index of the first that is out of order, or lack of memory.
 pub fn rebuild(alloc: Global, records: &[Record]) -> Result<Durable, RebuildFault>
     ensures { Rebuilt records.now result }
 {

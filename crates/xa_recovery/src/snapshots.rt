@@ -11,7 +11,7 @@ use xa_record::{Record, Writes, write_base, write_held, write_short};
 use xa_shared::SharedBytes;
 use xa_xid::Xid;
 
-/// Puts a body behind the others, in no more memory than it has bytes: all are kept until the last one is written.
+/// Puts a body after the others, in no more memory than it has bytes: all are kept until the last one is written.
 fn put(alloc: Global, bodies: &mut Vec<SharedBytes>, mut body: Vec<u8>) -> Result<(), AllocError>
     ensures { OnOk result (Puts bodies.old (body.items ∷ []) bodies.new) }
 {
@@ -20,7 +20,7 @@ fn put(alloc: Global, bodies: &mut Vec<SharedBytes>, mut body: Vec<u8>) -> Resul
     Ok(())
 }
 
-/// Puts the body of a committed branch behind the others.
+/// Puts the body of a committed branch after the others.
 ///
 /// # Errors
 /// Out of memory.
@@ -48,7 +48,7 @@ fn put_committed(
     Ok(())
 }
 
-/// Puts the body of a branch in doubt behind the others.
+/// Puts the body of a branch in doubt after the others.
 ///
 /// # Errors
 /// Out of memory.
@@ -90,7 +90,7 @@ fn put_known(
     put(alloc, bodies, body)
 }
 
-/// Puts the bodies of what the operator completed behind the others.
+/// Puts the bodies of what the operator completed after the others.
 ///
 /// # Errors
 /// Out of memory.
@@ -109,7 +109,7 @@ pub fn put_decided(
 
 /// The body that a snapshot of the boot of this number begins with, and room for the others: those of the committed
 /// branches (`put_base`), of the branches in doubt (`put_held`) and of what the operator completed (`put_decided`), each
-/// ascending. By these what lasts can be let go branch by branch.
+/// ascending. By these what lasts can be freed branch by branch.
 ///
 /// # Errors
 /// Out of memory.
@@ -132,11 +132,11 @@ pub fn begin_snapshot(
 }
 
 /// The bodies of the records that a new file begins with, in the boot of this number: the boot, the committed branches,
-/// those in doubt, and what the operator completed. Writes are spelled where they are, and not copied; each branch is let
-/// go once it is spelled. The boot stands first: its number is the file's generation, and the manager's step knows it as
-/// the one record that a restart appends. Of a log with a record they take no more room than its own records, so a
-/// restart has the room. They are within the limits of records where those were that the durable value comes from, as
-/// all are that were read, and the boot is above 0 (`lasting` of `xa_model`); of others the lengths are cut.
+/// those in doubt, and what the operator completed. Writes are spelled where they are, and not copied; each branch is
+/// freed once it is spelled. The boot stands first: its number is the file's generation, and the manager's step knows it
+/// as the one record that a restart appends. Of a log with a record they take no more room than its own records, so a
+/// restart has the room. They are within the limits of records if those were that the durable value comes from, as
+/// all are that were read, and the boot is above 0 (`lasting` of `xa_model`); for others the lengths are cut.
 ///
 /// # Errors
 /// Out of memory.

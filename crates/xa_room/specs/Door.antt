@@ -13,7 +13,7 @@ use Rattle.xa_history.specs.declared.manages.Manages.{Ghosts}
 use Rattle.xa_room.specs.Believed.Told.{Adds, Leaves, Told}
 use Rattle.xa_history.specs.Status.{Tells}
 
--- the call is the new entry, which has the reply; or memory was wanted, and there is none
+-- the call is the new entry, which has the reply; or there was no memory, and there is none
 abbrev pub Called : {M : Type 0} → Ghosts M → ℕ → Told M → Request → Reply → Told M → Type 0
 Called m session old request reply new =
     ((reply ≡ wanted_memory (Call session request)) × Leaves m.stands old new)

@@ -8,7 +8,7 @@ pub record Held : Type 0 where
   pub parts : ℕ
   pub count : ℕ
 
--- one event more was recorded by the share, at a place that is at least its count, and this is its receipt
+-- one more event was recorded by the share, at a place that is at least its count, and this is its receipt
 pub record Records (old new : Held) (event : Event) (receipt : Receipt) : Type 0 where
   pub parts : new.parts ≡ old.parts
   pub count : new.count ≡ old.count + 1

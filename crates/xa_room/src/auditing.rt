@@ -35,7 +35,7 @@ pub enum AuditFault {
     Memory,
 }
 
-/// Whether the receipts are entries of the room, each of another one, and the shares count them all.
+/// Whether the receipts are entries of the room, each a different one, and the shares count them all.
 pub fn audit<M: Manages, S: Start, L: Ledger>(
     alloc: Global,
     room: &Room<M, S>,

@@ -19,7 +19,7 @@ pub(crate) struct Call {
 }
 
 impl Call {
-    /// Copies the request, or answers it where there is no memory for both.
+    /// Copies the request, or answers it if there is no memory for both.
     pub(crate) fn new(alloc: Global, session: u64, request: Request) -> Result<Call, Reply>
         requires { IsRequest request }
         ensures { MatchResult result

@@ -3,7 +3,7 @@ use std::marker::Model;
 use std::sync::ledger::{Book, Ledger};
 use xa_history::{Manages, Start};
 
-/// What lies under the lock: a room, and the ledger's book, whose total is the number of the room's entries.
+/// What the lock protects: a room, and the ledger's book, whose total is the number of the room's entries.
 #[derive(Drop)]
 pub(crate) struct Counted<M: Manages, S: Start, L: Ledger> {
     pub(crate) room: Room<M, S>,

@@ -18,7 +18,7 @@ use xa_frame::{Reply, Request, Status};
 use xa_history::{Manages, Receipt, Start, take};
 
 /// A room behind the one lock, which many threads share. Each call is one call of the room. It is recorded by the
-/// caller's share, whose count so tells how many of the entries are the caller's.
+/// caller's share, whose count thus tells how many of the entries are the caller's.
 #[derive(Drop)]
 pub struct Desk<M: Manages, S: Start, L: Ledger> {
     lock: Mutex<Counted<M, S, L>>,
@@ -41,7 +41,7 @@ impl<M: Manages, S: Start, L: Ledger> Desk<M, S, L> {
         (Desk { lock, alloc }, Share { mark, count })
     }
 
-    /// Answers a request of a session, by a share that is lent. Without a receipt memory was wanted.
+    /// Answers a request of a session, with a share that is lent. Without a receipt there was no memory.
     pub fn call_by<R: Wait>(
         &self,
         rt: &R,
@@ -67,7 +67,7 @@ impl<M: Manages, S: Start, L: Ledger> Desk<M, S, L> {
         (reply, receipt)
     }
 
-    /// Connects a session, by a share that is lent. Without a receipt memory was wanted.
+    /// Connects a session, with a share that is lent. Without a receipt there was no memory.
     pub fn connect_by<R: Wait>(
         &self,
         rt: &R,
@@ -84,7 +84,7 @@ impl<M: Manages, S: Start, L: Ledger> Desk<M, S, L> {
         (session, receipt)
     }
 
-    /// Hangs a session up, by a share that is lent. Without a receipt a room's manager had no such session.
+    /// Hangs a session up, with a share that is lent. Without a receipt the room's manager had no such session.
     pub fn hangup_by<R: Wait>(&self, rt: &R, share: &mut Share<L>, session: u64) -> Option<Receipt>
         ensures recorded { MatchOption result
             (share.new ≡ share.old)
@@ -98,7 +98,7 @@ impl<M: Manages, S: Start, L: Ledger> Desk<M, S, L> {
         receipt
     }
 
-    /// As `call_by`, by a share that is handed over and given back.
+    /// Like `call_by`, with a share that is handed over and given back.
     pub fn call<R: Wait>(
         &self,
         rt: &R,
@@ -117,7 +117,7 @@ impl<M: Manages, S: Start, L: Ledger> Desk<M, S, L> {
         (reply, receipt, share)
     }
 
-    /// As `connect_by`, by a share that is handed over and given back.
+    /// Like `connect_by`, with a share that is handed over and given back.
     pub fn connect<R: Wait>(
         &self,
         rt: &R,
@@ -132,7 +132,7 @@ impl<M: Manages, S: Start, L: Ledger> Desk<M, S, L> {
         (session, receipt, share)
     }
 
-    /// As `hangup_by`, by a share that is handed over and given back.
+    /// Like `hangup_by`, with a share that is handed over and given back.
     pub fn hangup<R: Wait>(
         &self,
         rt: &R,
@@ -181,7 +181,7 @@ impl<M: Manages, S: Start, L: Ledger> Desk<M, S, L> {
     }
 }
 
-/// Shows the name alone, so that it never waits for the lock.
+/// Shows only the name, so that it never waits for the lock.
 impl<M: Manages, S: Start, L: Ledger> fmt::Debug for Desk<M, S, L> {
     fn fmt<W: fmt::Write>(&self, f: &mut fmt::Formatter<W>) -> fmt::Result {
         f.debug_struct("Desk").finish_non_exhaustive()

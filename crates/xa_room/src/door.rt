@@ -5,7 +5,7 @@ use xa_desk::Door;
 use xa_frame::{Reply, Request, Status};
 use xa_history::{Manages, Start};
 
-/// A connection's questions go to the room, and its hang-up. The receipts are let go: the entries stay.
+/// A connection's questions go to the room, and its hang-up. The receipts are freed: the entries stay.
 impl<M: Manages, S: Start> Door for Room<M, S> {
     ghost use Rattle.xa_room.specs.Door.{Asked, Left};
 

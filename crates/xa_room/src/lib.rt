@@ -2,11 +2,11 @@
 //! the desk that sessions on many threads share. Whoever has the room again can audit it against the receipts that were
 //! given out. What a room asks of its manager, and what entries and receipts are, is said in `xa_history`.
 //!
-//! A room by itself:
+//! A room alone:
 //!
 //! - `room`: `Room`, which asks its manager and notes each event
-//! - `notes`: room for entries, and an entry more; `call`, `spare`: the copies of a request and of a reply that the entry
-//!   and the receipt take
+//! - `notes`: room for entries, and one more entry; `call`, `spare`: the copies of a request and of a reply that the
+//!   entry and the receipt take
 //! - `door`: a room as the door of a connection
 //!
 //! On many threads:

@@ -7,7 +7,7 @@ use xa_frame::Reply;
 use xa_history::{Entry, Receipt};
 use xa_model::{Event, Outcome};
 
-/// Makes room for so many entries more. Whether there was memory for them.
+/// Makes room for `count` more entries. Returns whether there was memory for them.
 pub(crate) fn make_room(history: &mut Vec<Entry>, count: usize) -> bool
     ensures items { history.new.items ≡ history.old.items }
     ensures capacity { vec_capacity history.old ≤ vec_capacity history.new }
@@ -16,7 +16,7 @@ pub(crate) fn make_room(history: &mut Vec<Entry>, count: usize) -> bool
     history.reserve(count).is_ok()
 }
 
-/// Makes room for so many entries more, and for two copies of a reply. Whether there was memory for all of it.
+/// Makes room for `count` more entries, and for two copies of a reply. Returns whether there was memory.
 pub(crate) fn make_ready(
     history: &mut Vec<Entry>,
     count: usize,
@@ -32,7 +32,7 @@ pub(crate) fn make_ready(
     make_room(history, count) && kept.fill() && given.fill()
 }
 
-/// Puts an event with its reply behind a history that has room for it. The receipt takes the copies.
+/// Puts an event with its reply after a history that has room for it. The receipt takes the copies.
 pub(crate) fn note(
     history: &mut Vec<Entry>,
     event: Event,

@@ -51,7 +51,7 @@ impl<M: Manages, S: Start> Model for Room<M, S> {
 }
 
 impl<M: Manages, S: Start> Room<M, S> {
-    /// A room with an empty history. Without memory for the hang-ups of the sessions that are connected the manager is
+    /// A room with an empty history. If there is no memory for the hang-ups of the connected sessions, the manager is
     /// gone.
     pub fn new(alloc: Global, manager: M) -> Result<Room<M, S>, AllocError>
     where
@@ -73,7 +73,7 @@ impl<M: Manages, S: Start> Room<M, S> {
     }
 
     /// Answers a request of a session. The reply has its place, and is the receipt's, which is the new entry's; or
-    /// memory was wanted, and there is neither.
+    /// there was no memory, and there is neither.
     pub fn call(&mut self, session: u64, request: Request) -> (Reply, Option<Receipt>)
         requires { IsRequest request }
         ensures recorded { MatchOption result.1
@@ -87,7 +87,7 @@ impl<M: Manages, S: Start> Room<M, S> {
         }
     }
 
-    /// As `call`, by copies of the request that were made before.
+    /// Like `call`, with copies of the request that were made before.
     pub(crate) fn call_copied(&mut self, call: Call) -> (Reply, Option<Receipt>)
         requires { IsAsked call.request }
         ensures recorded { let event = Event.Call call.session call.request in MatchOption result.1
@@ -122,7 +122,7 @@ impl<M: Manages, S: Start> Room<M, S> {
         (placed(reply, receipt.place), Some(receipt))
     }
 
-    /// The allocator that it takes its memory of.
+    /// The allocator that it takes its memory from.
     pub(crate) fn allocator(&self) -> Global {
         self.alloc
     }
@@ -184,7 +184,7 @@ impl<M: Manages, S: Start> Room<M, S> {
         }
     }
 
-    /// The entries so far, numbered from 1: a legal history, which tells of no more failures of the device than were
+    /// The entries so far, numbered from 1: a legal history, which reports no more failures of the device than were
     /// counted.
     pub fn entries(&self) -> &[Entry]
         ensures entries { result.now ≡ self.now.entries }

@@ -32,7 +32,7 @@ impl<L: Ledger> Share<L> {
         self.count
     }
 
-    /// Two shares of one. The second has so many parts, and no events.
+    /// Two shares of one. The second has `parts` parts, and no events.
     pub fn split(self, parts: u64) -> (Share<L>, Share<L>)
         requires { (0 < parts) × (parts < self.parts) }
         ensures parts { (result.0.parts + parts ≡ self.parts) × (result.1.parts ≡ parts) }
@@ -49,7 +49,7 @@ impl<L: Ledger> Share<L> {
         )
     }
 
-    /// One share of two. Where nobody knows that the counts add up to a `u64`, `Desk::merge` does.
+    /// One share of two. If nobody knows that the counts add up to a `u64`, `Desk::merge` does.
     pub fn merge(self, other: Share<L>) -> Share<L>
         requires { self.count + other.count < 2 ^ 64 }
         ensures { (result.parts ≡ self.parts + other.parts) × (result.count ≡ self.count + other.count) }
@@ -76,7 +76,7 @@ impl<L: Ledger> fmt::Debug for Share<L> {
     }
 }
 
-/// Where the share has every part of the ledger, its count is the book's total. Changes nothing, and takes no memory.
+/// If the share has every part of the ledger, its count is the book's total. Changes nothing, and takes no memory.
 pub fn agree<L: Ledger>(book: &mut Book<L>, share: &mut Share<L>)
     requires { share.old.parts ≡ L.parts }
     ensures same { (book.new.total ≡ book.old.total) × (share.new ≡ share.old) }
@@ -95,7 +95,7 @@ pub(crate) fn bound<L: Ledger>(book: &mut Book<L>, one: &mut Share<L>, other: &m
     other.mark.transfer(&mut one.mark, one.count);
 }
 
-/// Records the event of a receipt, where there is one, by the share.
+/// Records the event of a receipt, if there is one, by the share.
 pub(crate) fn raise<L: Ledger>(book: &mut Book<L>, share: &mut Share<L>, receipt: &Option<Receipt>)
     requires { IfSome receipt.now (λ r. r.place ≡ book.old.total + 1) }
     ensures { MatchOption receipt.now

@@ -10,8 +10,8 @@ use xa_frame::{Body, KnownBranch, KnownBranches, Reply, Xids};
 use xa_limits::{MOST_VALUE, MOST_XIDS};
 use xa_xid::Xid;
 
-/// Room for a copy of a reply: for the longest value, and for the most XIDs and known branches. It is made before a call acts and stays,
-/// since the copy is made of memory of its own length where there is some: so what keeps the copies holds no more than
+/// Room for a copy of a reply: for the longest value, and for the most XIDs and known branches. It is made before a call acts and
+/// stays, since the copy is made of memory of its own length if there is some: so what keeps the copies holds no more than
 /// they are long, and no call makes this room twice.
 #[derive(Debug, Drop)]
 pub(crate) struct Spare {
@@ -30,7 +30,7 @@ impl Spare {
         }
     }
 
-    /// Makes the room that was used, if any was. Whether there was memory for it.
+    /// Makes the room that was used, if any was. Returns whether there was memory for it.
     pub(crate) fn fill(&mut self) -> bool
         ensures { result ≡ true → HasRoom self.new }
     {
@@ -105,7 +105,7 @@ impl Copied for KnownBranch {
     }
 }
 
-// A copy in memory of its own length where there is some, else in the spare list.
+// A copy in memory of its own length if there is some, otherwise in the spare list.
 fn copied_list<T: Copied + Drop>(alloc: Global, spare: &mut Vec<T>, items: &[T]) -> Vec<T>
     requires empty { spare.old.items ≡ [] }
     requires room { length items.now ≤ vec_capacity spare.old }

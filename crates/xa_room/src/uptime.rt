@@ -1,10 +1,10 @@
 use std::rt::Clock;
 use std::time::Instant;
 
-/// For how long a server is up, by the machine's clock.
+/// For how long a server has been up, by the machine's clock.
 #[derive(Drop)]
 pub struct Uptime {
-    /// None where the clock didn't tell.
+    /// None if the clock didn't tell.
     began: Option<Instant>,
 }
 
@@ -16,7 +16,7 @@ impl Uptime {
         }
     }
 
-    /// How many whole seconds have passed, 0 where the clock doesn't tell.
+    /// How many whole seconds have passed, 0 if the clock doesn't tell.
     pub fn seconds<R: Clock>(&self, rt: &R) -> u64 {
         let Some(began) = &self.began else {
             return 0;

@@ -1,4 +1,4 @@
-//! Bytes that several values have at once: the body of a record that a log is to begin with, and the values in it.
+//! Bytes that several values have at once: the body of a record that a log will begin with, and the values in it.
 //!
 //! - `shared_bytes`: `SharedBytes`
 #![tactic(auto)]

@@ -4,7 +4,7 @@ use std::alloc::{AllocError, Global};
 use std::marker::Model;
 use std::sync::Arc;
 
-/// Bytes with one owner or several, which contracts see as a list. They are let go with the last owner.
+/// Bytes with one owner or several, which contracts see as a list. They are freed with the last owner.
 #[derive(Debug, Drop)]
 pub struct SharedBytes {
     bytes: Arc<Vec<u8>>,

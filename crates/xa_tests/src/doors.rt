@@ -85,7 +85,7 @@ impl Door for Keeper<'_> {
     }
 }
 
-/// A reader that gives its bytes, so many a time at most, and then ends or fails.
+/// A reader that gives its bytes, at most `step` at a time, and then ends or fails.
 #[derive(Drop)]
 pub struct Source<'a> {
     pub bytes: &'a [u8],
@@ -106,7 +106,7 @@ impl Read for Source<'_> {
     }
 }
 
-/// A writer that takes so many bytes, so many a time at most, and then takes nothing or fails.
+/// A writer that takes `room` bytes, at most `step` at once, and then takes none or fails.
 #[derive(Drop)]
 pub struct Sink {
     pub taken: Vec<u8>,
@@ -172,7 +172,7 @@ pub fn play(
     }
 }
 
-/// How long the frame of a get is whose key is a number in four bytes.
+/// How long the frame of a get is, if the key is a number in four bytes.
 pub const GET: usize = 11;
 
 /// What was asked is each frame's content, in order and for session 7.
@@ -185,14 +185,14 @@ fn are_frames(asked: &[(u64, Vec<u8>)], input: &[u8]) -> bool {
     true
 }
 
-/// The door was asked the first so many gets of the input, and then it was hung up once.
+/// The door was asked the first `frames` gets of the input, and then it was hung up once.
 pub fn is_asked(outcome: &Outcome, input: &[u8], frames: usize) -> bool {
     outcome.asked.len() == frames
         && are_frames(&outcome.asked, input)
         && outcome.left.as_slice() == [7].as_slice()
 }
 
-/// So it ended, and that was written.
+/// It ended like this, and this was written.
 pub fn is_answered(outcome: &Outcome, served: Served, written: &[u8]) -> bool {
     outcome.served == served && outcome.written.as_slice() == written
 }

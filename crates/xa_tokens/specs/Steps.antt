@@ -26,7 +26,7 @@ less_one v = record v { parts = v.parts - 1 }
 abbrev pub one_part : View → View
 one_part v = record no_view { parts = 1 }
 
--- both as one, where the second is not the keeper
+-- both as one, if the second is not the keeper
 abbrev pub joined : View → View → View
 joined v w = record {
   keeps = v.keeps;
@@ -38,7 +38,7 @@ joined v w = record {
   given_up = v.given_up ++ w.given_up;
 }
 
--- it asks for one thing more, and has the ticket
+-- it asks for one more thing, and has the ticket
 abbrev pub asking : Ask → View → View
 asking ask v = record v { asked = v.asked ++ ask ∷ []; tickets = v.tickets ++ ask ∷ [] }
 

@@ -1,6 +1,6 @@
-//! Tokens of one history: whoever asks for an event gets a ticket, by which it is carried out once at most, and whoever
-//! carries it out gets the one entry that it became. Whatever threads do with tokens, what they know fits together. So a
-//! token tells by its type what happened, also one that another thread left under a lock or in a mailbox.
+//! Tokens of one history: whoever asks for an event gets a ticket, by which it is carried out at most once, and whoever
+//! carries it out gets the one entry that it became. Whatever threads do with tokens, what they know fits together. Thus
+//! a token tells by its type what happened, also one that another thread left under a lock or in a mailbox.
 //!
 //! Tokens have no bytes, and a request or a reply stays where it is: to a contract a ticket is an `Ask`, and what was
 //! told is a `Receipt`.

@@ -50,7 +50,7 @@ impl<B: Book> Tokens<B> {
         self.table.shared.join_seat::<Joined>(seat, other);
     }
 
-    /// It asks, behind what it was told last.
+    /// It asks, after what it was told last.
     pub(crate) fn step_asks<P: About>(&self, seat: &mut Token)
         requires own { seat.old.table_id ≡ B.table }
         requires parts { 0 < seat.old.me.0.parts }

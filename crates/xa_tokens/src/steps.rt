@@ -46,7 +46,7 @@ impl Play<(), View> for GivesUp {
     ghost then = { λ _ m _ n. (n.0 ≡ giving_up m.0) × (n.1 ≡ m.1) };
 }
 
-/// It learns what the rule comes to where it has everything.
+/// It learns what the rule comes to if it has everything.
 pub struct Audits;
 
 impl Play<(), View> for Audits {

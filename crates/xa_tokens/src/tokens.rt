@@ -17,7 +17,7 @@ use xa_frame::Reply;
 use xa_model::Event;
 
 /// What the tokens of a history change by. Threads share it by a `&`. Each change is a load or a few of a word that is
-/// never written; of an event or a reply that a call is given no byte is read.
+/// never written; no byte of an event or a reply that a call is given is read.
 #[derive(Drop)]
 pub struct Tokens<B: Book> {
     pub(crate) table: Table<(), View, (), OneHistory, Global>,
@@ -56,7 +56,7 @@ impl<B: Book> Tokens<B> {
         self.join(&mut share.seat, seat);
     }
 
-    /// Nobody carries the ask out any more.
+    /// Nobody will carry the ask out.
     pub fn give_up(&self, share: &mut Share<B>, ticket: Ticket<B>)
         requires { 0 < share.old.parts }
         ensures { share.new ≡ record share.old { given_up = share.old.given_up ++ ticket ∷ [] } }
@@ -66,7 +66,7 @@ impl<B: Book> Tokens<B> {
         self.step_gives_up(&mut share.seat);
     }
 
-    /// A share of one part, by which nothing was asked.
+    /// A share of one part, with which nothing was asked.
     pub fn split(&self, share: &mut Share<B>) -> Share<B>
         requires { 1 < share.old.parts }
         ensures one { result ≡ account 1 [] [] [] }
@@ -87,7 +87,7 @@ impl<B: Book> Tokens<B> {
         self.join(&mut share.seat, seat);
     }
 
-    /// Where all shares are one, and each ask was answered or given up, what it was told is the history, each entry
+    /// If all shares are one, and each ask was answered or given up, what it was told is the history, each entry
     /// once.
     pub fn audit(&self, keeper: Keeper<B>, all: Share<B>)
         requires parts { all.parts ≡ all_parts }

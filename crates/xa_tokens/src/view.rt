@@ -17,7 +17,7 @@ pub struct View {
     pub told: LinkedList<Receipt>,
     /// What may be carried out by it, each once.
     pub tickets: LinkedList<Ask>,
-    /// What it gave up: nobody carries it out any more.
+    /// What it gave up: nobody will carry it out.
     pub given_up: LinkedList<Ask>,
 }
 

@@ -1,4 +1,4 @@
-/// Is told of each call before it takes the desk's lock, and after it gave it back, or found no memory before it. It
+/// Is told of each call before it takes the desk's lock, and after it released it, or found no memory before it. It
 /// may keep a call waiting. Connects and hang-ups pass no gate.
 pub trait Gate {
     ghost use Rattle.std.specs.Prelude.{◌<◌};
@@ -7,7 +7,7 @@ pub trait Gate {
     fn enter(&self, session: u64, number: u64)
         requires { 0 < number };
 
-    /// The session's call with this number gave the lock back, or didn't take it.
+    /// The session's call with this number released the lock, or didn't take it.
     fn leave(&self, session: u64, number: u64)
         requires { 0 < number };
 }

@@ -3,7 +3,7 @@ ghost use Rattle.xa_workers.specs.Believed.Reports.{KeepsAll};
 
 use xa_history::Receipt;
 
-/// Appends the others, or says how many there are where there is no memory.
+/// Appends the others, or returns how many there are if there is no memory.
 pub(crate) fn keep_all(receipts: &mut Vec<Receipt>, others: Vec<Receipt>) -> u64
     ensures kept { KeepsAll receipts.old.items receipts.new.items others.items result }
     ensures count { vec_len receipts.new + result ≡ vec_len receipts.old + vec_len others }

@@ -5,7 +5,7 @@
 //! - `work`: a worker takes the next of the connections' numbers (`numbers`), accepts a connection, and serves it from
 //!   its post
 //! - `post`: `Post`, a door over the desk, whose calls pass a gate
-//! - `gate`: `Gate`, which is told of each call before it takes the desk's lock and after it gave it back; `OpenGate`
+//! - `gate`: `Gate`, which is told of each call before it takes the desk's lock and after it released it; `OpenGate`
 //! - `report`: `Report`, what the desk recorded by a share; with `keeping` (receipts that find memory are kept, and the
 //!   others counted)
 #![tactic(auto)]

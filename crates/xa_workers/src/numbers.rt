@@ -18,7 +18,7 @@ impl Numbers {
         Numbers { taken: 0, last }
     }
 
-    /// The next number, which is then taken; None where all are taken.
+    /// The next number, which is then taken; None if all are taken.
     pub(crate) fn take(&mut self) -> Option<u64>
         ensures some { IfSome result (λ n. (n ≡ self.old.taken + 1) × (n ≤ self.old.last)
             × (self.new ≡ record self.old { taken = n })) }

@@ -26,7 +26,7 @@ impl<'a, M: Manages, S: Start, L: Ledger, G: Gate, R: Clock + Wait> Post<'a, M, 
     ghost use Rattle.std.specs.Prelude.{◌≡◌, []};
     ghost use Rattle.xa_workers.specs.Believed.Reports.{Connects};
 
-    /// A post where nothing was recorded, at a server that is up from now on.
+    /// A post at which nothing was recorded, at a server that is up from now on.
     pub fn new(
         alloc: Global,
         rt: &'a R,

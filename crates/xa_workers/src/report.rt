@@ -9,7 +9,7 @@ use xa_history::{Manages, Receipt, Start};
 use xa_room::{Desk, Share};
 
 /// What was recorded by a share since its report began: the receipts of its connects, calls and hang-ups in their
-/// order, and how many receipts more found no memory to be kept.
+/// order, and for how many more receipts there was no memory.
 #[derive(Drop)]
 pub struct Report<L: Ledger> {
     pub share: Share<L>,
@@ -32,7 +32,7 @@ impl<L: Ledger> Report<L> {
         }
     }
 
-    /// Keeps the receipt of an event that the share recorded behind the others, or counts it where there is no memory.
+    /// Keeps the receipt of an event that the share recorded after the others, or counts it if there is no memory.
     pub(crate) fn keep(&mut self, receipt: Receipt)
         requires { (told self.old < self.old.share.count) × (self.old.share.count ≤ receipt.place) }
         ensures share { self.new.share ≡ self.old.share }

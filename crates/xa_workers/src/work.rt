@@ -42,7 +42,7 @@ pub(crate) fn work<M: Manages, S: Start, L: Ledger, G: Gate, R: Clock + Wait>(
     post.into_report()
 }
 
-// Accepts a connection, and serves a session on it. Where the accept fails, or there is no memory to read by, or no
+// Accepts a connection, and serves a session on it. If the accept fails, or there is no memory to read by, or no
 // session is connected, that was all.
 fn serve_next<M: Manages, S: Start, L: Ledger, G: Gate, R: Clock + Wait>(
     alloc: Global,

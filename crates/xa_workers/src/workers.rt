@@ -55,7 +55,7 @@ pub fn split_all<L: Ledger>(
     Ok(shares)
 }
 
-// Each worker works in a thread of its own, or in turn where no thread can be made.
+// Each worker works in a thread of its own, or in turn if no thread can be made.
 fn work_all<
     M: Manages + Send,
     S: Start + Send + Sync,
@@ -118,13 +118,13 @@ fn gather<M: Manages, S: Start, L: Ledger, R: Wait>(
     all
 }
 
-/// Serves so many connections of the listener by n workers, each in a thread of its own, or in another's turn where no
-/// thread can be made, and joins them. Before each accept a worker takes the next of the numbers 1 to `connections`,
-/// and it ends when none is left. An accept that fails, and a connection whose session isn't connected or that finds no
-/// memory, use theirs up; such a connection is closed without a byte.
+/// Serves `connections` connections of the listener by n workers, each in a thread of its own, or in another's turn if
+/// no thread can be made, and joins them. Before each accept a worker takes the next of the numbers 1 to `connections`,
+/// and it ends when none is left. An accept that fails, and a connection whose session isn't connected or for which
+/// there is no memory, use theirs up; such a connection is closed without a byte.
 ///
 /// The report has the workers' shares as one, and tells of all their connects, calls and hang-ups: each session that
-/// was connected was hung up behind its calls, or a room's manager had no such session. After a fault the share is
+/// was connected was hung up after its calls, or a room's manager had no such session. After a fault the share is
 /// gone, and the desk stays.
 pub fn run_workers<
     M: Manages + Send,

@@ -27,9 +27,9 @@ impl Xid {
 
     /// The XID at the front, and how many bytes it takes; bytes may follow it. Takes no memory.
     pub fn take(bytes: &[u8]) -> Option<(Xid, usize)>
-        // What is read is spelled so.
+        // What is read has this spelling.
         ensures found { IfSome result (λ r. BeginsWith bytes.now r.0 r.1) }
-        // What is spelled so is read.
+        // What has this spelling is read.
         ensures only { (x : Triple) (rest : List ℕ) → IsWithinLimits x → bytes.now ≡ bytes_of x ++ rest
             → result ≡ Some (x, length (bytes_of x)) }
         ensures exact { result ≡ xid_at bytes.now }

@@ -11,7 +11,7 @@ pub fn one_spelling()
     ensures text { (x y : Triple) → IsWithinLimits x → IsWithinLimits y → text_of x ≡ text_of y → x ≡ y }
 {}
 
-/// XIDs are equal exactly where all three parts are, and the order answers Equal there alone.
+/// XIDs are equal exactly if all three parts are, and the order answers Equal only then.
 pub fn equal_is_same()
     ensures eq { (x y : Triple) → IsTrue (xid_eq x y) ↔ (x ≡ y) }
     ensures cmp { (x y : Triple) → (xid_cmp x y ≡ Equal) ↔ (x ≡ y) }

@@ -5,7 +5,7 @@
 //!   `XidFault`, why parts are no XID
 //! - `bytes`: `Xid::put` and `Xid::take`, for the bytes that stand in frames and records
 //! - `text`: `Xid::put_text` and `Xid::take_text`, for the text that stands in scripts and in the lines of a log
-//! - `laws`: `one_spelling`, bytes and text determine the XID; `equal_is_same`, XIDs are equal where their parts are
+//! - `laws`: `one_spelling`, bytes and text determine the XID; `equal_is_same`, XIDs are equal if their parts are
 //!
 //! docs/PROTOCOL.md, "XIDs", has the same in words.
 #![tactic(auto)]

@@ -36,9 +36,9 @@ impl Xid {
 
     /// The XID that all of the text spells. Takes no memory.
     pub fn take_text(text: &[u8]) -> Option<Xid>
-        // What is read is spelled so.
+        // What is read has this spelling.
         ensures found { IfSome result (λ x. IsWithinLimits x × (text.now ≡ text_of x)) }
-        // What is spelled so is read.
+        // What has this spelling is read.
         ensures only { (x : Triple) → IsWithinLimits x → text.now ≡ text_of x → result ≡ Some x }
     {
         let (format, parts) = cut(text)?;

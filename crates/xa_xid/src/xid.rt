@@ -44,7 +44,7 @@ pub enum XidFault {
 }
 
 impl Xid {
-    /// An XID of these parts, or the first fault: the null format number -1, a gtrid that hasn't 1 to `MOST_PART`
+    /// An XID of these parts, or the first fault: the null format number -1, a gtrid that doesn't have 1 to `MOST_PART`
     /// bytes, a bqual of more than `MOST_PART`. C193 has 1 to 64 for both; here a bqual may be empty. Takes no memory.
     pub fn new(format: i32, gtrid: &[u8], bqual: &[u8]) -> Result<Xid, XidFault>
         ensures exact { result ≡ xid_of format gtrid.now bqual.now }

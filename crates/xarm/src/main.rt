@@ -3,11 +3,11 @@
 //! - `play` runs a script of calls on a resource manager in memory, and prints what each is answered
 //! - `serve` serves a resource manager on a port, by event loops, or by workers with an audit
 //! - `talk` sends the calls of a script to a server, and prints the same
-//! - `status`, `branches`, `recover`, `commit` and the like ask a server one thing; `tick` tells it what the clock says, again and
+//! - `status`, `branches`, `recover`, `commit` and the like ask a server one thing; `tick` tells it the time, again and
 //!   again; `shutdown` asks it to end
 //! - `scan` prints the records of a log; `check` tells what its two files are
 //!
-//! `xa_words` reads the command line, and does what it asks for, but that it serves; that `xa_server` does.
+//! `xa_words` reads the command line, and does what it asks for, except to serve, which `xa_server` does.
 #![tactic(auto)]
 
 use std::process::ExitCode;

@@ -71,7 +71,7 @@ frames_of replies = flat_map reply_frame replies
 abbrev pub Owes : List Reply → List ℕ → List Reply → Type 0
 Owes replies read owed = ((read ≡ []) × (owed ≡ replies)) ⊎ (IsTooLong read × (owed ≡ replies ++ bad_frame ∷ []))
 
--- By the end, or None where it goes on: what was read behind the whole frames, and what was written.
+-- By the end, or None if it goes on: what was read after the whole frames, and what was written.
 abbrev pub Ends : Option Served → List Reply → List ℕ → List ℕ → Type 0
 Ends None replies read written = (read ≡ []) × (written ≡ frames_of replies)
 Ends (Some Ended) replies read written = (read ≡ []) × (written ≡ frames_of replies)
@@ -86,7 +86,7 @@ Ends (Some Memory) replies read written =
     (sent : List Reply) × (written ≡ frames_of sent)
     × ((IsLength read × (sent ≡ replies)) ⊎ ((reply : Reply) × Owes replies read (sent ++ reply ∷ [])))
 
--- a conversation so far: its whole frames, no more than so many, with their replies, what was read behind them, and all
+-- a conversation so far: its whole frames, no more than `most`, with their replies, what was read after them, and all
 -- that was written
 pub record Talks {D : Type 0} (called : D → Question → Reply → D → Type 0) (most : ℕ) (end : Option Served)
     (input input' output output' : Option (List ℕ)) (d e : D) : Type 0 where
@@ -100,6 +100,6 @@ pub record Talks {D : Type 0} (called : D → Question → Reply → D → Type 
   pub answered : AnswersAll called d contents replies e
   pub appended : Appends output output' written
   pub ends : Ends end replies read written
-  -- behind as many frames as it may have, nothing more is read, nor is the input's end seen
+  -- after as many frames as it may have, nothing more is read, nor is the input's end seen
   pub beyond : (read ≡ []) ⊎ (length contents < most)
   pub at_end : end ≡ Some Ended → IsAtEnd input' × (length contents < most)

@@ -16,14 +16,14 @@ use Rattle.xa_manager.specs.Believed.Counted.{RiseBy, failures_in}
 abbrev pub Stays : {M : Type 0} → (M → State → Type 0) → M → M → Type 0
 Stays stands old new = (s : State) → stands old s → stands new s
 
--- Whichever state it stood for: with this outcome the step answers so, and it stands for the step's new state. What a
+-- Whichever state it stood for: with this outcome the step answers like this, and it stands for the step's new state. What a
 -- restart finds is said under the premises on devices.
 abbrev pub StepsTo : {M : Type 0} → (M → State → Type 0) → Type 0 → M → Event → Outcome → Reply → M → Type 0
 StepsTo stands trusts old event outcome reply new =
     (s : State) → stands old s → trusts ⊎ (is_restart event ≡ false)
     → IsSomeAnd (step s (Asked event) outcome) (λ a. (a.reply ≡ reply) × stands new a.after)
 
--- An event that found its memory tells of no more failures than were counted. Its record joins no other's, whose entry
+-- An event that found its memory reports no more failures than were counted. Its record joins no other's, whose entry
 -- would tell of its failure.
 abbrev pub Counts : {M : Type 0} → (M → State → Type 0) → Type 0 → (M → ℕ × ℕ) → M → Event → Outcome → M → Type 0
 Counts stands trusts failures old event outcome new =
@@ -42,7 +42,7 @@ pub record Acts {M : Type 0} (stands : M → State → Type 0) (trusts : Type 0)
     (old : M) (event : Event) (reply : Reply) (new : M) : Type 0 where
   pub answered : MatchBool (is_memory reply.detail)
       (Stays stands old new) (StepsTo stands trusts old event (told new) reply new)
-  -- where memory was wanted, the reply says that and nothing else
+  -- if memory ran out, the reply says that and nothing else
   pub pinned : IsPinned event reply
   pub called : is_memory reply.detail ≡ false → Calls stands trusts has_called old event (told new) new
   -- what a crash at any moment of it leaves

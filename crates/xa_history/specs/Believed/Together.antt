@@ -1,4 +1,4 @@
--- What a manager does of calls that are asked together.
+-- What a manager does with calls that are asked together.
 use Rattle.std.specs.Prelude.{ℕ, ◌≡◌, ◌<◌, false, List, [], ◌∷◌, length, map}
 use Rattle.std.specs.List.{AllByRecursion}
 use Rattle.xa_assoc.specs.Refusals.{is_memory}
@@ -40,12 +40,12 @@ abbrev pub told_entry : List Asked → Outcome → ℕ × Reply → Entry
 told_entry calls outcome told =
     record { happening = turn.Asked (event_at calls told.0); outcome = outcome; reply = told.1 }
 
--- those of a group of whose records this became
+-- those of a group if this became of its records
 abbrev pub told_entries : List Asked → Appending → ℕ × Reply → List (ℕ × Reply) → List Entry
 told_entries calls appending r rs =
     told_entry calls (Appended appending) r ∷ map (told_entry calls (Joined appending)) rs
 
--- it is a reply to one of the calls, within the limits, and tells of no want of memory
+-- it is a reply to one of the calls, within the limits, and reports no lack of memory
 pub record IsToldOf (calls : List Asked) (told : ℕ × Reply) : Type 0 where
   pub within : told.0 < length calls
   pub found : is_memory told.1.detail ≡ false
@@ -60,9 +60,9 @@ pub record Rests {M : Type 0} (stands : M → State → Type 0) (failures : M �
   pub stays : Stays stands old new
   pub counted : RiseBy 0 (failures old) (failures new)
 
--- Calls were answered together, one after another in the order of their replies, as a group of whose records this
--- became: whichever state it stood for, it stands for the one to which their entries lead. The device was called once,
--- for the first of them, and no more failures are told of than were counted.
+-- Calls were answered together, one after another in the order of their replies, as a group whose records became
+-- this: whichever state it stood for, it stands for the one to which their entries lead. The device was called once,
+-- for the first of them, and no more failures are reported than were counted.
 pub record ActsTogether {M : Type 0} (stands : M → State → Type 0)
     (has_called : Event → Outcome → M → M → Type 0) (crashes_together : List Event → M → M → Type 0)
     (failures : M → ℕ × ℕ) (old : M) (calls : List Asked) (r : ℕ × Reply) (rs : List (ℕ × Reply))
@@ -95,7 +95,7 @@ abbrev pub lost_entries : List Event → List Entry
 lost_entries [] = []
 lost_entries (e ∷ es) = lost_entry (Appended Lost) e ∷ map (lost_entry (Joined Lost)) es
 
--- the files stand for the state to which the calls lead where their records are lost
+-- the files stand for the state to which the calls lead if their records are lost
 abbrev pub CrashesTogether : {D : Type 0} → disk.Ghosts D → List Event → Manager D → Manager D → Type 0
 CrashesTogether disks events m m' =
     (s : State) → ManagerStandsFor disks m s → Trusts disks

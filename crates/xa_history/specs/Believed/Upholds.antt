@@ -8,14 +8,14 @@ use Rattle.xa_history.specs.declared.entry.Entry.{Entry}
 use Rattle.xa_history.specs.declared.manages.Manages.{Ghosts}
 use Rattle.xa_history.specs.Believed.Book.{AreNumbered, HasNoRestart, plain_entries}
 
--- From each starting state the book is a legal history, and the manager stands for its last state. Where somebody asked
--- for a restart it is so under the premises on devices.
+-- From each starting state the book is a legal history, and the manager stands for its last state. If somebody asked
+-- for a restart this holds under the premises on devices.
 abbrev pub IsLegal : {M : Type 0} → Ghosts M → (State → Type 0) → M → List Entry → Type 0
 IsLegal m start now entries =
     (s : State) → start s → m.trusts ⊎ HasNoRestart entries
     → (t : State) × Leads s (plain_entries entries) t × m.stands now t
 
--- Under the same premises, the book tells of no more failures than were counted since it was begun, and each record in
+-- Under the same premises, the book reports no more failures than were counted since it was begun, and each record in
 -- it that joined became what the one before it became.
 abbrev pub IsCounted : {M : Type 0} → Ghosts M → (State → Type 0) → ℕ × ℕ → M → List Entry → Type 0
 IsCounted m start base now entries =

@@ -1,4 +1,4 @@
--- What a log's records say of the state that they stand behind.
+-- What a log's records say of the state that they back.
 use Rattle.std.specs.Prelude.{ℕ, zero, suc, ◌≡◌, ◌+◌, ◌≤◌, true, false, Ok, IfSome, List, [], ◌∷◌, ◌++◌}
 use Rattle.std.specs.List.{AllByRecursion}
 use Rattle.xa_record.specs.Limits.{IsRecord}
@@ -19,7 +19,7 @@ pub record IsNew (s : State) (timestamps : List ℕ) : Type 0 where
   pub unused : AllByRecursion (λ b. is_working b.phase ≡ true → is_used b.timestamp timestamps ≡ false) s.branches
 
 -- a log of these records: it comes to what would last, ends where the state says,
--- and what the state has still to log is new to it
+-- and what the state still has to log is new to it
 pub record Backs (rs : List Record) (s : State) : Type 0 where
   pub records : AllByRecursion IsRecord rs
   pub lasts : fold rs ≡ Ok (durable s)
@@ -32,13 +32,13 @@ abbrev pub settled : List Record → State → Record → List Record
 settled rs s (logged.Opened boot) = snapshot (durable s) boot
 settled rs s r = rs ++ r ∷ []
 
--- and after which the first so many of these stand
+-- and after which the first k of these stand
 abbrev pub settled_first : ℕ → List Record → List Record → State → List Record
 settled_first zero lost rs s = rs
 settled_first (suc k) [] rs s = rs
 settled_first (suc k) (r ∷ lost) rs s = settled_first k lost (settled rs s r) (applied r s)
 
--- The log's records go on with the state: at each answer of the device
+-- The log's records keep up with the state: at each answer of the device
 
 abbrev pub BacksReading : List Record → State → Rereading → Type 0
 BacksReading rs s (Stops a) = Backs rs a.after

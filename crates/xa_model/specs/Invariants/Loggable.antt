@@ -12,7 +12,7 @@ use Rattle.xa_model.specs.Invariants.MayLog.{MayLog}
 use Rattle.xa_model.specs.Logging.{applied}
 pub use Rattle.xa_model.specs.Logging.{is_boot}
 
--- so many writes as a record takes, each within its limits
+-- as many writes as a record takes, each within its limits
 pub record AreShort (ws : List Write) : Type 0 where
   pub few : length ws ≤ MOST_WRITES
   pub each : AllByRecursion IsWrite ws
@@ -32,12 +32,12 @@ pub record MayBeLast (s : State) (r : Record) : Type 0 where
   pub limits : IsRecord r
   pub current : is_boot r ≡ false → s.logged_boot ≡ s.boot
 
--- each of these may be the log's last, where those before it are kept
+-- each of these may be the log's last, if those before it are kept
 abbrev pub MayFollow : State → List Record → Type 0
 MayFollow s [] = Unit {0}
 MayFollow s (r ∷ rs) = MayBeLast s r × MayFollow (applied r s) rs
 
--- a boot's record is lost by itself
+-- a boot's record is lost alone
 abbrev pub AreOneGroup : List Record → Type 0
 AreOneGroup rs = AllByRecursion (λ r. is_boot r ≡ false) rs ⊎ (length rs ≡ 1)
 

@@ -1,4 +1,4 @@
--- What may be logged of a state.
+-- What may be logged in a state.
 use Rattle.std.specs.Prelude.{ℕ, ◌≡◌, ◌<◌, true, List}
 use Rattle.xa_codes.specs.declared.write.Write.{Write}
 use Rattle.xa_xid.specs.Triple.{Triple}
@@ -16,7 +16,7 @@ pub record IsIdle (s : State) (xid : Triple) (t : ℕ) (ws : List Write) : Type 
   pub timestamp : timestamp_in s xid ≡ t
   pub writes : writes_in s xid ≡ ws
 
--- what may be logged of a state: the record says what its branch is
+-- what may be logged in a state: the record says what its branch is
 abbrev pub MayLog : State → Record → Type 0
 MayLog s (logged.Opened boot) = s.logged_boot < boot
 MayLog s (logged.Prepared xid t ws) = IsIdle s xid t ws

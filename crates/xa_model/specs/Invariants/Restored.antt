@@ -1,4 +1,4 @@
--- The states that a restart and an opening lead to, of what lasted.
+-- The states that a restart and an opening lead to, from what lasted.
 use Rattle.std.specs.Prelude.{ℕ, ◌≡◌, true, false, []}
 use Rattle.std.specs.List.{AllByRecursion}
 use Rattle.xa_model.specs.State.{State, Up, is_working}
@@ -7,7 +7,7 @@ use Rattle.xa_model.specs.Logging.{snapshot_end}
 use Rattle.xa_model.specs.Invariants.Loggable.{IsRecoverable}
 
 -- The next boot began with this, and nothing was asked of it yet: no branch is at work, and
--- nobody has read. Committed branches may have reads, and writes that later ones wrote over:
+-- nobody has read. Committed branches may have reads, and writes that later ones overwrote:
 -- what lasts is all that later branches can see of them.
 pub record IsRestored (d : Durable) (next : ℕ) (s : State) : Type 0 where
   pub recoverable : IsRecoverable s

@@ -21,7 +21,7 @@ abbrev pub HasRoomWith : State → List Record → Type 0
 HasRoomWith s [] = Unit {0}
 HasRoomWith s (r ∷ rs) = HasRoom (applied r s) × HasRoomWith (applied r s) rs
 
--- the room is there, and is there still however many of the records whose fates are unknown are found in the log
+-- the room is there, and is still there however many of the records whose fates are unknown are found in the log
 pub record HasRoomAnyway (s : State) : Type 0 where
   pub room : HasRoom s
   pub found : HasRoomWith s s.open_records
@@ -37,14 +37,14 @@ KeepsRoom =
     → is_restart e ≡ false
     → step s (Asked e) outcome ≡ Some a → IsRoomy a.after
 
--- so does a restart, and an opening that succeeds: the new file is no longer than the log behind the state
+-- so does a restart, and an opening that succeeds: the new file is no longer than the log that backs the state
 abbrev pub RestartKeepsRoom : Type 0
 RestartKeepsRoom =
     (rs : List Record) (s : State) (happening : Happening) (outcome : Outcome) (a : Answer) → IsHappening happening
     → IsRecoverable s → Backs rs s → IsRoomy s
     → step s happening outcome ≡ Some a → IsRoomy a.after
 
--- where records stand behind a state that keeps its room, no trim is refused for want of it
+-- if records back a state that keeps its room, no trim is refused for lack of it
 abbrev pub TrimHasRoom : Type 0
 TrimHasRoom =
     (rs : List Record) (s : State) → IsRecoverable s → Backs rs s → HasRoom s

@@ -1,4 +1,4 @@
--- Laws on the log behind a state, and on the states that restarts and openings lead to.
+-- Laws on the log that backs a state, and on the states that restarts and openings lead to.
 use Rattle.std.specs.Prelude.{ℕ, ◌≡◌, ◌+◌, ◌<◌, ◌≤◌, true, false, Ok, Some, List, [], ◌++◌, length, take}
 use Rattle.std.specs.List.{AllByRecursion}
 use Rattle.xa_record.specs.Limits.{IsRecord}
@@ -32,31 +32,31 @@ AlwaysRecoverable =
     (first last : State) (entries : List Entry) → HaveHappened entries → IsRecoverable first → Leads first entries last
     → IsRecoverable last
 
--- what a state may log fits behind the log's records
+-- what a state may log fits after the log's records
 abbrev pub LoggedInOrder : Type 0
 LoggedInOrder =
     (rs : List Record) (s : State) (r : Record) → IsRecoverable s → Backs rs s → MayBeLast s r
     → fits r (reading unread rs) ≡ true
 
--- the log's records go on with the state, whatever is asked and whatever the device answers
+-- the log's records keep up with the state, whatever is asked and whatever the device answers
 abbrev pub KeepsBacked : Type 0
 KeepsBacked =
     (rs : List Record) (s : State) (happening : Happening) → IsHappening happening → IsRecoverable s → Backs rs s
     → BacksTurn rs s (turn s happening)
 
--- they go on with what a look finds of the records whose fates are unknown
+-- they keep up with what a look finds of the records whose fates are unknown
 abbrev pub BacksFound : Type 0
 BacksFound =
     (rs : List Record) (s : State) (k : ℕ) (t : State) → IsRecoverable s → Backs rs s → survived s k ≡ Some t
     → Backs (settled_first k s.open_records rs s) t
 
--- of a group the first so many stand after them
+-- of a group the first k stand after them
 abbrev pub SettlesGroup : Type 0
 SettlesGroup =
     (k : ℕ) (lost rs : List Record) (s : State) → AllByRecursion (λ r. is_boot r ≡ false) lost
     → settled_first k lost rs s ≡ rs ++ take k lost
 
--- a restart and an opening, of a state whose records' fates are settled, lead to what lasted of it
+-- a restart and an opening, from a state whose records' fates are settled, lead to what lasted of it
 abbrev pub RestartsRestored : Type 0
 RestartsRestored =
     (s : State) → IsRecoverable s → s.open_records ≡ [] → s.logged_boot < MOST_BOOTS

@@ -22,7 +22,7 @@ use Rattle.xa_model.specs.ListedLaw.{is_prepare, is_completion, is_request}
 use Rattle.xa_model.specs.Crash.{with_append, appends, lost_of, IsFate, MayBeLeft, MayBeLostWith}
 use Rattle.xa_model.specs.Crash.{MayBeLeftWith, MayBeLeftIn}
 
--- Where an outcome fits, it fits with its append lost, but for that of a record that joined: a group is lost from its
+-- If an outcome fits, it fits with its append lost, except for that of a record that joined: a group is lost from its
 -- first record on.
 abbrev pub LostFits : Type 0
 LostFits =
@@ -30,7 +30,7 @@ LostFits =
     → step s happening outcome ≡ Some a
     → is_some (step s happening (lost_of outcome)) ≡ true
 
--- where an append was lost, a crash leaves what lasts where it was refused, or what lasts where it was kept
+-- if an append was lost, a crash leaves what lasts if it was refused, or what lasts if it was kept
 abbrev pub LostFates : Type 0
 LostFates =
     (s : State) (happening : Happening) (outcome : Outcome) (kept refused lost : Answer) → IsHappening happening
@@ -40,7 +40,7 @@ LostFates =
     → step s happening (with_append Lost outcome) ≡ Some lost
     → fates lost.after ≡ durable refused.after ∷ durable kept.after ∷ []
 
--- While it happens a crash may leave what it may leave before it, what it may behind it,
+-- While it happens a crash may leave what it may leave before it, what it may after it,
 abbrev pub LeavesBefore : Type 0
 LeavesBefore =
     (s : State) (happening : Happening) (outcome : Outcome) (d : Durable) → IsFate s d
@@ -60,7 +60,7 @@ LeavesAppended =
     → step s happening (with_append Refused outcome) ≡ Some refused
     → MayBeLeft s happening outcome (durable kept.after) × MayBeLeft s happening outcome (durable refused.after)
 
--- but where nothing is appended, nothing else than before.
+-- but if nothing is appended, nothing other than before.
 abbrev pub LeavesNoMore : Type 0
 LeavesNoMore =
     (s : State) (happening : Happening) (outcome : Outcome) (d : Durable) → IsHappening happening → IsRecoverable s
@@ -71,8 +71,8 @@ LeavesNoMore =
 abbrev pub LeavesExactly : Type 0
 LeavesExactly = (s : State) (d : Durable) → s.open_records ≡ [] → IsFate s d → d ≡ durable s
 
--- A crash leaves what a look at the log may find: what lasts of the state with the first of the open records, as many
--- as may be.
+-- A crash leaves what a look at the log may find: what lasts of the state with the first of the open records, however
+-- many.
 abbrev pub LeavesFound : Type 0
 LeavesFound = (s : State) (k : ℕ) (t : State) → survived s k ≡ Some t → IsFate s (durable t)
 
@@ -136,8 +136,8 @@ LeftAmid =
 abbrev pub NoneAsks : (Request → Bool) → List Entry → Type 0
 NoneAsks test run = AllByRecursion (λ e. is_request test e.happening ≡ false) run
 
--- of what is left recovery lists what was prepared, while its completion wasn't asked for: neither before the run, nor
--- in it, where the crash may break off what would have been refused
+-- from what is left recovery lists what was prepared, while its completion wasn't asked for: neither before the run,
+-- nor in it, where the crash may break off what would have been refused
 abbrev pub CrashLists : State → Type 0
 CrashLists first =
     (mid : State) (before later run : List Entry) (prepare : Entry) (xid : Triple) (d : Durable)

@@ -14,17 +14,17 @@ use Rattle.xa_model.specs.Fold.{Reading, apply, fits, fold, is_timely, is_used, 
 abbrev pub FoldReads : Type 0
 FoldReads = (rs : List Record) (d : Durable) → fold rs ≡ Ok d → (reading unread rs).durable ≡ d
 
--- one more record does what it does to what the others come to, if it fits behind them
+-- one more record does what it does to what the others come to, if it fits after them
 abbrev pub OneMore : Type 0
 OneMore =
     (rs : List Record) (r : Record) (d : Durable) → fold rs ≡ Ok d
     → fold (rs ++ r ∷ []) ≡ (if fits r (reading unread rs) then Ok (apply r d) else Err (length rs))
 
--- what stands behind a record that is out of order doesn't matter
+-- what stands after a record that is out of order doesn't matter
 abbrev pub FirstFault : Type 0
 FirstFault = (rs more : List Record) (i : ℕ) → fold rs ≡ Err i → fold (rs ++ more) ≡ Err i
 
--- a timestamp that the last boot gave comes in time, if no record has it: what is logged of branches of that boot alone
+-- a timestamp that the last boot gave comes in time, if no record has it: what is logged only of branches of that boot
 -- is read as it always was
 abbrev pub TakesOwnBoot : Type 0
 TakesOwnBoot =
@@ -63,7 +63,7 @@ SnapshotIsWritten =
     (rs : List Record) (d : Durable) (boot : ℕ) → AllByRecursion IsRecord rs → fold rs ≡ Ok d → 1 ≤ boot → boot < 2 ^ 32
     → AllByRecursion IsRecord (snapshot d boot)
 
--- what a sound state would leave is of the form, where logged boots gave all its timestamps
+-- what a sound state would leave is of the form, if logged boots gave all its timestamps
 abbrev pub LeavesDurable : Type 0
 LeavesDurable =
     (s : State) → IsSound s → AllByRecursion (λ b. is_past (s.logged_boot + 1) b.timestamp ≡ true) s.branches

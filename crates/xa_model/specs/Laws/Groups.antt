@@ -55,7 +55,7 @@ abbrev pub FindsFirst : Type 0
 FindsFirst = (s : State) (k : ℕ) → k ≤ length s.open_records → (t : State) × (survived s k ≡ Some t)
 
 -- Each record that joined stands in the group of one that didn't, after which all joined, and became what that became:
--- so what is refused and what is lost in a group tells of the one device call of its first entry.
+-- so what is refused and what is lost in a group reports the one device call of its first entry.
 pub record IsGroup (entries : List Entry) (appending : Appending) : Type 0 where
   pub earlier : List Entry
   pub first : Entry

@@ -32,7 +32,7 @@ is_in_time (logged.Prepared xid t ws) x = is_timely t x
 is_in_time (logged.Committed xid t ws) x = is_timely t x
 is_in_time _ x = true
 
--- it fits behind records that come to what the state would leave, if it comes in time
+-- it fits after records that come to what the state would leave, if it comes in time
 abbrev pub AppliedFits : Type 0
 AppliedFits =
     (s : State) (rs : List Record) (r : Record) → IsSound s → fold rs ≡ Ok (durable s) → MayLog s r
@@ -41,7 +41,7 @@ AppliedFits =
 
 -- What events log
 
--- where nothing more is logged, the state is sound, and the same lasts
+-- if nothing more is logged, the state is sound, and the same lasts
 pub record KeepsLog (s t : State) : Type 0 where
   pub sound : IsSound t
   pub lasts : durable t ≡ durable s
@@ -95,7 +95,7 @@ abbrev pub apply_all : List Record → Durable → Durable
 apply_all [] d = d
 apply_all (r ∷ rs) d = apply_all rs (apply r d)
 
--- a look that failed leaves all fates; else the first so many of the open records
+-- a look that failed leaves all fates; otherwise the first k of the open records
 -- did what they say, and the new boot begins with that
 abbrev pub SettlesWhatLasts : State → Turn → Type 0
 SettlesWhatLasts s (Rereads failed found) =
@@ -112,7 +112,7 @@ abbrev pub ReopenLasts : Type 0
 ReopenLasts =
     (s : State) (name : List ℕ) (log_bytes : ℕ) → IsRecoverable s → SettlesWhatLasts s (reopen_turn s name log_bytes)
 
--- a trim that is refused leaves what it was; else it is as a boot that begins once no record's fate is unknown
+-- a trim that is refused leaves what it was; otherwise it is like a boot that begins once no record's fate is unknown
 abbrev pub BeginsWhatLasts : State → Turn → Type 0
 BeginsWhatLasts s (Now a) = Fails s a.after
 BeginsWhatLasts s (Checkpoints r after) = BootLasts s (Opens r after) × (s.open_records ≡ [])

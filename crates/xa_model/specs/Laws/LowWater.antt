@@ -25,7 +25,7 @@ IsReached =
 abbrev pub BelowNext : Type 0
 BelowNext = (s : State) (n : ℕ) → IsSound s → s.given < n → low_water s < timestamp_of s.boot n
 
--- whatever happens, and whatever the device did, it never falls: not where
+-- whatever happens, and whatever the device did, it never falls: not when
 -- branches are completed, not over a restart or an opening
 abbrev pub NeverFalls : Type 0
 NeverFalls =

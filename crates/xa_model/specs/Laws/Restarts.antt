@@ -19,7 +19,7 @@ use Rattle.xa_model.specs.History.{Entry, Leads}
 abbrev pub asks : ℕ → Outcome → Reply → Entry
 asks n outcome reply = record { happening = Asked (Call n Restart); outcome = outcome; reply = reply }
 
--- a session connects where there is none, and is hung up
+-- a session connects if there is none, and is hung up
 abbrev pub comes : Entry
 comes = record { happening = Asked Connect; outcome = Quiet; reply = carrying (Number 1) }
 

@@ -1,5 +1,5 @@
 -- Laws of calls that are asked together, on different XIDs: what the record of one does leaves all that another looks
--- at, but for the room. So a call appends the same record where those before it are kept, refused or lost.
+-- at, except for the room. So a call appends the same record if those before it are kept, refused or lost.
 use Rattle.std.specs.Prelude.{ℕ, ℤ, pos, ◌≡◌, ◌+◌, Bool, true, false, not, Option, Some, None, List, [], ◌∷◌, ◌++◌}
 use Rattle.std.specs.Prelude.{length, map, if◌then◌else◌}
 use Rattle.std.specs.List.{AllByRecursion}
@@ -43,7 +43,7 @@ xid_of (Forget flags xid) = Some xid
 xid_of (Decide direction xid) = Some xid
 xid_of _ = None
 
--- what such a call looks at, but for the room, is the same in both states
+-- what such a call looks at, except for the room, is the same in both states
 pub record IsSameFor (xid : Triple) (s t : State) : Type 0 where
   pub known : known_of t.branches xid ≡ known_of s.branches xid
   pub decided : decided_of t.decided xid ≡ decided_of s.decided xid
@@ -59,8 +59,8 @@ has_room_for s (logged.Prepared xid t ws) = has_room s (logged.Prepared xid t ws
 has_room_for s (logged.Committed xid t ws) = has_room s (logged.Committed xid t ws) 0
 has_room_for s _ = true
 
--- A record that is kept, and one that is refused, leave calls on other XIDs the same. Of one that was lost that is said
--- of what the state would have come to, which is the one with the record kept.
+-- A record that is kept, and one that is refused, leave calls on other XIDs the same. For one that was lost that is
+-- said of what the state would have come to, which is the one with the record kept.
 abbrev pub LeavesOthers : Type 0
 LeavesOthers =
     (s : State) (n : ℕ) (request : Request) (xid other : Triple) (r : Record) (after : Appending → Answer)
@@ -76,7 +76,7 @@ AtOnceLeavesOthers =
     → xid_of request ≡ Some xid → xid_eq xid other ≡ false → s.standing ≡ Up
     → turn s (Asked (Call n request)) ≡ Now a → IsSameFor other s a.after
 
--- Where a call finds the same, and there is room, it appends the same record.
+-- If a call finds the same, and there is room, it appends the same record.
 abbrev pub AppendsTheSame : Type 0
 AppendsTheSame =
     (s t : State) (n : ℕ) (request : Request) (xid : Triple) (r : Record) (after : Appending → Answer)
@@ -92,7 +92,7 @@ abbrev pub refused_code : Request → ℤ
 refused_code (Commit flags xid) = if has flags TMONEPHASE then XAER_RMERR else XA_RETRY
 refused_code _ = XAER_RMERR
 
--- It leaves the state as it was, but that a branch that was to be committed in one phase is rolled back.
+-- It leaves the state as it was, except that a branch that should have been committed in one phase is rolled back.
 abbrev pub left_by : Request → State → State
 left_by (Commit flags xid) s = if has flags TMONEPHASE then rolled_back s xid else s
 left_by _ s = s
@@ -111,8 +111,8 @@ is_preparing (logged.Prepared xid t ws) = true
 is_preparing _ = false
 
 -- Whether there is room for a record that is appended after these, whatever becomes of them: their bytes and the
--- branches that they prepare are added, and what they complete isn't counted as free. Else a prepare might have room
--- where an earlier completion is kept, and none where it is refused.
+-- branches that they prepare are added, and what they complete isn't counted as free. Otherwise a prepare might have
+-- room if an earlier completion is kept, and none if it is refused.
 abbrev pub has_room_after : List Record → State → Record → Bool
 has_room_after before s (logged.Prepared xid t ws) =
     log_room s.log_bytes (s.end + sizes before + size_of (logged.Prepared xid t ws))
@@ -122,7 +122,7 @@ has_room_after before s (logged.Committed xid t ws) =
     (prepared_count s + count is_preparing before) (length s.decided)
 has_room_after before s _ = true
 
--- So there is room where they are kept one after another,
+-- So there is room if they are kept one after another,
 abbrev pub RoomWhereKept : Type 0
 RoomWhereKept =
     (s : State) (before : List Record) (r : Record) → MayFollow s before
@@ -130,7 +130,7 @@ RoomWhereKept =
     → has_room_after before s r ≡ true
     → has_room_for (applied_all before s) r ≡ true
 
--- and where they are refused, so that the same lasts.
+-- and if they are refused, so that the same lasts.
 abbrev pub RoomWhereRefused : Type 0
 RoomWhereRefused =
     (s t : State) (before : List Record) (r : Record) → t.log_bytes ≡ s.log_bytes → t.end ≡ s.end
@@ -147,7 +147,7 @@ pub record Part : Type 0 where
   pub xid : Triple
   pub appended : Record
 
--- what it appends by itself, of this state
+-- what it appends alone, in this state
 pub record AppendsOf (s : State) (p : Part) : Type 0 where
   pub of_xid : xid_of p.request ≡ Some p.xid
   pub event : IsEvent (Call p.session p.request)
@@ -164,7 +164,7 @@ HaveRoom s before [] = Unit {0}
 HaveRoom s before (p ∷ ps) =
     (has_room_after before s p.appended ≡ true) × HaveRoom s (before ++ p.appended ∷ []) ps
 
--- calls that may stand together: each would append a record by itself, they are of distinct XIDs, and there is room
+-- calls that may stand together: each would append a record alone, they are of distinct XIDs, and there is room
 pub record MayStandTogether (s : State) (parts : List Part) : Type 0 where
   pub appends : AllByRecursion (AppendsOf s) parts
   pub apart : AreApart parts
@@ -209,13 +209,13 @@ WorkLeavesGroup =
     → MayStandTogether s (p ∷ ps)
     → MayStandTogether a.after (p ∷ ps) × AllByRecursion (λ q. IsSameFor q.xid s a.after) (p ∷ ps)
 
--- what a call is replied, of whose record this became
+-- what a call is replied, if this became of its record
 abbrev pub replied : Appending → Request → Reply
 replied Kept request = plain (pos 0)
 replied Refused request = detailed (refused_code request) detail.Device
 replied Lost request = detailed XAER_RMFAIL detail.Device
 
--- its entry, with this outcome, where its record became this
+-- its entry, with this outcome, if this became of its record
 abbrev pub entry_of : Outcome → Appending → Part → Entry
 entry_of outcome appending p = record {
   happening = Asked (Call p.session p.request);
@@ -223,7 +223,7 @@ entry_of outcome appending p = record {
   reply = replied appending p.request;
 }
 
--- the entries of a group of whose records this became
+-- the entries of a group if this became of its records
 abbrev pub group_entries : Appending → Part → List Part → List Entry
 group_entries appending p ps =
     entry_of (Appended appending) appending p ∷ map (entry_of (Joined appending) appending) ps
@@ -241,7 +241,7 @@ KeptTogether =
     (s : State) (p : Part) (ps : List Part) → IsRecoverable s → s.standing ≡ Up → MayStandTogether s (p ∷ ps)
     → Leads s (group_entries Kept p ps) (applied_all (records_of (p ∷ ps)) s)
 
--- one that is refused, to what each refusal leaves by itself: the same lasts, and nothing more stands in the log
+-- one that is refused, to what each refusal alone leaves: the same lasts, and nothing more stands in the log
 abbrev pub RefusedTogether : Type 0
 RefusedTogether =
     (s : State) (p : Part) (ps : List Part) → IsRecoverable s → s.standing ≡ Up → MayStandTogether s (p ∷ ps)
@@ -253,8 +253,8 @@ LostTogether =
     (s : State) (p : Part) (ps : List Part) → IsRecoverable s → s.standing ≡ Up → MayStandTogether s (p ∷ ps)
     → Leads s (group_entries Lost p ps) (record (down s) { open_records = records_of (p ∷ ps) })
 
--- The log's records go on with a group: they are followed by its records, in their order, where it is kept, and stay
--- what they were where it is refused or lost.
+-- The log's records keep up with a group: they are followed by its records, in their order, if it is kept, and stay
+-- what they were if it is refused or lost.
 abbrev pub BacksTogether : Type 0
 BacksTogether =
     (rs : List Record) (s : State) (p : Part) (ps : List Part) → IsRecoverable s → s.standing ≡ Up
@@ -280,7 +280,7 @@ RefusedNoOther =
     → AsksWith (Appended Refused) p e → AskEach (Joined Refused) ps es
     → Leads s (e ∷ es) t → (e ∷ es ≡ group_entries Refused p ps) × (t ≡ left_by_all (p ∷ ps) s)
 
--- However long a group is, it tells of one device call: all others joined the first.
+-- However long a group is, it reports one device call: all others joined the first.
 abbrev pub TellsOfOne : Type 0
 TellsOfOne =
     (before : Option Appending) (appending : Appending) (p : Part) (ps : List Part)

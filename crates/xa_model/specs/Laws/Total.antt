@@ -10,7 +10,7 @@ use Rattle.xa_model.specs.Turn.{Stops, Opens}
 use Rattle.xa_model.specs.Step.{turn, step}
 use Rattle.xa_model.specs.Restarting.{restart_turn, reopen_turn}
 
--- behind a look at the log a record is appended exactly where the rereading appends one
+-- after a look at the log a record is appended exactly if the rereading appends one
 abbrev pub fits_rereading : Option Rereading → Option Appending → Bool
 fits_rereading (Some (Stops answer)) None = true
 fits_rereading (Some (Opens appended after)) (Some appending) = true
@@ -39,7 +39,7 @@ abbrev pub is_over : Standing → Happening → Bool
 is_over Ended (Asked event) = true
 is_over _ _ = false
 
--- of that nothing fits; else something does
+-- for that nothing fits; otherwise something does
 abbrev pub NothingIsStuck : Type 0
 NothingIsStuck =
     (s : State) (h : Happening) → is_over s.standing h ≡ false
@@ -48,7 +48,7 @@ NothingIsStuck =
 abbrev pub NobodyAnswers : Type 0
 NobodyAnswers = (s : State) (h : Happening) (outcome : Outcome) → is_over s.standing h ≡ true → step s h outcome ≡ None
 
--- a look that found the first so many of the records whose fates were unknown fits
+-- a look that found the first k of the records whose fates were unknown fits
 -- with this answer to the next append, or with none
 abbrev pub fits_look : Turn → ℕ → Appending → Bool
 fits_look t survived appending = fits t (Reread survived None) || fits t (Reread survived (Some appending))

@@ -1,5 +1,5 @@
--- Laws of a trim, beside those of every event: all that is at work goes on, recovery lists the same, and where the log's
--- records stand behind the state no trim is refused for want of room (`Room`).
+-- Laws of a trim, besides those of every event: all work goes on, recovery lists the same, and if the log's
+-- records back the state no trim is refused for lack of room (`Room`).
 use Rattle.std.specs.Prelude.{ℕ, ◌≡◌, Some}
 use Rattle.xa_frame.specs.declared.request.Request.TheVariants.{Trim}
 use Rattle.xa_xid.specs.Triple.{Triple}

@@ -9,7 +9,7 @@ use Rattle.xa_model.specs.Worked.Scripts.{resumes, suspends, migrates, ends, com
 use Rattle.xa_model.specs.Worked.Scripts.{dooms, decides, forgets, gets, puts, deletes}
 use Rattle.xa_model.specs.Worked.Refusals.{in_doubt, was_committed, was_rolled_back, settled, of_settled}
 
--- no commit in one phase with an association left, active, suspended or nobody's, nor of a branch that isn't at work; a
+-- no commit in one phase with an association left, active, suspended or loose, nor of a branch that isn't at work; a
 -- marked one is rolled back and gone
 abbrev pub OnePhaseRefused : Type 0
 OnePhaseRefused =

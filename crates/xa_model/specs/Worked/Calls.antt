@@ -18,7 +18,7 @@ use Rattle.xa_model.specs.Worked.Scripts.{puts}
 abbrev pub ComesAndGoes : Type 0
 ComesAndGoes = Replied new_manager (session 1 ++ closes 1 done ∷ hangs_up 1 ∷ [])
 
--- what one session lets go, another goes on with; what it only suspends, no other may, and it is not closed meanwhile
+-- what one session releases, another goes on with; what it only suspends, no other may, and it is not closed meanwhile
 abbrev pub Migration : Type 0
 Migration =
     Replied new_manager (
@@ -35,7 +35,7 @@ Migration =
     ∷ closes 1 done
     ∷ [])
 
--- a session goes on with its own suspended association, and ends its own, before one of nobody's
+-- a session goes on with its own suspended association, and ends its own, before a loose one
 abbrev pub OwnBeforeLoose : Type 0
 OwnBeforeLoose =
     Replied new_manager (
@@ -52,7 +52,7 @@ OwnBeforeLoose =
     ∷ commits 1 xid_a done
     ∷ [])
 
--- an association of nobody's is ended by whoever ends it
+-- a loose association is ended by whoever ends it
 abbrev pub LooseEnds : Type 0
 LooseEnds =
     Replied new_manager (
@@ -64,7 +64,7 @@ LooseEnds =
     ∷ commits 2 xid_a done
     ∷ [])
 
--- a hang-up marks the branch that the session is at work for, and another session's calls are answered the mark
+-- a hang-up marks the branch that the session is at work for, and another session's calls are answered with the mark
 abbrev pub BrokenConnection : Type 0
 BrokenConnection =
     Replied new_manager (
@@ -80,7 +80,7 @@ BrokenConnection =
     ∷ commits 2 xid_b done
     ∷ [])
 
--- it marks what the session has suspended too, and neither what it let go nor what it ended
+-- it marks what the session has suspended too, and neither what it released nor what it ended
 abbrev pub SuspendedAndBroken : Type 0
 SuspendedAndBroken =
     Replied new_manager (

@@ -22,7 +22,7 @@ use Rattle.xa_model.specs.Worked.Turns.{reopening, no_device}
 abbrev pub decided : State
 decided = record (with_branch Committed 156) { decided = record { xid = xid_1; direction = direction.Commit } ∷ [] }
 
--- a record that was refused changes nothing, save that a commit in one phase rolls its branch back
+-- a record that was refused changes nothing, except that a commit in one phase rolls its branch back
 abbrev pub EachRefused : Type 0
 EachRefused =
     let refused = detailed XAER_RMERR detail.Device in
@@ -33,7 +33,7 @@ EachRefused =
     × Takes (deciding in_doubt direction.Rollback) (Appended Refused) refused in_doubt
     × Takes (forgetting decided) (Appended Refused) refused decided
 
--- of one that was lost the fate is open: the manager is down, and nothing else changes
+-- if one was lost, its fate is unknown: the manager is down, and nothing else changes
 abbrev pub down_with : State → Record → State
 down_with s r = record s { standing = Down; open_records = r ∷ [] }
 
@@ -58,7 +58,7 @@ RestartRefused =
     × (taken (restarting in_doubt) Quiet ≡ None)
     × (taken (restarting in_doubt) (Appended Kept) ≡ None)
 
--- an opening where the boots are used up comes to nothing, and then only an opening may follow
+-- an opening when the boots are used up comes to nothing, and then only an opening may follow
 abbrev pub OpeningRefused : Type 0
 OpeningRefused =
     let ended = record in_doubt { sessions = []; standing = Ended } in

@@ -1,4 +1,4 @@
--- Worked rows: what each of the nineteen calls is refused before its row.
+-- Worked rows: how each of the nineteen calls is refused before its row.
 use Rattle.std.specs.Prelude.{ℕ, ℤ, None, Some, List, [], ◌∷◌, ◌++◌, map}
 use Rattle.xa_codes.specs.declared.codes.TheConstants.{XAER_ASYNC, XAER_PROTO, XAER_INVAL, XAER_NOTA, XAER_RMFAIL}
 use Rattle.xa_codes.specs.declared.direction.Direction.TheVariants as direction
@@ -52,7 +52,7 @@ with_flags flags =
 abbrev pub all_refused : ℤ → List Request → List Entry
 all_refused code requests = map (λ (request : Request). asks_by 1 request (plain code)) requests
 
--- no call is served of a session that isn't connected
+-- no call of a session that isn't connected is served
 abbrev pub NotConnected : Type 0
 NotConnected =
     Replied new_manager
@@ -60,7 +60,7 @@ NotConnected =
     ++ all_refused XAER_PROTO (Branches 1 None ∷ [])
     ++ all_refused XAER_PROTO of_operator)
 
--- of one that isn't opened the operator's calls are served, and Open, Close, Restart, Trim, Tick and Branches
+-- for one that isn't opened the operator's calls are served, and Open, Close, Restart, Trim, Tick and Branches
 abbrev pub NotOpened : Type 0
 NotOpened =
     Replied new_manager (
@@ -98,7 +98,7 @@ FlagsOfEach =
     ++ closes 1 done
     ∷ [])
 
--- a recovery lists at most 256, and so do branches, but one at least; whether there are so many makes no difference
+-- a recovery lists at most 256, and so do branches, but one at least; whether there are that many makes no difference
 abbrev pub CountsOfEach : Type 0
 CountsOfEach =
     Replied new_manager (

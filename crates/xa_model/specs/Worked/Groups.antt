@@ -46,7 +46,7 @@ three =
     ++ writes 1 xid_c 3 0x63
     ++ []
 
--- Of three that are kept each is answered, and acts, as by itself.
+-- Of three that are kept each is answered, and acts, as it would alone.
 abbrev pub GroupKept : Type 0
 GroupKept =
     Replied new_manager (
@@ -213,7 +213,7 @@ FatesOfGroup =
     × (fates both_lost ≡ nothing_held ∷ held ∷ both_held ∷ [])
     × (record_of (preparing_2 (supposed first_lost)) ≡ Some prepared_2)
 
--- An append by itself isn't lost with another, and of a group none is kept or refused once the first is lost. Nor is
+-- A single append isn't lost with another, and of a group none is kept or refused once the first is lost. Nor is
 -- one lost with it that would append nothing by then. What a manager that is up refuses joins nothing, nor does a trim
 -- or a restart.
 abbrev pub WhatJoins : Type 0
@@ -257,7 +257,7 @@ LostPromises =
     × (HasPrepared xid_b (together Lost (prepares 1 xid_b no_device)) → ⊥)
 
 -- The room of a prepare is judged as if a completion before it were kept and refused: 110 + 46 + 60 + 4 + 2 * 343. With
--- less it may have room where that is kept, and none where it is refused.
+-- less it may have room if that is kept, and none if it is refused.
 abbrev pub JudgedTogether : Type 0
 JudgedTogether =
     let one_in_doubt = record in_doubt { given = 2; branches = branch_2 ∷ in_doubt.branches } in
@@ -267,7 +267,7 @@ JudgedTogether =
     × (has_room_for (applied completed_1 (record one_in_doubt { log_bytes = 859 })) prepared_2 ≡ true)
     × (has_room_for (record one_in_doubt { log_bytes = 859 }) prepared_2 ≡ false)
 
--- While a group is on its way, whether it is kept or refused at last, a crash may leave none of it, its first record,
+-- While a group is on its way, whether it is finally kept or refused, a crash may leave none of it, its first record,
 -- or all of it, and never the second record without the first.
 abbrev pub second_held : Durable
 second_held = record held {

@@ -22,7 +22,7 @@ use Rattle.xa_model.specs.Worked.Turns.{Takes, asking, idle, marked_idle, in_dou
 abbrev pub stamp : ℕ → ℕ
 stamp n = 4294967296 + n
 
--- a branch with so many active, suspended and loose associations
+-- a branch with this many active, suspended and loose associations
 abbrev pub held : Triple → BranchState → ℤ → ℕ → ℕ → ℕ → ℕ → KnownBranch
 held xid state mark timestamp active suspended loose = record {
   xid = xid;
@@ -81,7 +81,7 @@ TellsInOrder =
     ∷ [])
 
 -- a branch that is prepared keeps its timestamp; one that the operator completed has none, and is told until it is
--- forgotten; a restart leaves those two alone
+-- forgotten; a restart leaves only those two
 abbrev pub TellsLasting : Type 0
 TellsLasting =
     let a = left xid_a state.Committed XA_OK 0 in

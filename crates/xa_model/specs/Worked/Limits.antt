@@ -82,7 +82,7 @@ having operations = record (new_branch 4294967297 xid_a (new_work 0 0)) { operat
 abbrev pub loose : Association
 loose = record { xid = xid_a; holder = Loose }
 
--- a branch has at most 64 associations of nobody's; one more is suspended all the same, but not let go
+-- a branch has at most 64 loose associations; one more is suspended all the same, but not released
 abbrev pub ManyLoose : Type 0
 ManyLoose =
     Replied (record new_manager { given = 1; branches = having []; associations = replicate 63 loose }) (
@@ -113,7 +113,7 @@ many_writes = record new_manager {
   reads = record { reader = 4294967298; key = late_key; source = 0 } ∷ [];
 }
 
--- a branch writes at most 256 keys; a further one is refused, also where it would be late, and leaves no mark
+-- a branch writes at most 256 keys; a further one is refused, also if it would be late, and leaves no mark
 abbrev pub ManyKeys : Type 0
 ManyKeys =
     Replied many_writes (

@@ -75,7 +75,7 @@ RolledBack =
     ≡ Ok (Opened 2 ∷ Held xid_1 4294967298 put_1 ∷ []))
 
 -- The last write of a key is that of the greatest timestamp, whichever was committed last. A delete is kept. A branch
--- whose writes were all written over is left out.
+-- whose writes were all overwritten is left out.
 abbrev pub LastWrites : Type 0
 LastWrites =
     (restarted 2 (
@@ -105,7 +105,7 @@ BootsInOrder =
     × (fold (Opened 2 ∷ Opened 2 ∷ []) ≡ Err 1)
     × (fold (Opened 1 ∷ Opened 3 ∷ Opened 2 ∷ []) ≡ Err 2)
 
--- A branch that began before the last boot is logged behind it, prepared or committed at once. Its writes take their
+-- A branch that began before the last boot is logged after it, prepared or committed at once. Its writes take their
 -- places by its timestamp: those of a branch of the last boot are later.
 abbrev pub BegunEarlier : Type 0
 BegunEarlier =
@@ -145,7 +145,7 @@ NamesInOrder =
     × (fold (Opened 1 ∷ Prepared xid_1 4294967297 put_1 ∷ Decided xid_1 Commit ∷ Decided xid_1 Commit ∷ []) ≡ Err 3)
     × (fold (Opened 1 ∷ Prepared xid_1 4294967297 put_1 ∷ Forgotten xid_1 ∷ []) ≡ Err 2)
 
--- a snapshot stands directly behind the first boot, of branches of earlier boots, each kind in its order
+-- a snapshot stands directly after the first boot, of branches of earlier boots, each kind in its order
 abbrev pub SnapshotsInOrder : Type 0
 SnapshotsInOrder =
     (fold (Opened 2 ∷ Opened 3 ∷ Base 4294967297 put_1 ∷ []) ≡ Err 2)

@@ -50,7 +50,7 @@ MissesOwnDelete =
 abbrev pub ReadsAbove : Type 0
 ReadsAbove = IsOneCopy (branch_at 2 (Wrote key written ∷ []) ∷ branch_at 1 (Got key written 2 ∷ []) ∷ []) → ⊥
 
--- session 1 works for a branch at 2, which did this, above a write by 1; so many reads were answered
+-- session 1 works for a branch at 2, which did this, above a write by 1; these reads were answered
 abbrev at_work : List Operation → List Read → State
 at_work operations reads = record new_manager {
   sessions = as_opened (new_session 1) ∷ [];

@@ -133,8 +133,8 @@ Scans =
     ∷ recovers 1 TMNOFLAGS 256 (listing (xid_b ∷ []))
     ∷ [])
 
--- a branch is prepared where its record leaves just the room to complete and
--- to forget it, and else rolled back, and gone
+-- a branch is prepared if its record leaves just the room to complete and
+-- to forget it, otherwise it is rolled back, and gone
 abbrev pub JustRoom : Type 0
 JustRoom = Replied (record new_manager { log_bytes = 457 }) in_doubt
 
@@ -143,7 +143,7 @@ NoRoom =
     Replied (record new_manager { log_bytes = 456 })
     (written ++ prepares 1 xid_1 (detailed XA_RBOTHER detail.LogFull) ∷ rolls_back 1 xid_1 (plain XAER_NOTA) ∷ [])
 
--- a call whose record is refused may be asked again, save for a commit in one phase, whose branch is gone
+-- a call whose record is refused may be asked again, except for a commit in one phase, whose branch is gone
 abbrev pub Refusals : Type 0
 Refusals =
     Replied new_manager (
@@ -158,7 +158,7 @@ Refusals =
     ∷ commits 1 xid_a (plain XAER_NOTA)
     ∷ [])
 
--- what was committed is listed no more, also after a restart, until its XID is prepared again: a prepare whose record
+-- what was committed is no longer listed, also after a restart, until its XID is prepared again: a prepare whose record
 -- was lost may be found
 abbrev pub PreparedAgain : Type 0
 PreparedAgain =

@@ -83,7 +83,7 @@ FlagsRefused =
 
 -- The association table
 
--- no close with an association of the session's own, active or suspended; one of nobody's doesn't count
+-- no close with an association of the session's own, active or suspended; a loose one doesn't count
 abbrev pub CloseRefused : Type 0
 CloseRefused =
     Replied new_manager (
@@ -111,7 +111,7 @@ StartRefused =
     ++ begins 2 xid_b (time 5)
     ∷ [])
 
--- no join at work, nor where the session has suspended its work for the branch, nor of a branch that isn't at work; one
+-- no join at work, nor if the session has suspended its work for the branch, nor of a branch that isn't at work; one
 -- that is marked is not joined
 abbrev pub JoinRefused : Type 0
 JoinRefused =
@@ -130,8 +130,8 @@ JoinRefused =
     ∷ closes 2 done
     ∷ [])
 
--- nothing is resumed at work, nor where nothing is suspended that the session may go on with; what is resumed of a
--- marked branch ends, the session's own or nobody's
+-- nothing is resumed at work, nor if nothing is suspended that the session may go on with; what is resumed of a
+-- marked branch ends, the session's own or a loose one
 abbrev pub ResumeRefused : Type 0
 ResumeRefused =
     Replied settled (

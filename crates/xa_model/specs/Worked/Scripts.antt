@@ -147,11 +147,11 @@ recovers n flags count reply = asks_by n (Recover flags count) reply
 abbrev pub branches : ℕ → ℕ → Option Triple → Reply → Entry
 branches n count after reply = asks_by n (Branches count after) reply
 
--- of the records whose fates were unknown the first so many are there, and the new boot is logged
+-- of the records whose fates were unknown the first `survived` are there, and the new boot is logged
 abbrev pub restarts : ℕ → ℕ → Reply → Entry
 restarts n survived reply = with_outcome (Reread survived (Some Kept)) (asks_by n Restart reply)
 
--- the log begins anew
+-- a new log begins
 abbrev pub trims : ℕ → Reply → Entry
 trims n reply = asks_by n Trim reply
 

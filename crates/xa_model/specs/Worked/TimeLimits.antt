@@ -17,7 +17,7 @@ use Rattle.xa_model.specs.Worked.Scripts.{opens, closes, session, two_sessions, 
 use Rattle.xa_model.specs.Worked.Scripts.{completes, rolls_back, dooms, puts, restarts, limits, ticks}
 use Rattle.xa_model.specs.Worked.Turns.{Takes, asking, restarting, reopening, with_branch, in_doubt, held, booted}
 
--- a branch that is as old as its limit is marked, and can only be rolled back; one that is prepared isn't
+-- a branch that is as old as its limit is marked, and rollback-only; one that is prepared isn't
 abbrev pub TimedOut : Type 0
 TimedOut =
     Replied new_manager (

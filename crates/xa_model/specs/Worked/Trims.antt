@@ -1,4 +1,4 @@
--- Worked rows of a trim: what it writes and leaves, when it is refused, and what goes on over it.
+-- Worked rows of a trim: what it writes and leaves, when it is refused, and what goes on during it.
 use Rattle.std.specs.Prelude.{ℕ, ◌≡◌, Some, None, [], ◌∷◌, ◌++◌}
 use Rattle.xa_codes.specs.declared.codes.TheConstants.{XAER_RMERR, XAER_RMFAIL, XA_RBTRANSIENT}
 use Rattle.xa_codes.specs.declared.detail.Detail.TheVariants as detail
@@ -22,7 +22,7 @@ use Rattle.xa_model.specs.Worked.Device.{down_with}
 abbrev pub in_boot : State → ℕ → ℕ → State
 in_boot s boot end = record s { boot = boot; given = 0; logged_boot = boot; end = end }
 
--- Of a branch that is prepared and then committed the log keeps the writes alone: 156 bytes become 102. Nothing else
+-- Of a branch that is prepared and then committed the log keeps only the writes: 156 bytes become 102. Nothing else
 -- changes, also of branches at work, and of the scan that is open.
 abbrev pub Trimmed : Type 0
 Trimmed =
@@ -35,8 +35,8 @@ Trimmed =
     × (taken (trim_turn in_doubt) Failed ≡ None)
     × (taken (trim_turn in_doubt) (Reread 0 (Some Kept)) ≡ None)
 
--- Boots above the half are kept for restarts. A log is trimmed where it has room for the snapshot, the closing length,
--- and what is kept for the branch: 110 + 4 + 343. The boots are looked at first.
+-- Boots above the half are kept for restarts. A log is trimmed if it has room for the snapshot, the closing length,
+-- and what is kept for the branch: 110 + 4 + 343. The boots are checked first.
 abbrev pub TrimLimits : Type 0
 TrimLimits =
     let last = record idle { boot = 2147483647; logged_boot = 2147483647 } in
@@ -51,8 +51,8 @@ TrimLimits =
     (in_boot (record in_doubt { log_bytes = 457 }) 2 110)
     × Takes (trim_turn both) Quiet limit both
 
--- A snapshot that was refused changes nothing. Of one that was lost the fate is open, and a restart finds it, or not;
--- it ends what is at work, as it does always.
+-- A snapshot that was refused changes nothing. The fate of one that was lost is unknown, and a restart finds it, or
+-- not; it ends what is at work, as it does always.
 abbrev pub TrimDevice : Type 0
 TrimDevice =
     let lost_trim = down_with in_doubt (logged.Opened 2) in
@@ -103,7 +103,7 @@ CountsOn =
     ∷ ticks 1 10 (number 1)
     ∷ [])
 
--- What was prepared before a trim is committed after it, also where the trim was lost: found by a restart or not. A
+-- What was prepared before a trim is committed after it, also if the trim was lost: found by a restart or not. A
 -- manager that is down trims nothing.
 abbrev pub PreparedOver : Type 0
 PreparedOver =

@@ -30,7 +30,7 @@ use Rattle.xa_model.specs.Worked.{xarm, byte, done}
 use Rattle.xa_model.specs.Worked.Log.{xid_1, put_1}
 use Rattle.xa_model.specs.Worked.Scripts.{new_manager}
 
--- the turn, with this outcome, is replied this, and leaves this state
+-- the turn, with this outcome, gets this reply, and leaves this state
 abbrev pub Takes : Turn → Outcome → Reply → State → Type 0
 Takes t outcome reply after = taken t outcome ≡ Some (answer reply after)
 
@@ -43,7 +43,7 @@ record_of (Checkpoints r after) = Some r
 record_of (Rereads failed found) = None
 record_of (Joins refused r lost) = Some r
 
--- session 1 is opened, and 1:aa:bb put 76 at 6b, and was left; or what became of it, where the log ends then
+-- session 1 is opened, and 1:aa:bb put 76 at 6b, and was left; or what became of it, where the log then ends
 abbrev pub with_branch : Phase → ℕ → State
 with_branch phase end = record new_manager {
   given = 1;
@@ -112,7 +112,7 @@ forgetting s = asking s (request.Forget TMNOFLAGS xid_1)
 abbrev pub restarting : State → Turn
 restarting s = asking s request.Restart
 
--- the manager is opened again, with a log of so many bytes
+-- the manager is opened again, with a log of this many bytes
 abbrev pub reopening : State → ℕ → Turn
 reopening s log_bytes = turn s (Reopened xarm log_bytes)
 
@@ -192,7 +192,7 @@ LostAppends =
     × (taken (restarting lost) (Reread 1 None) ≡ None)
     × (taken (restarting idle) (Reread 1 (Some Kept)) ≡ None)
 
--- The boot of a restart that was lost is used up, where it is found.
+-- The boot of a restart that was lost is used up, if it is found.
 abbrev pub LostBoots : Type 0
 LostBoots =
     let lost = record in_doubt { standing = Down; open_records = logged.Opened 2 ∷ [] } in
@@ -221,7 +221,7 @@ DecidedByOperator =
     × Takes (forgetting without_branch) Quiet (plain XAER_NOTA) without_branch
 
 -- A manager that is opened again has no sessions, and stands as one that is opened on the log's records. It isn't
--- opened where there is no room: 110 + 4 + 343.
+-- opened if there is no room: 110 + 4 + 343.
 abbrev pub OpenedAgain : Type 0
 OpenedAgain =
     let ended = record in_doubt { log_bytes = 456; sessions = []; standing = Ended } in

@@ -35,7 +35,7 @@ BusyUntilCommitted =
     ∷ gets 1 (found 0x76)
     ∷ [])
 
--- a write that a later branch should have read comes too late: its branch is marked, and can only be rolled back
+-- a write that a later branch should have read comes too late: its branch is marked, and rollback-only
 abbrev pub LateWrite : Type 0
 LateWrite =
     Replied new_manager (

@@ -18,7 +18,7 @@ IsOutside entries r = (r.place ≡ 0) ⊎ (length entries < r.place)
 abbrev pub IsEntry : List Entry → Receipt → Type 0
 IsEntry entries r = (e : Entry) × (slice_get entries (r.place - 1) ≡ Some e) × (r ≡ receipt_of e)
 
--- the fault of the receipt of the index i, where these places were met before
+-- the fault of the receipt of the index i, if these places were met before
 abbrev pub HasFault : List Entry → List ℕ → ℕ → Receipt → AuditFault → Type 0
 HasFault entries met i r fault =
     (IsOutside entries r × (fault ≡ Place i r.place (length entries)))
@@ -29,7 +29,7 @@ HasFault entries met i r fault =
 abbrev pub IsSound : List Entry → List ℕ → Receipt → Type 0
 IsSound entries met r = (IsOutside entries r → ⊥) × (is_met met r.place ≡ false) × IsEntry entries r
 
--- The answer for the receipts from the index i on, where these places were met before: the fault of the first at fault,
+-- The answer for the receipts from the index i on, if these places were met before: the fault of the first at fault,
 -- or Ok.
 abbrev pub Judges : List Entry → List ℕ → ℕ → List Receipt → Result (Unit {0}) AuditFault → Type 0
 Judges entries met i [] answer = answer ≡ Ok tt
@@ -37,7 +37,7 @@ Judges entries met i (r ∷ rs) answer =
     ((fault : AuditFault) × HasFault entries met i r fault × (answer ≡ Err fault))
     ⊎ (IsSound entries met r × Judges entries (r.place ∷ met) (i + 1) rs answer)
 
--- Count where the shares' counts don't add up to the number of entries, else as the receipts are judged
+-- Count if the shares' counts don't add up to the number of entries, otherwise as the receipts are judged
 abbrev pub Audits : List Entry → List Receipt → ℕ → Result (Unit {0}) AuditFault → Type 0
 Audits entries receipts counted answer =
     ((counted ≢ length entries) × (answer ≡ Err Count))

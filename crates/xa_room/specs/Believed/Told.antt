@@ -14,7 +14,7 @@ pub record Told (M : Type 0) : Type 0 where
   pub now : M
   pub entries : List Entry
 
--- one entry more, at the next place, for this event and reply, with the outcome that the manager told; and its receipt
+-- one more entry, at the next place, for this event and reply, with the outcome that the manager told; and its receipt
 pub record Adds {M : Type 0} (m : Ghosts M) (old new : Told M) (event : Event) (reply : Reply)
     (receipt : Receipt) : Type 0 where
   pub place : reply.place ≡ length old.entries + 1

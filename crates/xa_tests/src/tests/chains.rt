@@ -42,7 +42,7 @@ const SECOND: u64 = 4294967298;
 
 const THIRD: u64 = 4294967299;
 
-/// Rows by themselves, each on a new chain.
+/// Independent rows, each on a new chain.
 const ROWS: [&[(u64, Ask, Told)]; 6] = [
     // The second branch has read the key as absent, so a write by the first is late.
     &[
@@ -63,7 +63,7 @@ const ROWS: [&[(u64, Ask, Told)]; 6] = [
         (THIRD, Source, Told::From(SECOND)),
         (SECOND, Value, Told::Value(0x32)),
     ],
-    // A read above a pending write is to wait; one below it isn't. What is rolled back is seen by no one.
+    // A read above a pending write has to wait; one below it isn't. What is rolled back is seen by no one.
     &[
         (FIRST, Install(Some(0x76)), Told::Done),
         (SECOND, Source, Told::Pending(FIRST)),
@@ -244,7 +244,7 @@ fn write(alloc: Global, pool: &mut Pool, chain: &mut Chain, byte: u8) -> Result<
     chain.install_at(pool, &look, ValueBytes::new(Some([byte].to_vec(alloc)?)))
 }
 
-/// A new key, so read and written.
+/// A new key, read and written like that.
 fn written_once(alloc: Global, pool: &mut Pool, byte: u8) -> Result<Chain, AllocError> {
     let mut chain = Chain::new(pool)?;
     write(alloc, pool, &mut chain, byte)?;

@@ -21,7 +21,7 @@ fn put_numbered(out: &mut Vec<u8>, place: u64, number: u64) -> Result<(), AllocE
     Ok(())
 }
 
-/// Gets of the keys 0, 1, .. and what the door is to answer, with the frames of the answers.
+/// Gets of the keys 0, 1, .., what the door has to answer, and the frames of the answers.
 #[derive(Drop)]
 struct Talk {
     input: Vec<u8>,
@@ -51,7 +51,7 @@ fn gets(alloc: Global, frames: u32) -> Result<Talk, AllocError> {
     Ok(talk)
 }
 
-/// The input is cut behind so many bytes, where the reader ends or fails.
+/// The input is cut after `n` bytes, where the reader ends or fails.
 fn is_read(alloc: Global, talk: &Talk, n: usize, fails: bool) -> bool {
     let reader = Source {
         bytes: talk.input.get(..n).unwrap_or_default(),
@@ -74,7 +74,7 @@ fn wrong_read(alloc: Global, talk: &Talk, fails: bool) -> Option<usize> {
     (0..=talk.input.len()).find(|n| !is_read(alloc, talk, *n, fails))
 }
 
-/// The writer takes so many bytes, and then nothing or fails.
+/// The writer takes `n` bytes, and then nothing or fails.
 fn is_written(alloc: Global, talk: &Talk, n: usize, fails: bool) -> bool {
     let reader = Source {
         bytes: &talk.input,

@@ -44,7 +44,7 @@ const FAULTS: [(&[u8], u8); 27] = [
     (b"\x01\xff\0", b'O'),
     (b"\x01\x01\0\0\0\0\x02x", b'S'),
     (b"\x01\x01\0\0\0\0\0x", b'T'),
-    // a key's length, and a value's, even where their bytes are cut off
+    // a key's length, and a value's, even if their bytes are cut off
     (b"\x01\x0a\0k", b'F'),
     (b"\x01\x0a\x41", b'F'),
     (b"\x01\x0a\x40k", b'S'),

@@ -9,7 +9,7 @@ const DELETED: [u8; 21] = [
     3, 0, 0, 0, 1, 1, 0, 0xaa, 0, 0, 0, 0, 0, 0, 0, 1, 0, 1, 1, 0x6b, 0,
 ];
 
-/// A body: what stands before the XID, whether there is one, and what stands behind it.
+/// A body: what stands before the XID, whether there is one, and what stands after it.
 type Body = (&'static [u8], bool, &'static [u8]);
 
 const BODIES: [Body; 14] = [

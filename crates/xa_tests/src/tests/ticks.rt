@@ -7,7 +7,7 @@ use xa_frame::Reply;
 use xa_rows::first_wrong;
 use xa_talk::{Connection, Dial, TalkFault, TickFault, Ticker, tick_run};
 
-/// A clock that gives these moments and can't be read behind them, and counts what it is to tell.
+/// A clock that gives these moments and can't be read after them, and counts what it has to report.
 #[derive(Drop)]
 struct Bell<'a> {
     moments: &'a [u64],

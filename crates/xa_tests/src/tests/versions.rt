@@ -10,7 +10,7 @@ enum Ask {
     Get(&'static [u8]),
     Put(&'static [u8], Option<u8>),
     Settle(Fate),
-    /// A branch that lasted, and its fate where that is known.
+    /// A branch that lasted, and its fate if that is known.
     Restore(&'static [KeyWrite], Option<Fate>),
 }
 
@@ -43,7 +43,7 @@ const WROTE: [KeyWrite; 2] = [(b"k", Some(0x31)), (b"l", None)];
 
 const WROTE_LATER: [KeyWrite; 1] = [(b"k", Some(0x32))];
 
-/// Rows by themselves, each on new records.
+/// Independent rows, each on new records.
 const ROWS: [&[(u64, Ask, Told)]; 4] = [
     // The second branch has read the key as absent, so a write by the first is late.
     &[
@@ -62,7 +62,7 @@ const ROWS: [&[(u64, Ask, Told)]; 4] = [
         (LATER, Ask::Get(b"l"), Told::Absent),
         (LATER, Ask::Put(b"l", Some(0x33)), Told::Done),
     ],
-    // What lasted and is undecided is to be waited for, until it is committed.
+    // What lasted and is undecided has to be waited for, until it is committed.
     &[
         (SECOND, Ask::Restore(&WROTE_LATER, None), Told::Done),
         (
@@ -248,7 +248,7 @@ fn writes(rt: HostRuntime) {
     assert!(rt; keeps_last_writes(&records));
 }
 
-// How many versions are left where one branch after another reads a key of its own that nobody wrote. Some tenths of a
+// How many versions are left if one branch after another reads a key of its own that nobody wrote. Some tenths of a
 // second; `rt try`, which looks at each address, takes minutes.
 fn read_in_turn(alloc: Global) -> Option<u64> {
     let mut records = Records::new(alloc);

@@ -22,7 +22,7 @@ account_of v = account v.parts v.asked v.told v.given_up
 abbrev pub merged : Account → Account → Account
 merged a b = account (a.parts + b.parts) (a.asked ++ b.asked) (a.told ++ b.told) (a.given_up ++ b.given_up)
 
--- so many of its asks were neither answered nor given up
+-- this many of its asks were neither answered nor given up
 abbrev pub Owes : Account → ℕ → Type 0
 Owes a n = length a.asked ≡ n + length a.told + length a.given_up
 

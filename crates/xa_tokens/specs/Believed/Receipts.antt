@@ -11,7 +11,7 @@ ask_of event after = record { event = event; after = after }
 abbrev pub receipt_of : Ask → Reply → Receipt
 receipt_of ask reply = record { ask = ask; reply = reply }
 
--- it stands behind the entry that its asker was told last
+-- it stands after the entry that its asker was told last
 abbrev pub IsInOrder : Receipt → Type 0
 IsInOrder r = r.ask.after < r.reply.place
 

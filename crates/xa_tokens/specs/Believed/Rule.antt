@@ -13,14 +13,14 @@ abbrev pub StandWithin : ℕ → List Receipt → Type 0
 StandWithin n [] = Unit {0}
 StandWithin n (r ∷ rs) = (r.reply.place ≤ n) × StandWithin n rs
 
--- each was asked behind one of the first n entries, or behind none
+-- each was asked after one of the first n entries, or after none
 abbrev pub AskedWithin : ℕ → List Ask → Type 0
 AskedWithin n [] = Unit {0}
 AskedWithin n (a ∷ rest) = (a.after ≤ n) × AskedWithin n rest
 
 -- One token at most knows the history, whose places count on from 1. However entries are weighed, those that tokens
 -- were told weigh what the history does: each entry is somebody's, once. However asks are weighed, those that were made
--- weigh what the tickets do, what was given up, and the asks of the history: each ask is carried out once at most, and
+-- weigh what the tickets do, what was given up, and the asks of the history: each ask is carried out at most once, and
 -- nothing else is. Who has no part has asked nothing. What was told, and what was asked after, stands in the history
 -- already.
 pub record Kept (views : List View) : Type 0 where

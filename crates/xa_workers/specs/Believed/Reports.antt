@@ -23,7 +23,7 @@ use Rattle.xa_workers.specs.declared.report.Report.{Report}
 abbrev pub told : {L : Type 0} → Report L → ℕ
 told r = vec_len r.receipts + r.dropped
 
--- all came behind the receipts, or so many found no memory
+-- all came after the receipts, or this many found no memory
 abbrev pub KeepsAll : List Receipt → List Receipt → List Receipt → ℕ → Type 0
 KeepsAll receipts receipts' others missing =
     ((receipts' ≡ receipts ++ others) × (missing ≡ 0)) ⊎ ((receipts' ≡ receipts) × (missing ≡ length others))
@@ -34,13 +34,13 @@ Keeps receipts receipts' dropped dropped' receipt =
     ((receipts' ≡ receipts ++ receipt ∷ []) × (dropped' ≡ dropped))
     ⊎ ((receipts' ≡ receipts) × (dropped' ≡ dropped + 1))
 
--- the others' receipts came behind, or found no memory and were counted
+-- the others' receipts came after, or found no memory and were counted
 abbrev pub Joins : {L : Type 0} → Report L → Report L → Report L → Type 0
 Joins a b r =
     ((r.receipts.items ≡ a.receipts.items ++ b.receipts.items) × (r.dropped ≡ a.dropped + b.dropped))
     ⊎ ((r.receipts.items ≡ a.receipts.items) × (r.dropped ≡ a.dropped + b.dropped + length b.receipts.items))
 
--- one event more was recorded by the share, with a receipt that was kept or counted
+-- one more event was recorded by the share, with a receipt that was kept or counted
 abbrev pub Takes : {L : Type 0} → Report L → Report L → Event → Receipt → Type 0
 Takes r r' event receipt =
     Records r.share r'.share event receipt × Keeps r.receipts.items r'.receipts.items r.dropped r'.dropped receipt
@@ -65,7 +65,7 @@ Connects r result r' =
 abbrev pub HangsUp : {L : Type 0} → (ℕ → Type 0) → ℕ → Report L → Report L → Type 0
 HangsUp gone session r r' = ((receipt : Receipt) × Takes r r' (Hangup session) receipt) ⊎ (gone session × Rests r r')
 
--- one call more, up to the greatest number that is counted
+-- one more call, up to the greatest number that is counted
 abbrev pub CountsOn : ℕ → ℕ → Type 0
 CountsOn calls calls' = calls < 2 ^ 64 - 1 → calls' ≡ calls + 1
 
@@ -78,6 +78,6 @@ AsksAt m start session a question.Status reply b =
     (b ≡ a) × (status : Status) × (seconds : ℕ) × (reply ≡ doing (record status { seconds = seconds }))
     × IsTold m start status
 
--- the share has the parts that it had, and as many events more as the report tells of
+-- the share has the parts that it had, and as many more events as the report tells of
 abbrev pub Balances : {L : Type 0} → Report L → Report L → Type 0
 Balances r r' = (r'.share.parts ≡ r.share.parts) × (r'.share.count + told r ≡ r.share.count + told r')
