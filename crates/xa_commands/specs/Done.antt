@@ -14,6 +14,7 @@ use Rattle.xa_operate.specs.Scripts.{script_of}
 use Rattle.xa_operate.specs.declared.fault.OperateFault.{OperateFault}
 use Rattle.xa_operate.specs.declared.fault.OperateFault.TheVariants.{Talk}
 use Rattle.xa_operate.specs.declared.format.Format.{Format}
+use Rattle.xa_operate.specs.declared.format.Format.TheVariants as format
 use Rattle.xa_operate.specs.declared.task.Task.{Task}
 use Rattle.xa_play.specs.Plays.{Plays}
 use Rattle.xa_play.specs.Runs.{IsLawful}
@@ -21,11 +22,13 @@ use Rattle.xa_play.specs.declared.fault.PlayFault.{PlayFault}
 use Rattle.xa_scan.specs.Scans.{Scans}
 use Rattle.xa_scan.specs.declared.fault.ScanFault.{ScanFault}
 use Rattle.xa_scan.specs.declared.fault.ScanFault.TheVariants.{Memory}
-use Rattle.xa_script.specs.declared.style.Style.{Style}
+use Rattle.xa_scan.specs.declared.format.Format as scan_formats
+use Rattle.xa_scan.specs.declared.format.Format.TheVariants as scan
 use Rattle.xa_talk.specs.Talks.{Talks}
 use Rattle.xa_talk.specs.Ticks.{Ticked}
 use Rattle.xa_talk.specs.declared.fault.TalkFault.{TalkFault}
 use Rattle.xa_talk.specs.declared.fault.TalkFault.TheVariants as talk
+use Rattle.xa_talk.specs.declared.manner.Manner.{Manner}
 use Rattle.xa_talk.specs.declared.tick_fault.TickFault.{TickFault}
 
 -- what a reader gave was played, with this end
@@ -34,28 +37,33 @@ HasPlayed {I} remaining name log_bytes end =
     (reader : I) × (output : Option (List ℕ)) × (output' : Option (List ℕ))
     × Plays IsLawful name log_bytes end (remaining reader) output output'
 
+-- the format of a scan that is asked for by this one
+abbrev pub scan_format : Format → scan_formats.Format
+scan_format format.Text = scan.Text
+scan_format format.Json = scan.Json
+
 -- the disk that was opened at a path was scanned, with this end
-abbrev pub HasScanned : {D X : Type 0} → Type 0 → (D → List ℕ) → (D → List ℕ → Type 0) → List ℕ → Result X ScanFault
-    → Type 0
-HasScanned {D} honest seen opened path end =
+abbrev pub HasScanned : {D X : Type 0} → scan_formats.Format → Type 0 → (D → List ℕ) → (D → List ℕ → Type 0) → List ℕ
+    → Result X ScanFault → Type 0
+HasScanned {D} form honest seen opened path end =
     (disk : D) × opened disk path × ((output : Option (List ℕ)) × (output' : Option (List ℕ))
-    × Scans honest end (seen disk) output output')
+    × Scans form honest end (seen disk) output output')
 
 -- the same by what is told: it was scanned, or there was no memory, or the file was refused for the reason that is told
-abbrev pub Scanned : {D X : Type 0} → Type 0 → (D → List ℕ) → (D → List ℕ → Type 0) → (List ℕ → FileFault → Type 0)
-    → List ℕ → Result X ScanningFault → Type 0
-Scanned honest seen opened refused path (Ok x) = HasScanned {X = Unit {0}} honest seen opened path (Ok tt)
-Scanned honest seen opened refused path (Err (Scan fault)) =
-    (fault ≡ Memory) ⊎ HasScanned {X = Unit {0}} honest seen opened path (Err fault)
-Scanned honest seen opened refused path (Err InUse) = refused path file.InUse
-Scanned honest seen opened refused path (Err (File told fault)) = (told.now ≡ path) × refused path fault
+abbrev pub Scanned : {D X : Type 0} → scan_formats.Format → Type 0 → (D → List ℕ) → (D → List ℕ → Type 0)
+    → (List ℕ → FileFault → Type 0) → List ℕ → Result X ScanningFault → Type 0
+Scanned form honest seen opened refused path (Ok x) = HasScanned {X = Unit {0}} form honest seen opened path (Ok tt)
+Scanned form honest seen opened refused path (Err (Scan fault)) =
+    (fault ≡ Memory) ⊎ HasScanned {X = Unit {0}} form honest seen opened path (Err fault)
+Scanned form honest seen opened refused path (Err InUse) = refused path file.InUse
+Scanned form honest seen opened refused path (Err (File told fault)) = (told.now ≡ path) × refused path fault
 
 -- what a reader gave was sent over connections, with this end
-abbrev pub HasTalked : {I C X : Type 0} → Style → (I → Option (List ℕ)) → (C → Option (List ℕ)) → (C → Option (List ℕ))
+abbrev pub HasTalked : {I C X : Type 0} → Manner → (I → Option (List ℕ)) → (C → Option (List ℕ)) → (C → Option (List ℕ))
     → Result X TalkFault → Type 0
-HasTalked {I} style remaining sent left end =
+HasTalked {I} manner remaining sent left end =
     (reader : I) × (reader' : I) × (output : Option (List ℕ)) × (output' : Option (List ℕ))
-    × Talks style sent left end (remaining reader) (remaining reader') output output'
+    × Talks manner sent left end (remaining reader) (remaining reader') output output'
 
 -- moments that a clock of this type gave were told over a connection, with this end
 abbrev pub HasTicked : {C X : Type 0} → (T : Type 0) → (C → Option (List ℕ)) → (C → Option (List ℕ)) → Result X TickFault

@@ -4,6 +4,7 @@ ghost use Rattle.std.specs.Process.{exit_status};
 ghost use Rattle.xa_commands.specs.Done.{checked_status};
 ghost use Rattle.xa_operate.specs.Courses.{status_of};
 
+use crate::server::Server;
 use std::fmt::Display;
 use std::io::{self, ErrorKind};
 use std::process::ExitCode;
@@ -22,6 +23,35 @@ pub fn ended<R: Eprint, F: Display>(rt: &R, end: &Result<(), F>) -> ExitCode
         Ok(()) => ExitCode::SUCCESS,
         Err(_) => ExitCode::from(1),
     }
+}
+
+/// The same of what was asked of a server: where it couldn't be reached, that is told, with the system's text.
+pub fn ended_at<R: Eprint, F: Display>(
+    rt: &R,
+    end: &Result<(), F>,
+    server: &Server<'_, '_, R>,
+) -> ExitCode
+    ensures done { OnOk end.now (exit_status result ≡ 0) }
+    ensures fault { OnErr end.now (exit_status result ≡ 1) }
+{
+    match end {
+        Ok(()) => ExitCode::SUCCESS,
+        Err(fault) => {
+            tell_fault(rt, fault, server);
+            ExitCode::from(1)
+        }
+    }
+}
+
+// Tells a fault, or why a server couldn't be reached.
+fn tell_fault<R: Eprint, F: Display>(rt: &R, fault: &F, server: &Server<'_, '_, R>) {
+    let _ = match server.unreached() {
+        Some(error) => {
+            let reach = server.reach();
+            eprintln!(rt; "xarm: cannot connect to {reach}: {error}")
+        }
+        None => eprintln!(rt; "xarm: {fault}"),
+    };
 }
 
 /// The same of a server. A history whose audit failed is a fault that was told on standard output.
@@ -56,11 +86,20 @@ pub fn checked<R: Eprint, F: Display>(rt: &R, end: &Result<bool, F>) -> ExitCode
 
 /// The status of a task that a server was asked, and its line on standard error where it isn't done: 0 where it is, 1 where
 /// the server refused it, 3 where neither is known.
-pub fn operated<R: Eprint>(rt: &R, end: &Result<(), OperateFault>) -> ExitCode
+pub fn operated<R: Eprint>(
+    rt: &R,
+    end: &Result<(), OperateFault>,
+    server: Option<&Server<'_, '_, R>>,
+) -> ExitCode
     ensures { exit_status result ≡ status_of end.now }
 {
     if let Err(fault) = end {
-        let _ = eprintln!(rt; "xarm: {fault}");
+        match server {
+            Some(server) => tell_fault(rt, fault, server),
+            None => {
+                let _ = eprintln!(rt; "xarm: {fault}");
+            }
+        }
     }
     ExitCode::from(operate_status(end))
 }

@@ -5,13 +5,12 @@
 //! - `checking`: `check`, it is told what a log's two files are; `checking_fault`: `CheckingFault`, why it isn't
 //! - `accepting`: `accept_damage`, what stands of a damaged log is made ready to be opened; `accepting_fault`:
 //!   `AcceptingFault`, why it isn't; `keeping`: copies of its files
-//! - `talking`: `talk`, a script goes to a server; `server`: `Server`, one on 127.0.0.1 or at a path; `stream`: `Stream`, a
-//!   connection to it
+//! - `talking`: `talk`, a script goes to a server; `server`: `Server`, one at a `Reach`; `stream`: `Stream`, a connection to
+//!   it; `mistakes`: `Mistakes`, standard error, which is told of lines that ask nothing
 //! - `ticking`: `tick`, a server is told what the clock says; `Watch`, the clock and standard error
 //! - `shutting`: `shutdown`, a server is asked to end
-//! - `operating`: `operate`, a server is asked what an operator wants; `show_script`, the script that asks the same is printed;
-//!   `timed`: `TimedServer`, a server that isn't waited for without end
-//! - `ending`: `ended`, `served`, `checked`, `operated` and `words_fault`, the status of an end, and its line on standard error
+//! - `operating`: `operate`, a server is asked what an operator wants; `show_script`, the script that asks the same is printed
+//! - `ending`: `ended`, `ended_at`, `served`, `checked`, `operated` and `words_fault`, the status of an end, and its line on standard error
 #![tactic(auto)]
 
 mod accepting;
@@ -20,6 +19,7 @@ mod checking;
 mod checking_fault;
 mod ending;
 mod keeping;
+mod mistakes;
 mod operating;
 mod playing;
 mod scanning;
@@ -29,13 +29,14 @@ mod shutting;
 mod stream;
 mod talking;
 mod ticking;
-mod timed;
+mod unopened;
 
 pub use accepting::accept_damage;
 pub use accepting_fault::AcceptingFault;
 pub use checking::check;
 pub use checking_fault::CheckingFault;
-pub use ending::{checked, ended, operated, served, words_fault};
+pub use ending::{checked, ended, ended_at, operated, served, words_fault};
+pub use mistakes::Mistakes;
 pub use operating::{operate, show_script};
 pub use playing::play;
 pub use scanning::scan;
@@ -45,4 +46,3 @@ pub use shutting::shutdown;
 pub use stream::Stream;
 pub use talking::talk;
 pub use ticking::{Watch, tick};
-pub use timed::TimedServer;

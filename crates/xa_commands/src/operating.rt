@@ -3,19 +3,16 @@ ghost use Rattle.xa_commands.specs.Done.{HasOperated, HasShown};
 ghost use Rattle.xa_limits.specs.declared.TheConstants.{MOST_INFO};
 ghost use Rattle.xa_talk.specs.declared.dial.Connection.{Connection};
 
-use crate::server::Reach;
+use crate::server::Server;
 use crate::stream::Stream;
-use crate::timed::TimedServer;
 use std::io::{self, Read, Write};
 use std::net::{Net, TcpStream};
 use xa_operate::{Format, OperateFault, Task, operate_run, print_text, script_text};
 
-/// Asks a server what an operator wants, and prints its answers. An answer of which no byte comes for so many seconds is
-/// given up.
+/// Asks a server what an operator wants, and prints its answers.
 pub fn operate<R: AllocGlobal + Print + Net<Stream = TcpStream>>(
     rt: &R,
-    reach: Reach<'_>,
-    seconds: u64,
+    server: &mut Server<'_, '_, R>,
     name: &str,
     task: &Task,
     format: Format,
@@ -26,14 +23,7 @@ pub fn operate<R: AllocGlobal + Print + Net<Stream = TcpStream>>(
         (λ c. ⟦<Stream as Read>⟧.remaining c.reader) name.now result }
 {
     let mut writer = io::writer(rt);
-    operate_run(
-        rt.alloc(),
-        &mut writer,
-        &mut TimedServer { rt, reach, seconds },
-        name,
-        task,
-        format,
-    )
+    operate_run(rt.alloc(), &mut writer, server, name, task, format)
 }
 
 /// Prints the script that asks a server the same.

@@ -2,12 +2,14 @@ ghost use Rattle.std.specs.Prelude.{◌⊎◌, IsErrOf};
 ghost use Rattle.xa_commands.specs.Done.{HasPlayed};
 ghost use Rattle.xa_manager.specs.Believed.Opening.{IsBadSetting};
 
+use crate::mistakes::Mistakes;
 use std::io::{self, BufWriter};
 use xa_manager::Settings;
 use xa_play::{PlayFault, play_run};
 
-/// Plays standard input, on a manager by this name, each of whose log's two files may reach this size.
-pub fn play<R: AllocGlobal + Input + Print>(
+/// Plays standard input, on a manager by this name, each of whose log's two files may reach this size. Of a line that asks
+/// nothing it is told on standard error what is wrong.
+pub fn play<R: AllocGlobal + Input + Print + Eprint>(
     rt: &R,
     name: &str,
     log_bytes: u64,
@@ -22,5 +24,15 @@ pub fn play<R: AllocGlobal + Input + Print>(
         return Err(PlayFault::Memory);
     };
     let mut reader = rt.reader();
-    play_run(rt.alloc(), &mut reader, &mut writer, settings)
+    let mut mistakes = Mistakes {
+        rt,
+        has_disks: true,
+    };
+    play_run(
+        rt.alloc(),
+        &mut reader,
+        &mut writer,
+        &mut mistakes,
+        settings,
+    )
 }

@@ -1,7 +1,7 @@
 ghost use Rattle.xa_talk.specs.Shutdowns.{ShutsDown};
 ghost use Rattle.xa_talk.specs.declared.dial.Connection.{Connection};
 
-use crate::server::{Reach, Server};
+use crate::server::Server;
 use crate::stream::Stream;
 use std::io::{Read, Write};
 use std::net::{Net, TcpStream};
@@ -10,11 +10,11 @@ use xa_talk::{ShutdownFault, shutdown_run};
 /// Asks a server to end, and waits until it has closed the connection.
 pub fn shutdown<R: AllocGlobal + Net<Stream = TcpStream>>(
     rt: &R,
-    reach: Reach<'_>,
+    server: &mut Server<'_, '_, R>,
 ) -> Result<(), ShutdownFault>
     ensures { ShutsDown {C = Connection Stream Stream}
         (λ c. ⟦<Stream as Write>⟧.contents c.writer)
         (λ c. ⟦<Stream as Read>⟧.remaining c.reader) result }
 {
-    shutdown_run(rt.alloc(), &mut Server { rt, reach })
+    shutdown_run(rt.alloc(), server)
 }

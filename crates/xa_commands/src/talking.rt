@@ -1,21 +1,21 @@
 ghost use Rattle.xa_commands.specs.Done.{HasTalked};
 ghost use Rattle.xa_talk.specs.declared.dial.Connection.{Connection};
 
-use crate::server::{Reach, Server};
+use crate::mistakes::Mistakes;
+use crate::server::Server;
 use crate::stream::Stream;
 use std::io::{self, Read, Write};
 use std::net::{Net, TcpStream};
-use xa_script::Style;
-use xa_talk::{TalkFault, talk_run};
+use xa_talk::{Manner, TalkFault, talk_run};
 
 /// Sends the calls of standard input to a server. Its replies are printed one by one, so that nothing
-/// waits in a buffer.
-pub fn talk<R: AllocGlobal + Input + Print + Net<Stream = TcpStream>>(
+/// waits in a buffer. Of a line that asks nothing it is told on standard error what is wrong.
+pub fn talk<R: AllocGlobal + Input + Print + Eprint + Net<Stream = TcpStream>>(
     rt: &R,
-    reach: Reach<'_>,
-    style: Style,
+    server: &mut Server<'_, '_, R>,
+    manner: Manner,
 ) -> Result<(), TalkFault>
-    ensures { HasTalked {C = Connection Stream Stream} style R.Reader.remaining
+    ensures { HasTalked {C = Connection Stream Stream} manner R.Reader.remaining
         (λ c. ⟦<Stream as Write>⟧.contents c.writer)
         (λ c. ⟦<Stream as Read>⟧.remaining c.reader) result }
 {
@@ -25,7 +25,11 @@ pub fn talk<R: AllocGlobal + Input + Print + Net<Stream = TcpStream>>(
         rt.alloc(),
         &mut reader,
         &mut writer,
-        &mut Server { rt, reach },
-        style,
+        server,
+        &mut Mistakes {
+            rt,
+            has_disks: false,
+        },
+        manner,
     )
 }

@@ -1,7 +1,7 @@
 ghost use Rattle.xa_commands.specs.{Done.HasTicked, declared.ticking.Watch.Watch};
 ghost use Rattle.xa_talk.specs.declared.dial.Connection.{Connection};
 
-use crate::server::{Reach, Server};
+use crate::server::Server;
 use crate::stream::Stream;
 use std::io::{Read, Write};
 use std::net::{Net, TcpStream};
@@ -56,7 +56,7 @@ impl<R> fmt::Debug for Watch<'_, R> {
 /// so many seconds.
 pub fn tick<R: AllocGlobal + Clock + Eprint + Net<Stream = TcpStream>>(
     rt: &R,
-    reach: Reach<'_>,
+    server: &mut Server<'_, '_, R>,
     every: u64,
 ) -> Result<(), TickFault>
     ensures { HasTicked {C = Connection Stream Stream} (Watch R)
@@ -68,5 +68,5 @@ pub fn tick<R: AllocGlobal + Clock + Eprint + Net<Stream = TcpStream>>(
         every,
         has_begun: false,
     };
-    tick_run(rt.alloc(), &mut watch, &mut Server { rt, reach })
+    tick_run(rt.alloc(), &mut watch, server)
 }

@@ -46,7 +46,7 @@ abbrev pub FitPending : Option (List Asked) → List (Option Mailed) → Type 0
 FitPending None letters = Unit {0}
 FitPending (Some calls) letters = AreLetters letters calls
 
--- the trays with a letter more in one of them, on top
+-- the trays with one more letter in one of them, on top
 abbrev pub put_at : List (List Mailed) → ℕ → Mailed → List (List Mailed)
 put_at [] tray l = []
 put_at (t ∷ ts) zero l = (t ++ l ∷ []) ∷ ts

@@ -1,4 +1,4 @@
--- What a share owes, behind what it did.
+-- What a share owes, after what it did.
 use Rattle.std.proofs.Common.{ℕ, ◌≡◌, ◌+◌, zero, suc, [], ◌∷◌, refl, Bool, true, false, inl, inr, arith, ap, length, length-append}
 use Rattle.xa_frame.specs.declared.reply.Reply.{Reply}
 use Rattle.xa_handles.specs.Believed.Accounts.{AsksAtOnce, Ends, HasAsked, asking, next_ask, told_of, without}
@@ -51,7 +51,7 @@ pub owes_ended : (is_none : Bool) (a b : Account) (ask : Ask) (reply : Reply) (n
 owes_ended true a b ask reply n ends owes = owes_without a b ask n ends owes
 owes_ended false a b ask reply n ends owes = owes_told a b (receipt_of ask reply) n ends.0 owes
 
--- what it asks at once it owes no more
+-- what it asks at once it no longer owes
 pub owes_at_once : (is_none : Bool) (a b : Account) (event : Event) (reply : Reply) (n : ℕ) → AsksAtOnce is_none a event reply b → Owes a n → Owes b n
 owes_at_once true a b event reply n same owes =
     omega (arith, owes, ap (λ (x : Account). length x.asked) same, ap (λ (x : Account). length x.told) same, ap (λ (x : Account). length x.given_up) same)

@@ -13,7 +13,7 @@ use Rattle.xa_tokens.specs.declared.ask.Ask.{Ask}
 use Rattle.xa_tokens.specs.declared.receipt.Receipt.{Receipt}
 use Rattle.xa_tokens.specs.Believed.Receipts.{ask_of, receipt_of}
 
--- the call of a reply was answered so, whatever its asker had been told before
+-- the call of a reply was answered like this, whatever its asker had been told before
 abbrev pub IsAnswerTo : {M : Type 0} → Ghosts M → (State → Type 0) → ℕ × ℕ → List Asked → ℕ × Reply → Type 0
 IsAnswerTo m start base calls r = (after : ℕ) → WasAnswered m start base (ask_of (event_at calls r.0) after) r.1
 

@@ -27,7 +27,7 @@ impl<'a, B: Book> Model for Asker<'a, B> {
 }
 
 impl<'a, B: Book> Asker<'a, B> {
-    /// By a share that was told nothing yet.
+    /// With a share that was told nothing yet.
     pub(crate) fn new(tokens: &'a Tokens<B>, share: Share<B>) -> Asker<'a, B>
         requires some { 0 < share.parts }
         requires none { share.told ≡ [] }
@@ -55,7 +55,7 @@ impl<'a, B: Book> Asker<'a, B> {
         self.tokens.ask(&mut self.share, event, self.last)
     }
 
-    /// It is told an entry, whose place this is.
+    /// It is told an entry, which has this place.
     pub(crate) fn take(&mut self, told: Told<B>, place: u64)
         requires { place ≡ told.reply.place }
         ensures told { self.new ≡ told_of self.old told }
@@ -65,7 +65,7 @@ impl<'a, B: Book> Asker<'a, B> {
         self.last = place;
     }
 
-    /// Nobody carries the ask out any more.
+    /// Nobody will carry the ask out.
     pub(crate) fn give_up(&mut self, ticket: Ticket<B>)
         ensures { self.new ≡ without self.old ticket }
     {

@@ -1,11 +1,11 @@
-ghost use Rattle.std.specs.Prelude.{ℕ, ◌≡◌, ◌⊎◌, ◌+◌, ◌<◌, [], is_none, IfOk};
+ghost use Rattle.std.specs.Prelude.{ℕ, ◌≡◌, ◌≢◌, ◌⊎◌, ◌+◌, ◌<◌, [], is_none, IfOk, MatchOption, None};
 ghost use Rattle.xa_assoc.specs.Refusals.{is_memory};
 ghost use Rattle.xa_frame.specs.Limits.{IsReply, IsRequest};
 ghost use Rattle.xa_handles.specs.Believed.Accounts.{Ends, Posts, asking, next_ask, told_of};
-ghost use Rattle.xa_handles.specs.Mail.{IsCall};
+ghost use Rattle.xa_handles.specs.Mail.{IsCall, put_at};
 ghost use Rattle.xa_handles.specs.Believed.Shared.{CalledBy, ConnectedBy, DidCall, IsTold};
 ghost use Rattle.xa_model.specs.declared.event.Event.TheVariants as Event;
-ghost use Rattle.xa_sequencer.specs.Associates.{AssociatedBy, EndedBy};
+ghost use Rattle.xa_sequencer.specs.{Associates.AssociatedBy, Associates.EndedBy, Believed.GroupManager.pending_of};
 ghost use Rattle.xa_tokens.specs.{Believed.Account.Owes, Believed.Receipts.IsInOrder};
 
 use crate::asker::Asker;
@@ -33,14 +33,14 @@ pub struct Handle<'a, M: GroupCommits, S: Start, B: Book, R> {
     sequencer: &'a SharedSequencer<M, S, B>,
     pub asker: Asker<'a, B>,
     tray: usize,
-    /// How many of the calls that it posted are to be answered yet.
+    /// How many of the calls that it posted are still unanswered.
     owed: usize,
     alloc: Global,
     pub ghost owes: { Owes asker owed },
 }
 
 impl<'a, M: GroupCommits, S: Start, B: Book, R: Wait> Handle<'a, M, S, B, R> {
-    /// With a share by which nothing was asked yet.
+    /// With a share with which nothing was asked yet.
     ///
     /// # Errors
     /// Out of memory.
@@ -77,14 +77,14 @@ impl<'a, M: GroupCommits, S: Start, B: Book, R: Wait> Handle<'a, M, S, B, R> {
             .connect(&sequencer.tokens, &mut self.asker)
     }
 
-    /// Takes the lock for several calls, with nothing of other threads in between. Whoever else asks waits until it is
+    /// Takes the lock for several calls, with nothing of other threads in between. Other threads that ask wait until it is
     /// released: so does this handle, if it is asked otherwise.
     pub fn hold(&self) -> Held<'a, M, S, B> {
         let sequencer = self.sequencer;
         sequencer.hold(self.rt)
     }
 
-    /// Answers a request of a session, by the lock that was taken. Gives that back, unless the request had to wait until
+    /// Answers a request of a session, under the lock that was taken. Returns the lock, unless the request had to wait until
     /// the pending group was finished.
     pub fn call_held(
         &mut self,
@@ -101,7 +101,7 @@ impl<'a, M: GroupCommits, S: Start, B: Book, R: Wait> Handle<'a, M, S, B, R> {
     }
 
     /// Posts a copy of a call: whichever thread has the lock may answer it, as one of a group that shares an append. It
-    /// comes back as a letter, answered or not, with this place. Where there is no memory, or too much is out already, it
+    /// comes back as a letter, answered or not, with this place. If there is no memory, or too much is out already, it
     /// isn't posted.
     pub fn post(&mut self, place: usize, session: u64, request: &Request)
         requires { IsRequest request.now }
@@ -122,7 +122,7 @@ impl<'a, M: GroupCommits, S: Start, B: Book, R: Wait> Handle<'a, M, S, B, R> {
         self.owed += 1;
     }
 
-    /// How many of the calls that it posted are to be answered yet.
+    /// How many of the calls that it posted are still unanswered.
     pub fn owed(&self) -> usize
         ensures { Owes self.now.asker result }
     {
@@ -131,15 +131,18 @@ impl<'a, M: GroupCommits, S: Start, B: Book, R: Wait> Handle<'a, M, S, B, R> {
 
     /// Whether no group is pending.
     pub fn is_settled(&self, held: &Held<'_, M, S, B>) -> bool
-        ensures { result ≡ is_none (M.pending held.now.at.now) }
+        ensures { result ≡ is_none (pending_of held.now.at.now) }
     {
         held.locked.is_settled()
     }
 
-    /// Answers the calls that threads have posted, those that may share one append: with the lock that was taken their
-    /// records are written, and their answers given once they are synced; for the sync it is let go. Gives the lock, taken
-    /// again. Of a call that gets no answer nothing has been done: its letter comes back as it was.
-    pub fn answer_posted(&self, held: Held<'a, M, S, B>) -> Held<'a, M, S, B> {
+    /// Answers the calls that threads have posted, those that may share one append: under the lock that was taken their
+    /// records are written, and their answers given once they are synced; for the sync the lock is released. Returns it, taken
+    /// again. For a call that gets no answer nothing has been done: its letter comes back as it was.
+    pub fn answer_posted(&self, held: Held<'a, M, S, B>) -> Held<'a, M, S, B>
+        ensures same { pending_of held.entry.at.now ≢ None → result ≡ held.entry }
+        ensures settled { pending_of held.entry.at.now ≡ None → pending_of result.at.now ≡ None }
+    {
         let mut held = held;
         if !held.locked.is_settled() {
             return held;
@@ -153,7 +156,11 @@ impl<'a, M: GroupCommits, S: Start, B: Book, R: Wait> Handle<'a, M, S, B, R> {
     }
 
     /// Takes the next letter that came back to this handle.
-    pub fn next_letter(&self, held: &mut Held<'_, M, S, B>) -> Option<Letter<M, S, B>> {
+    pub fn next_letter(&self, held: &mut Held<'_, M, S, B>) -> Option<Letter<M, S, B>>
+        ensures taken { MatchOption result (held.new.trays ≡ held.old.trays)
+            (λ l. held.old.trays ≡ put_at held.new.trays self.now.tray l) }
+        ensures rest { (held.new.at ≡ held.old.at) × (held.new.history ≡ held.old.history) × (held.new.letters ≡ held.old.letters) }
+    {
         held.locked.take_letter(self.tray)
     }
 
@@ -169,7 +176,7 @@ impl<'a, M: GroupCommits, S: Start, B: Book, R: Wait> Handle<'a, M, S, B, R> {
         receipt.reply
     }
 
-    /// Answers a call that was posted and came back as it was, by the lock that was taken. Gives that back, unless the
+    /// Answers a call that was posted and came back as it was, under the lock that was taken. Returns the lock, unless the
     /// call had to wait until the pending group was finished.
     pub fn call_back(
         &mut self,
@@ -196,22 +203,24 @@ impl<'a, M: GroupCommits, S: Start, B: Book, R: Wait> Handle<'a, M, S, B, R> {
         self.sequencer.is_free()
     }
 
-    /// After how many groups that were answered a call has its answer that is posted now.
-    pub fn due(&self) -> u64 {
+    /// After how many answered groups a call that is posted now has its answer.
+    pub fn due(&self) -> u64
+        ensures { 0 < result }
+    {
         self.sequencer.due()
     }
 
-    /// Whether so many groups were answered.
+    /// Whether `groups` groups were answered.
     pub fn is_due(&self, groups: u64) -> bool {
         self.sequencer.is_due(groups)
     }
 
-    /// Lets others run, after it was done so often in one wait: after many times it sleeps while a group is pending.
+    /// Lets others run, after `tries` times in one wait: after many times it sleeps while a group is pending.
     pub fn rest(&self, tries: u32) {
         self.sequencer.rest(self.rt, tries);
     }
 
-    /// How the manager is doing. It is no event, and the account stays.
+    /// How the manager is doing. It is no event, and the account stays as it is.
     pub fn status(&self) -> Status
         ensures { IsTold M.manages S.start S.base result }
     {
@@ -280,7 +289,7 @@ fn ask<B: Book>(asker: &mut Asker<'_, B>, session: u64, request: Request) -> Pos
     Posted::new(Ask { event, after }, ticket)
 }
 
-// Carries a call out, by the lock that was taken, which is given back, or once no group is pending.
+// Carries a call out, under the lock that was taken, which is returned, or once no group is pending.
 fn carry_out<'a, M: GroupCommits, S: Start, B: Book, R: Wait>(
     rt: &R,
     sequencer: &'a SharedSequencer<M, S, B>,
@@ -324,7 +333,7 @@ fn call_settled<M: GroupCommits, S: Start, B: Book, R: Wait>(
     reply
 }
 
-/// Shows the name alone, so that it never waits for the lock.
+/// Shows only the name, so that it never waits for the lock.
 impl<M: GroupCommits, S: Start, B: Book, R> fmt::Debug for Handle<'_, M, S, B, R> {
     fn fmt<W: fmt::Write>(&self, f: &mut fmt::Formatter<W>) -> fmt::Result {
         f.debug_struct("Handle").finish_non_exhaustive()

@@ -1,3 +1,5 @@
+ghost use Rattle.std.specs.Prelude.{◌≡◌};
+
 use crate::locked::Locked;
 use std::fmt;
 use std::marker::Model;
@@ -7,7 +9,7 @@ use xa_sequencer::GroupCommits;
 use xa_tokens::Book;
 
 /// The lock of a sequencer that many threads share, while one of them has it: several calls under one hold of it. To a
-/// contract it is what lies under it.
+/// contract it is what it protects.
 #[derive(Drop)]
 pub struct Held<'a, M: GroupCommits, S: Start, B: Book> {
     pub(crate) locked: MutexGuard<'a, Locked<M, S, B>>,
@@ -15,19 +17,22 @@ pub struct Held<'a, M: GroupCommits, S: Start, B: Book> {
 
 impl<'a, M: GroupCommits, S: Start, B: Book> Model for Held<'a, M, S, B> {
     ghost use Rattle.xa_handles.specs.Believed.Standing.{Standing};
+    ghost use Rattle.xa_sequencer.specs.Believed.GroupManager.{GroupManager};
 
-    ghost Value = { Standing M };
+    ghost Value = { Standing (GroupManager M) };
 
     ghost view = { λ h. h.locked.value };
 }
 
 impl<'a, M: GroupCommits, S: Start, B: Book> Held<'a, M, S, B> {
-    pub(crate) fn new(locked: MutexGuard<'a, Locked<M, S, B>>) -> Held<'a, M, S, B> {
+    pub(crate) fn new(locked: MutexGuard<'a, Locked<M, S, B>>) -> Held<'a, M, S, B>
+        ensures { result ≡ locked.entry.value }
+    {
         Held { locked }
     }
 }
 
-/// Shows the name alone.
+/// Shows only the name.
 impl<M: GroupCommits, S: Start, B: Book> fmt::Debug for Held<'_, M, S, B> {
     fn fmt<W: fmt::Write>(&self, f: &mut fmt::Formatter<W>) -> fmt::Result {
         f.debug_struct("Held").finish_non_exhaustive()

@@ -13,14 +13,14 @@ use xa_tokens::{Answered, Ask, Book, Keeper, Posted, Receipt, Tokens};
 /// What a letter brings.
 #[derive(Drop)]
 pub enum Content<B: Book> {
-    /// A call that is to be carried out.
+    /// A call that has to be carried out.
     Posted(Posted<B>),
     /// One that was carried out, with its reply.
     Answered(Answered<B>),
 }
 
-/// A call that a thread posted for whichever of them has the lock, or what it was answered. To a contract it is whose it
-/// is, its ask, and its reply, once there is one.
+/// A call that a thread posted for whichever of them has the lock, or what it was answered. To a contract it is its
+/// owner, its ask, and its reply, once there is one.
 #[derive(Drop)]
 pub struct Letter<M: GroupCommits, S: Start, B: Book> {
     tray: usize,
@@ -40,7 +40,7 @@ impl<M: GroupCommits, S: Start, B: Book> Model for Letter<M, S, B> {
 }
 
 impl<M: GroupCommits, S: Start, B: Book> Letter<M, S, B> {
-    /// Of the thread with a tray, which has asked it at some place.
+    /// Of the thread with this tray, which has asked it at this place.
     pub(crate) fn new(tray: usize, place: usize, content: Content<B>) -> Letter<M, S, B>
         requires { IsLetter M.manages S.start S.base (mailed tray place content) }
         ensures { result ≡ mailed tray place content }
@@ -76,7 +76,7 @@ impl<M: GroupCommits, S: Start, B: Book> Letter<M, S, B> {
         }
     }
 
-    /// The call, where it isn't answered.
+    /// The call, if it isn't answered.
     pub(crate) fn unanswered(&self) -> Option<&Ask>
         ensures { IfSome result (λ ask. (ask.now ≡ self.now.ask) × (self.now.reply ≡ None) × IsCall ask.now.event) }
     {

@@ -1,14 +1,14 @@
 //! Handles: threads share one sequencer behind a lock, and each asks at a handle of its own. What is asked is carried out
-//! once at most, also where one thread leaves it for another, by tokens of the history.
+//! at most once, also if one thread leaves it for another, by tokens of the history.
 //!
-//! - `shared`: `SharedSequencer`, a sequencer behind a lock; `locked`: what lies under it; `held`: `Held`, the lock while a
+//! - `shared`: `SharedSequencer`, a sequencer behind a lock; `locked`: what it protects; `held`: `Held`, the lock while a
 //!   thread has it
 //! - `handle`: `Handle`, a thread's door; `asker`: `Asker`, its share of the history, by which it asks; `noting`: what became
 //!   of asks
 //! - `letter`: `Letter`, a call that a thread posted for whichever of them has the lock, or what became of it; `mail`: the
 //!   letters of a group; `trays`: letters that came back, until their threads take them
 //!
-//! What lies under the lock stands for a history whose entries are the keeper's, at each release: so nothing is carried out
+//! What the lock protects stands for a history whose entries are the keeper's, at each release: so nothing is carried out
 //! there that nobody asked for. A letter holds a ticket, or the entry that it became: so none is carried out twice.
 #![tactic(auto)]
 

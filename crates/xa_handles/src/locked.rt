@@ -1,4 +1,4 @@
-ghost use Rattle.std.specs.Prelude.{◌≡◌, ◌≢◌, ◌⊎◌, ◌<◌, [], None, is_none, length, IfErr, IfOk, MatchBool, MatchOption, OnErr, OnOk};
+ghost use Rattle.std.specs.Prelude.{◌≡◌, ◌≢◌, ◌⊎◌, ◌<◌, ◌≤◌, [], None, is_none, length, IfErr, IfOk, MatchBool, MatchOption, OnErr, OnOk};
 ghost use Rattle.xa_assoc.specs.Refusals.{is_memory};
 ghost use Rattle.xa_frame.specs.Limits.{IsReply};
 ghost use Rattle.xa_handles.specs.Believed.Accounts.{Ends};
@@ -6,7 +6,7 @@ ghost use Rattle.xa_handles.specs.Mail.{IsCall, put_at};
 ghost use Rattle.xa_handles.specs.Believed.Shared.{ConnectedBy, DidCall, HoldsAt, IsTold, LeftBy};
 ghost use Rattle.xa_handles.specs.Believed.Standing.{HasBook, KeepsMail, LeavesMail, TellsMail};
 ghost use Rattle.xa_sequencer.specs.Associates.{AssociatedBy, EndedBy};
-ghost use Rattle.xa_sequencer.specs.Believed.Stands.{Stands};
+ghost use Rattle.xa_sequencer.specs.Believed.{GroupManager.pending_of, Stands.Stands};
 
 use crate::asker::Asker;
 use crate::letter::Letter;
@@ -26,7 +26,7 @@ use xa_model::Event;
 use xa_sequencer::{GroupCommits, Sequencer};
 use xa_tokens::{Ask, Book, Keeper, Posted, Share, Tokens};
 
-/// What lies under the lock: a sequencer, the keeper of its history, and the letters that were taken out of the mailbox.
+/// What the lock protects: a sequencer, the keeper of its history, and the letters that were taken out of the mailbox.
 #[derive(Drop)]
 pub(crate) struct Locked<M: GroupCommits, S: Start, B: Book> {
     sequencer: Sequencer<M, S>,
@@ -42,13 +42,14 @@ pub(crate) struct Locked<M: GroupCommits, S: Start, B: Book> {
 impl<M: GroupCommits, S: Start, B: Book> Model for Locked<M, S, B> {
     ghost use Rattle.xa_handles.specs.Mail.{FitPending};
     ghost use Rattle.xa_handles.specs.Believed.Standing.{HasBook, Standing};
+    ghost use Rattle.xa_sequencer.specs.Believed.GroupManager.{GroupManager, pending_of};
 
-    ghost Value = { Standing M };
+    ghost Value = { Standing (GroupManager M) };
 
     ghost view = { λ l. record { at = l.sequencer; history = l.keeper; letters = l.letters.items; trays = l.trays } };
 
     ghost invariant = { λ l. HasBook M.manages S.start S.base l.sequencer l.keeper
-        × FitPending (M.pending l.sequencer.now) l.letters.items };
+        × FitPending (pending_of l.sequencer.now) l.letters.items };
 }
 
 impl<M: GroupCommits, S: Start, B: Book> Locked<M, S, B> {
@@ -59,7 +60,7 @@ impl<M: GroupCommits, S: Start, B: Book> Locked<M, S, B> {
     ) -> Locked<M, S, B>
         requires empty { keeper ≡ [] }
         requires stands { Stands M.manages S.start S.base sequencer [] }
-        requires settled { M.pending sequencer.now ≡ None }
+        requires settled { pending_of sequencer.now ≡ None }
         ensures { result ≡ record { at = sequencer; history = []; letters = []; trays = [] } }
     {
         Locked {
@@ -87,7 +88,7 @@ impl<M: GroupCommits, S: Start, B: Book> Locked<M, S, B> {
 
     /// Whether no group is pending.
     pub(crate) fn is_settled(&self) -> bool
-        ensures { result ≡ is_none (M.pending self.now.at.now) }
+        ensures { result ≡ is_none (pending_of self.now.at.now) }
     {
         self.sequencer.is_settled()
     }
@@ -98,7 +99,7 @@ impl<M: GroupCommits, S: Start, B: Book> Locked<M, S, B> {
         tokens: &Tokens<B>,
         asker: &mut Asker<'_, B>,
     ) -> Result<u64, ConnectFault>
-        requires settled { M.pending self.old.at.now ≡ None }
+        requires settled { pending_of self.old.at.now ≡ None }
         ensures connected { ConnectedBy M.manages S.start S.base asker.old result asker.new }
         ensures mail { LeavesMail self.old self.new }
     {
@@ -121,7 +122,7 @@ impl<M: GroupCommits, S: Start, B: Book> Locked<M, S, B> {
     /// Carries a call out.
     ///
     /// # Errors
-    /// Gives it back, where it is to wait until the pending group is finished.
+    /// Gives it back if it has to wait until the pending group is finished.
     pub(crate) fn call(
         &mut self,
         tokens: &Tokens<B>,
@@ -133,7 +134,7 @@ impl<M: GroupCommits, S: Start, B: Book> Locked<M, S, B> {
         ensures ends { IfOk result (λ reply. Ends (is_memory reply.detail) asker.old posted reply asker.new) }
         ensures limits { IfOk result IsReply }
         ensures back { IfErr result (λ given. (given ≡ posted) × (asker.new ≡ asker.old)) }
-        ensures answers { OnErr result (M.pending self.old.at.now ≢ None) }
+        ensures answers { OnErr result (pending_of self.old.at.now ≢ None) }
         ensures mail { LeavesMail self.old self.new }
     {
         let Locked {
@@ -157,14 +158,14 @@ impl<M: GroupCommits, S: Start, B: Book> Locked<M, S, B> {
         Ok(reply)
     }
 
-    /// Hangs a session up. Whether it was connected.
+    /// Hangs a session up. Returns whether it was connected.
     pub(crate) fn hangup(
         &mut self,
         tokens: &Tokens<B>,
         asker: &mut Asker<'_, B>,
         session: u64,
     ) -> bool
-        requires settled { M.pending self.old.at.now ≡ None }
+        requires settled { pending_of self.old.at.now ≡ None }
         ensures left { LeftBy M.manages S.start S.base session asker.old result asker.new }
         ensures mail { LeavesMail self.old self.new }
     {
@@ -182,7 +183,7 @@ impl<M: GroupCommits, S: Start, B: Book> Locked<M, S, B> {
         true
     }
 
-    /// A tray for the letters of a thread, with room for so many.
+    /// A tray for the letters of a thread, with room for `letters` of them.
     pub(crate) fn add_tray(&mut self, letters: usize) -> Result<usize, AllocError>
         ensures { KeepsMail self.old self.new }
     {
@@ -191,21 +192,23 @@ impl<M: GroupCommits, S: Start, B: Book> Locked<M, S, B> {
 
     /// Takes the letters out of the mailbox, unless some that were taken before couldn't be put into their trays.
     pub(crate) fn take_mail(&mut self, mailbox: &mut Vec<Option<Letter<M, S, B>>>)
-        requires { M.pending self.old.at.now ≡ None }
+        requires { pending_of self.old.at.now ≡ None }
         ensures rest { (self.new.at ≡ self.old.at) × (self.new.history ≡ self.old.history) × (self.new.trays ≡ self.old.trays) }
         ensures letters { ((self.new.letters ≡ mailbox.old.items) × (mailbox.new.items ≡ self.old.letters))
             ⊎ ((self.new.letters ≡ self.old.letters) × (mailbox.new ≡ mailbox.old)) }
+        ensures gone { self.old.letters ≡ [] → (self.new.letters ≡ mailbox.old.items) × (mailbox.new.items ≡ []) }
     {
         if self.letters.is_empty() {
             mem::swap(&mut self.letters, mailbox);
         }
     }
 
-    /// Writes the records of the letters' calls, those that may share one append: then they are the pending group. Gives
-    /// what makes its sync. Where none was written the letters are back in their trays, and nothing has been done.
+    /// Writes the records of the letters' calls, those that may share one append: then they are the pending group. Returns
+    /// what makes its sync. If none was written, the letters are back in their trays, and nothing has been done.
     pub(crate) fn begin_mail(&mut self) -> Option<Syncer>
-        requires { M.pending self.old.at.now ≡ None }
-        ensures { KeepsMail self.old self.new }
+        requires { pending_of self.old.at.now ≡ None }
+        ensures mail { KeepsMail self.old self.new }
+        ensures syncer { MatchOption result (pending_of self.new.at.now ≡ None) (λ s. M.its_syncer self.new.at.now.manager s) }
     {
         if self.letters.is_empty() {
             return None;
@@ -219,8 +222,8 @@ impl<M: GroupCommits, S: Start, B: Book> Locked<M, S, B> {
 
     // Whether the letters' calls are the pending group.
     fn begin_group(&mut self) -> bool
-        requires { M.pending self.old.at.now ≡ None }
-        ensures settled { MatchBool result (Unit {0}) (M.pending self.new.at.now ≡ None) }
+        requires { pending_of self.old.at.now ≡ None }
+        ensures settled { MatchBool result (Unit {0}) (pending_of self.new.at.now ≡ None) }
         ensures mail { LeavesMail self.old self.new }
         ensures history { self.new.history ≡ self.old.history }
     {
@@ -238,8 +241,9 @@ impl<M: GroupCommits, S: Start, B: Book> Locked<M, S, B> {
     /// Answers the calls of the pending group, by their sync's answer. The letters are back in their trays, which have room
     /// for them: of a call that wasn't answered nothing has been done. Takes no memory.
     pub(crate) fn finish_mail(&mut self, tokens: &Tokens<B>, answer: SyncAnswer)
-        requires { M.pending self.old.at.now ≢ None }
-        ensures { TellsMail self.old self.new }
+        requires { pending_of self.old.at.now ≢ None }
+        ensures told { TellsMail self.old self.new }
+        ensures settled { pending_of self.new.at.now ≡ None }
     {
         self.finish_group(tokens, answer);
         self.hand_out();
@@ -247,8 +251,8 @@ impl<M: GroupCommits, S: Start, B: Book> Locked<M, S, B> {
 
     // Answers the calls of the pending group, each by its letter.
     fn finish_group(&mut self, tokens: &Tokens<B>, answer: SyncAnswer)
-        requires { M.pending self.old.at.now ≢ None }
-        ensures settled { M.pending self.new.at.now ≡ None }
+        requires { pending_of self.old.at.now ≢ None }
+        ensures settled { pending_of self.new.at.now ≡ None }
         ensures told { TellsMail self.old self.new }
     {
         let Locked {
@@ -266,8 +270,10 @@ impl<M: GroupCommits, S: Start, B: Book> Locked<M, S, B> {
 
     // Puts the letters into their trays, as long as there is memory.
     fn hand_out(&mut self)
-        requires { M.pending self.old.at.now ≡ None }
+        requires { pending_of self.old.at.now ≡ None }
         ensures mail { KeepsMail self.old self.new }
+        ensures at { self.new.at ≡ self.old.at }
+        ensures less { length self.new.letters ≤ length self.old.letters }
     {
         let Locked { letters, trays, .. } = self;
         put_all(letters, trays);
@@ -292,7 +298,7 @@ impl<M: GroupCommits, S: Start, B: Book> Locked<M, S, B> {
     }
 
     pub(crate) fn status(&self) -> Status
-        requires { M.pending self.now.at.now ≡ None }
+        requires { pending_of self.now.at.now ≡ None }
         ensures { IsTold M.manages S.start S.base result }
     {
         self.sequencer.promises();
@@ -300,7 +306,7 @@ impl<M: GroupCommits, S: Start, B: Book> Locked<M, S, B> {
     }
 
     pub(crate) fn has_association(&self, session: u64) -> bool
-        requires { M.pending self.now.at.now ≡ None }
+        requires { pending_of self.now.at.now ≡ None }
         ensures { AssociatedBy M.manages S.start S.base session result }
     {
         self.sequencer.promises();
@@ -308,7 +314,7 @@ impl<M: GroupCommits, S: Start, B: Book> Locked<M, S, B> {
     }
 
     pub(crate) fn log_end(&self) -> u64
-        requires { M.pending self.now.at.now ≡ None }
+        requires { pending_of self.now.at.now ≡ None }
         ensures { EndedBy M.manages S.start S.base result }
     {
         self.sequencer.promises();

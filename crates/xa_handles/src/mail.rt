@@ -1,5 +1,5 @@
 //! The letters of a group: their calls, their answers, and their way into the trays.
-ghost use Rattle.std.specs.Prelude.{ℕ, ◌≡◌, ◌+◌, [], ◌∷◌, ◌++◌, IfSome, IsTrue, MatchBool, length, sum_by};
+ghost use Rattle.std.specs.Prelude.{ℕ, ◌≡◌, ◌+◌, ◌≤◌, [], ◌∷◌, ◌++◌, IfSome, IsTrue, MatchBool, length, sum_by};
 ghost use Rattle.std.specs.List.{AllByRecursion};
 ghost use Rattle.xa_frame.specs.Limits.{IsRequest};
 ghost use Rattle.xa_handles.specs.Mail.{AreLetters, IsCallOf, Mailed, slot_weight};
@@ -17,7 +17,7 @@ use xa_model::Event;
 use xa_sequencer::GroupCommits;
 use xa_tokens::{Book, Keeper, Tokens};
 
-/// Copies the calls of letters. Whether it did: it doesn't where one of them has its answer, or there is no memory.
+/// Copies the calls of letters. Returns whether it did: it doesn't if one of them has its answer, or there is no memory.
 pub(crate) fn copy_calls<M: GroupCommits, S: Start, B: Book>(
     letters: &[Option<Letter<M, S, B>>],
     calls: &mut Vec<Asked>,
@@ -49,7 +49,7 @@ fn push(calls: &mut Vec<Asked>, call: Asked) -> bool
     true
 }
 
-// A copy of a letter's call, where it has no answer, and there is memory.
+// A copy of a letter's call, if it has no answer, and there is memory.
 fn call_of<M: GroupCommits, S: Start, B: Book>(
     letter: &Option<Letter<M, S, B>>,
     alloc: Global,
@@ -118,7 +118,8 @@ pub(crate) fn put_all<M: GroupCommits, S: Start, B: Book>(
     letters: &mut Vec<Option<Letter<M, S, B>>>,
     trays: &mut Trays<M, S, B>,
 )
-    ensures { (weigh : Mailed → ℕ) → sum_by (slot_weight weigh) letters.new.items + sum_by (λ t. sum_by weigh t) trays.new
+    ensures less { length letters.new.items ≤ length letters.old.items }
+    ensures weighs { (weigh : Mailed → ℕ) → sum_by (slot_weight weigh) letters.new.items + sum_by (λ t. sum_by weigh t) trays.new
         ≡ sum_by (slot_weight weigh) letters.old.items + sum_by (λ t. sum_by weigh t) trays.old }
 {
     while let Some(slot) = letters.pop() {

@@ -27,7 +27,7 @@ pub(crate) fn note<B: Book>(
     asker.take(told, reply.place);
 }
 
-/// The ask of a ticket was carried out, and the asker is told of it; or memory was wanted, and it is given up.
+/// The ask of a ticket was carried out, and its asker is told; or there was no memory, and it is given up.
 pub(crate) fn end<B: Book>(
     tokens: &Tokens<B>,
     keeper: &mut Keeper<B>,

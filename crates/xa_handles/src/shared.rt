@@ -1,6 +1,6 @@
 ghost use Rattle.std.specs.Prelude.{◌≡◌, ◌≢◌, ◌-◌, ◌<◌, [], None};
 ghost use Rattle.xa_handles.specs.Believed.Shared.{HoldsAt, IsWhole};
-ghost use Rattle.xa_sequencer.specs.Believed.Stands.{Numbered, Stands};
+ghost use Rattle.xa_sequencer.specs.Believed.{GroupManager.GroupManager, GroupManager.pending_of, Stands.Numbered, Stands.Stands};
 ghost use Rattle.xa_tokens.specs.Believed.Account.{Owes, account, merged};
 ghost use Rattle.xa_tokens.specs.Believed.View.{all_parts};
 
@@ -41,7 +41,7 @@ pub struct SharedSequencer<M: GroupCommits, S: Start, B: Book> {
 }
 
 impl<M: GroupCommits, S: Start, B: Book> SharedSequencer<M, S, B> {
-    /// Of a sequencer with an empty history, which is opened. The share has every part.
+    /// Shares a sequencer with an empty history, which was opened. The share has every part.
     pub fn new(
         alloc: Global,
         sequencer: Sequencer<M, S>,
@@ -49,7 +49,7 @@ impl<M: GroupCommits, S: Start, B: Book> SharedSequencer<M, S, B> {
     ) -> (SharedSequencer<M, S, B>, Share<B>)
         requires name { opened ≡ B.table }
         requires empty { Stands M.manages S.start S.base sequencer [] }
-        requires settled { M.pending sequencer.now ≡ None }
+        requires settled { pending_of sequencer.now ≡ None }
         ensures { result.1 ≡ account all_parts [] [] [] }
     {
         let (tokens, keeper, share) = opened.named::<B>();
@@ -64,7 +64,7 @@ impl<M: GroupCommits, S: Start, B: Book> SharedSequencer<M, S, B> {
         (shared, share)
     }
 
-    /// A share of one part, by which nothing was asked.
+    /// A share of one part, with which nothing was asked.
     pub fn split(&self, share: &mut Share<B>) -> Share<B>
         requires { 1 < share.old.parts }
         ensures one { result ≡ account 1 [] [] [] }
@@ -103,21 +103,23 @@ impl<M: GroupCommits, S: Start, B: Book> SharedSequencer<M, S, B> {
         self.syncing.load(Ordering::SeqCst) != 0
     }
 
-    /// After how many groups that were answered a call has its answer that is posted now: a pending group is without it.
-    pub(crate) fn due(&self) -> u64 {
+    /// After how many answered groups a call that is posted now has its answer: a pending group is without it.
+    pub(crate) fn due(&self) -> u64
+        ensures { 0 < result }
+    {
         let groups = self.answered.notifications();
         groups.saturating_add(1 + u64::from(self.is_syncing()))
     }
 
-    /// Whether so many groups were answered.
+    /// Whether `groups` groups were answered.
     pub(crate) fn is_due(&self, groups: u64) -> bool {
         self.answered.notifications() >= groups
     }
 
-    /// Lets others run. While the sync of a group is made, a thread that has done so many times sleeps until the group is
+    /// Lets others run. While the sync of a group is made, a thread that has done so often sleeps until the group is
     /// answered, but not for long.
     pub(crate) fn rest<R: Wait>(&self, rt: &R, tries: u32) {
-        // read first: where the group is answered in between, it doesn't sleep
+        // read first: if the group is answered in between, it doesn't sleep
         let groups = self.answered.notifications();
         if tries >= MOST_TRIES && self.is_syncing() {
             self.answered.sleep(rt, groups, Duration::from_millis(REST));
@@ -128,7 +130,7 @@ impl<M: GroupCommits, S: Start, B: Book> SharedSequencer<M, S, B> {
 
     /// Takes the lock when no group is pending.
     pub(crate) fn take_settled<R: Wait>(&self, rt: &R) -> MutexGuard<'_, Locked<M, S, B>>
-        ensures { M.pending result.value.at.now ≡ None }
+        ensures { pending_of result.value.at.now ≡ None }
     {
         let mut tries = 0u32;
         for _ in rt.forever() {
@@ -145,7 +147,7 @@ impl<M: GroupCommits, S: Start, B: Book> SharedSequencer<M, S, B> {
 
     // Takes the lock for several calls when a group is pending, as one is until its sync's answer is taken.
     fn hold_pending<R: Wait>(&self, rt: &R) -> Held<'_, M, S, B>
-        ensures { M.pending result.at.now ≢ None }
+        ensures { pending_of result.at.now ≢ None }
     {
         for _ in rt.forever() {
             let held = self.hold(rt);
@@ -158,14 +160,16 @@ impl<M: GroupCommits, S: Start, B: Book> SharedSequencer<M, S, B> {
         unreachable!()
     }
 
-    /// Makes the sync of the pending group, for which the lock that was taken is let go, and finishes the group. Gives the
+    /// Makes the sync of the pending group, for which the lock that was taken is released, and finishes the group. Returns the
     /// lock, taken again.
     pub(crate) fn sync<'a, R: Wait>(
         &'a self,
         rt: &R,
         held: Held<'a, M, S, B>,
         syncer: Syncer,
-    ) -> Held<'a, M, S, B> {
+    ) -> Held<'a, M, S, B>
+        ensures { pending_of result.at.now ≡ None }
+    {
         self.syncing.store(1, Ordering::SeqCst);
         drop(held);
         let answer = syncer.sync();
@@ -179,13 +183,13 @@ impl<M: GroupCommits, S: Start, B: Book> SharedSequencer<M, S, B> {
     /// At any moment, also while others ask and groups are pending: what has been carried out is a legal history, with what
     /// that promises, and what a share was told is in it. It waits for the lock, and changes nothing.
     pub fn look<R: Wait>(&self, rt: &R, share: Share<B>) -> Share<B>
-        ensures holds { (c : Numbered M) × HoldsAt M.manages S.start S.base c share }
+        ensures holds { (c : Numbered (GroupManager M)) × HoldsAt M.manages S.start S.base c share }
         ensures same { result ≡ share }
     {
         take(rt, &self.lock).look(&self.tokens, share)
     }
 
-    /// The sequencer. Its history is what the share of all parts was told, each entry once, since that owes nothing.
+    /// The sequencer. Its history is what the share of all parts was told, each entry once, since no call is owed an answer.
     pub fn into_sequencer(self, all: Share<B>) -> Sequencer<M, S>
         requires parts { all.parts ≡ all_parts }
         requires owes { Owes all 0 }
@@ -198,7 +202,7 @@ impl<M: GroupCommits, S: Start, B: Book> SharedSequencer<M, S, B> {
     }
 }
 
-/// Shows the name alone, so that it never waits for the lock.
+/// Shows only the name, so that it never waits for the lock.
 impl<M: GroupCommits, S: Start, B: Book> fmt::Debug for SharedSequencer<M, S, B> {
     fn fmt<W: fmt::Write>(&self, f: &mut fmt::Formatter<W>) -> fmt::Result {
         f.debug_struct("SharedSequencer").finish_non_exhaustive()

@@ -32,7 +32,7 @@ impl<M: GroupCommits, S: Start, B: Book> Trays<M, S, B> {
         }
     }
 
-    /// One more, with room for so many letters. Its number.
+    /// One more, with room for `letters` letters. Returns its number.
     pub(crate) fn add(&mut self, alloc: Global, letters: usize) -> Result<usize, AllocError>
         ensures { MatchResult result (λ number. (number ≡ length self.old) × (self.new ≡ self.old ++ [] ∷ [])) (λ _. self.new ≡ self.old) }
     {
@@ -46,7 +46,7 @@ impl<M: GroupCommits, S: Start, B: Book> Trays<M, S, B> {
     /// Puts a letter into its tray, on top.
     ///
     /// # Errors
-    /// Gives it back where there is no memory.
+    /// Gives it back if there is no memory.
     pub(crate) fn put(&mut self, letter: Letter<M, S, B>) -> Result<(), Letter<M, S, B>>
         ensures { MatchResult result
             (λ _. (letter.tray < length self.old) × (self.new ≡ put_at self.old letter.tray letter))

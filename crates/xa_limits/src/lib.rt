@@ -20,7 +20,7 @@ pub const MOST_KEY: usize = 64;
 pub const MOST_VALUE: usize = 16_384;
 /// The most XIDs that a Recover asks for and is answered.
 pub const MOST_XIDS: usize = 256;
-/// The most bytes of a frame's content, behind its length.
+/// The most bytes of a frame's content, after its length.
 pub const MOST_CONTENT: usize = 65_535;
 
 // A manager.
@@ -50,15 +50,15 @@ pub const LEAST_LOG: u64 = 64;
 pub const MOST_LOG: u64 = 1_073_741_824;
 /// The bytes of a format's name, with which a file begins.
 pub const FORMAT_BYTES: usize = 8;
-/// Where the first record begins, behind the name of its format.
+/// Where the first record begins, after the name of its format.
 pub const FIRST_OFFSET: u64 = FORMAT_BYTES as u64;
-/// The bytes of a length: of the one before a body, and of the closing one behind the last record, which is 0.
+/// The bytes of a length: of the one before a body, and of the closing one after the last record, which is 0.
 pub const LENGTH_BYTES: usize = 4;
 /// The bytes of a digest (SHA-256, FIPS 180-4).
 pub const DIGEST_BYTES: usize = 32;
 /// How many bytes of a record aren't its body.
 pub const AROUND_BODY: usize = LENGTH_BYTES + DIGEST_BYTES;
-/// The same, with a closing length behind the record.
+/// The same, with a closing length after the record.
 pub const AROUND_CLOSED: usize = AROUND_BODY + LENGTH_BYTES;
 /// The most bytes of a record's body in a file of format 1.
 pub const MOST_BODY_OF_ONE: usize = 524_288;

@@ -3,6 +3,7 @@ pub mod Records
 pub mod Torn
 pub mod Tried
 pub mod Whole
+pub mod Absent
 pub mod Mixed
 pub mod Short
 pub mod Mend
@@ -40,6 +41,8 @@ pub mod Opens
 pub mod Leaves
 pub mod Standings
 pub mod Interrupting
+pub mod Beside
+pub mod Filled
 pub mod Fits
 pub mod Still
 pub mod Looks

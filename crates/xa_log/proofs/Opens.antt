@@ -130,6 +130,7 @@ module _ {D : Type 0} (disks : Ghosts D) (a b : List ℕ) (log : LogView D) (sca
         current = stood mine is fits it whole;
         other = read_other disks log.log_bytes log.other two short plain head;
         quiet = read_quiet disks log.log_bytes log.other two short plain head;
+        durable = two;
         older = λ has.
             ap (λ (l : List (List ℕ)). beats log.on_first l (logged (disks.seen log.other))) (sym (scan_logged mine scan it))
             ∙ ap (λ (f : List ℕ). beats log.on_first (logged mine) (logged f)) other_is ∙ wins (subst (λ f. has_log f ≡ true) other_is has);

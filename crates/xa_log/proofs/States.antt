@@ -24,7 +24,7 @@ of_two : (state : LogState) (most : ℕ) (f : Bool) (first second : List ℕ)
 of_two state most true first second it = it
 of_two state most false first second it = it
 
-in_two : {D : Type 0} (may_leave : D → List ℕ → Type 0) (f : Bool) (d o : D) (first second : List ℕ) → may_leave (cond f d o) first → may_leave (cond f o d) second
+pub in_two : {D : Type 0} (may_leave : D → List ℕ → Type 0) (f : Bool) (d o : D) (first second : List ℕ) → may_leave (cond f d o) first → may_leave (cond f o d) second
     → may_leave d (cond f first second) × may_leave o (cond f second first)
 in_two may_leave true d o first second one two = (one, two)
 in_two may_leave false d o first second one two = (two, one)

@@ -6,14 +6,14 @@ use Rattle.xa_disk.specs.declared.disk.Disk.{Ghosts}
 use Rattle.xa_log.specs.Believed.LogView.{LogView}
 use Rattle.xa_log.specs.declared.fault.OpenFault.{OpenFault}
 use Rattle.xa_log.specs.declared.fault.OpenFault.TheVariants.{Device, Memory}
-use Rattle.xa_log.specs.Believed.Chain.{start, last, text, Rests}
+use Rattle.xa_log.specs.Believed.Chain.{start, last, text, logged, Rests}
 use Rattle.xa_log.specs.Believed.Damage.{breaks_off}
 use Rattle.xa_log.specs.Believed.Group.{IsFirstPart}
-use Rattle.xa_log.specs.Believed.Pair.{beats, Behind, IsCalm, pair_fault, fault_pair, logged_pair, logged_of}
-use Rattle.xa_log.specs.Believed.Checkpoint.{IsOther, IsQuiet, LeavesOf, LeavesSealed}
+use Rattle.xa_log.specs.Believed.Pair.{beats, generation, Behind, IsCalm, pair_fault, fault_pair, logged_pair, logged_of}
+use Rattle.xa_log.specs.Believed.Checkpoint.{HasBytes, IsOther, IsQuiet, LeavesOf, LeavesSealed}
 use Rattle.xa_log.specs.Ahead.{IsKnown}
 use Rattle.xa_log.specs.Believed.Stands.{Stands, MayStand, Leaves, LeavesLog, Untouched}
-use Rattle.xa_log.specs.Believed.TwoFiles.{Pair, MayStandPair, MaySeal}
+use Rattle.xa_log.specs.Believed.TwoFiles.{HasOther, Pair, MayStandPair, MaySeal}
 use Rattle.xa_log.specs.Believed.LogStates.{LogState, Whole, LostAppend, LostCheckpoint, IsIn, KeepsAll}
 use Rattle.xa_log.proofs.Again.{no_fault, rests_front}
 use Rattle.xa_log.proofs.Pair.{calm_logged}
@@ -99,8 +99,12 @@ module _ {D : Type 0} (disks : Ghosts D) (old new : LogView D) (u : Untouched ol
   state_kept (LostAppend bodies group stood) p = may_stand_pair_kept bodies group stood p
   state_kept (LostCheckpoint bodies fresh) p = may_seal_kept bodies fresh p
 
+  has_other : HasOther disks old → HasOther disks new
+  has_other (inl filled) = inl (record { seen = subst HasBytes (sym same_other) filled.seen; left = λ c now. filled.left c (left_other c now) })
+  has_other (inr (one, few)) = inr (u.on_first ∙ one, subst (λ (f : List ℕ). generation (logged f) ≤ 1) (sym same) few)
+
   pub keeps_all : KeepsAll disks old new
-  keeps_all = record { state = state_kept; quiet = quiet_kept; known = known_kept; stands = stands_kept; may_stand = may_stand_kept }
+  keeps_all = record { state = state_kept; quiet = quiet_kept; known = known_kept; other = has_other; stands = stands_kept; may_stand = may_stand_kept }
 
 -- ---- what a crash may leave of each file
 

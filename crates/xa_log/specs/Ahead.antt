@@ -14,37 +14,37 @@ use Rattle.xa_limits.specs.declared.TheConstants.{AROUND_CLOSED}
 abbrev pub piece_from : ℕ → ℕ → ℕ
 piece_from to most = min (READY_BYTES - to % READY_BYTES) (most - to)
 
--- How many zeros go behind what is written from one offset up to another: those up to the end of the piece that it
--- reaches into, within the limit; none where it stays in the piece in which it begins, or the file is known to reach
+-- How many zeros go after what is written from one offset up to another: those up to the end of the piece that it
+-- reaches into, within the limit; none if it stays in the piece in which it begins, or the file is known to reach
 -- that end.
 abbrev pub ready : ℕ → ℕ → ℕ → ℕ → ℕ
 ready from to most known =
     if from / READY_BYTES == to / READY_BYTES || nat_le (to + piece_from to most) known then 0 else piece_from to most
 
--- how many go behind an append of a body of so many bytes
+-- how many go after an append of a body of this many bytes
 abbrev pub ready_for : {D : Type 0} → LogView D → ℕ → ℕ
 ready_for log n = ready log.end (log.end + AROUND_CLOSED + n) log.log_bytes log.known
 
--- where a file is cut of which so much is to stay: at the end of that piece
+-- where a file is cut of which this much has to stay: at the end of that piece
 abbrev pub cut_behind : ℕ → ℕ
 cut_behind keep = keep + (READY_BYTES - keep % READY_BYTES)
 
--- How far a file is then known to reach: as before, or where that was far behind what is to stay, up to the cut.
+-- How far a file is then known to reach: as before, or if that was far beyond what has to stay, up to the cut.
 abbrev pub Shortens : ℕ → ℕ → ℕ → Type 0
 Shortens keep was now = (now ≡ was) ⊎ ((keep + SPARE_BYTES < was) × (now ≡ cut_behind keep))
 
--- what was known to stand far behind it is gone
+-- what was known to stand far beyond it is gone
 abbrev pub IsCut : ℕ → ℕ → List ℕ → Type 0
 IsCut keep known file = keep + SPARE_BYTES < known → length file ≤ cut_behind keep
 
--- A group that is kept has been written and nothing else, or where the write with zeros failed, over what it left, the
+-- A group that is kept has been written and nothing else, or if the write with zeros failed, over what it left, the
 -- records and the closing length.
 abbrev pub Writes : {D : Type 0} → Ghosts D → List (List ℕ) → LogView D → LogView D → Type 0
 Writes disks group old new =
     Wrote disks old.end (closed old.digest group) (closed_by (ready_for old (as_one group)) old.digest group)
     old.disk new.disk
 
--- the failures and the calls of an append of a body of so many bytes
+-- the failures and the calls of an append of a body of this many bytes
 abbrev pub AppendsBy : {D : Type 0} → Ghosts D → ℕ → Appended → LogView D → LogView D → Type 0
 AppendsBy disks n outcome old new =
     AppendsAhead (ready_for old n) outcome

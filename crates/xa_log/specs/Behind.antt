@@ -1,4 +1,4 @@
--- What a read finds behind a log's last record.
+-- What a read finds after a log's last record.
 use Rattle.std.specs.Prelude.{◌≡◌, ◌<◌, ℕ, List, length, slice_index}
 use Rattle.xa_limits.specs.declared.TheConstants.{LENGTH_BYTES}
 use Rattle.xa_log.specs.declared.behind.Behind.{Behind}

@@ -6,8 +6,8 @@ use Rattle.xa_log.specs.declared.ahead.TheConstants.{READY_BYTES}
 use Rattle.xa_log.specs.declared.checkpointing.TheConstants.{CLEARED_BYTES}
 use Rattle.xa_log.specs.Believed.LogView.{LogView}
 
--- A record with a body of so many bytes, its closing length and the zeros that make a file ready: one that has no more
--- than a body of format 1 always.
+-- A record with a body of this many bytes, its closing length and the zeros that make a file ready: one that has no
+-- more than a body of format 1 always.
 abbrev pub Holds : {D : Type 0} → LogView D → ℕ → Type 0
 Holds log n = (n ≤ MOST_BODY_OF_ONE) ⊎ (AROUND_CLOSED + n + READY_BYTES ≤ log.room)
 
@@ -15,10 +15,10 @@ Holds log n = (n ≤ MOST_BODY_OF_ONE) ⊎ (AROUND_CLOSED + n + READY_BYTES ≤ 
 abbrev pub HoldsEach : {D : Type 0} → LogView D → List (List ℕ) → Type 0
 HoldsEach log bodies = AllByRecursion (λ body. Holds log (length body)) bodies
 
--- what it had room for it has room for
+-- what it had room for it still has room for
 abbrev pub KeepsRoom : {D : Type 0} → LogView D → LogView D → Type 0
 KeepsRoom old new = (n : ℕ) → Holds old n → Holds new n
 
--- records of these bodies, each with the zeros that a checkpoint's last one has, in a buffer of so many bytes
+-- records of these bodies, each with the zeros that a checkpoint's last one has, in a buffer of this many bytes
 abbrev pub EachFits : ℕ → List (List ℕ) → Type 0
 EachFits room bodies = AllByRecursion (λ body. AROUND_BODY + CLEARED_BYTES + length body ≤ room) bodies

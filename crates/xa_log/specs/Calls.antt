@@ -1,4 +1,4 @@
--- Which device calls a log makes. The counts of a disk say how many of each kind; they stay at their top.
+-- Which device calls a log makes. The counts of a disk say how many of each kind; they stop at their top.
 use Rattle.std.specs.Prelude.{◌≡◌, ◌⊎◌, ℕ, zero, suc, ◌+◌, ◌*◌, ◌≤◌, ◌<◌, Bool, true, false, ◌&&◌, nat_le, nat_lt}
 use Rattle.std.specs.Prelude.{if◌then◌else◌, List, length, take, drop, Option, None, Some, is_some, Result, Ok, Err, MatchResult}
 use Rattle.xa_disk.specs.Counts.{plus, with_length, with_write, with_sync}
@@ -17,7 +17,7 @@ use Rattle.xa_log.specs.declared.fault.OpenFault.TheVariants.{NotALog, TooNew, T
 use Rattle.xa_log.specs.declared.record.TheConstants.{MOST_RECORD}
 use Rattle.xa_log.specs.declared.window.TheConstants.{WINDOW, LEAST_READ}
 
--- so many reads more, of so many bytes together
+-- this many more reads, of this many bytes together
 abbrev pub with_reads : ℕ → ℕ → Counts → Counts
 with_reads zero bytes c = c
 with_reads (suc more) bytes c = record c { reads = plus c.reads (suc more); read_bytes = plus c.read_bytes bytes }
@@ -46,17 +46,17 @@ pub record FetchedWithin (len most : ℕ) (first now : Counts) : Type 0 where
 abbrev pub FetchedUpto : ℕ → ℕ → Counts → Counts → Span → Type 0
 FetchedUpto len most first now span = Fetched len (span.from + span.have) first now × (span.from + span.have ≤ most)
 
--- where a record is found, up to there
+-- if a record is found, up to there
 abbrev pub FetchedNext : ℕ → ℕ → Counts → Counts → Option Found → Type 0
 FetchedNext len most first now None = FetchedWithin len most first now
 FetchedNext len most first now (Some found) = FetchedUpto len most first now found.span
 
--- Where the first bytes of a file were read up to an offset, reading a record up to its end stays within a bound: no more
--- is read if they have it, and at most a window behind it if they haven't.
+-- If the first bytes of a file were read up to an offset, reading a record up to its end stays within a bound: no more
+-- is read if they have it, and at most a window after it if they haven't.
 abbrev pub ReachesTo : ℕ → ℕ → ℕ → Type 0
 ReachesTo end upto most = (upto ≤ most) × (upto < end → end + WINDOW ≤ most)
 
--- The same of the record that begins at an offset, whose size isn't known yet, but that it is at most so much: at most a
+-- The same of the record that begins at an offset, whose size isn't known yet, except that it is at most this: at most a
 -- window is read to learn it.
 abbrev pub Reaches : (ℕ → Type 0) → ℕ → ℕ → ℕ → ℕ → ℕ → Type 0
 Reaches IsSize limit len at upto most =
@@ -64,7 +64,7 @@ Reaches IsSize limit len at upto most =
     × ((size : ℕ) → IsSize size → size ≤ limit → at + (AROUND_BODY + size) ≤ len
     → ReachesTo (at + (AROUND_BODY + size)) upto most)
 
--- Reads of at most so many bytes together, and no other call: pieces of at most WINDOW bytes, and at most one of
+-- Reads of at most this many bytes together, and no other call: pieces of at most WINDOW bytes, and at most one of
 -- them of less than LEAST_READ.
 pub record OnlyReads (most : ℕ) (first now : Counts) : Type 0 where
   pub reads : ℕ
@@ -85,11 +85,11 @@ LooksAt TooNew most old new = OnlyReads most (asked old) new
 LooksAt TooLong most old new = new ≡ asked old
 LooksAt Damaged most old new = OnlyReads most (asked old) new
 
--- the calls of a look at a log: a sync, a length, and reads of at most so many bytes together
+-- the calls of a look at a log: a sync, a length, and reads of at most this many bytes together
 abbrev pub Looks : {T : Type 0} → Result T OpenFault → ℕ → Counts → Counts → Type 0
 Looks result most old new = MatchResult result (λ _. OnlyReads most (asked old) new) (λ e. LooksAt e most old new)
 
--- the same of the second of two files: where a call to the first one failed it may have been asked nothing
+-- the same of the second of two files: if a call to the first one failed it may have been asked nothing
 abbrev pub LooksSecondAt : OpenFault → ℕ → Counts → Counts → Type 0
 LooksSecondAt e most old new = ((e ≡ Device) × (new ≡ old)) ⊎ LooksAt e most old new
 
@@ -108,7 +108,7 @@ begins_long file =
     && (nat_le (size_at (drop FORMAT_BYTES file)) (most_body (format_in file))
     && (nat_le (first_end file) (length file) && nat_lt WINDOW (first_end file)))
 
--- how many bytes of a file are read at most to tell its first record: a window, and that record where it is longer
+-- how many bytes of a file are read at most to tell its first record: a window, and that record if it is longer
 abbrev pub brief : List ℕ → ℕ
 brief file = if begins_long file then WINDOW + first_end file else WINDOW
 
@@ -121,7 +121,7 @@ pub record LooksBriefly {D : Type 0} (disks : Ghosts D) (old new : D) : Type 0 w
   pub brief_at_all : OnlyReads MOST_BRIEF (asked (disks.counts old)) (disks.counts new)
   pub brief_as_is : disks.honest → OnlyReads (brief (disks.seen old)) (asked (disks.counts old)) (disks.counts new)
 
--- of the file that isn't the current one no more is read, where the current one is the first or isn't
+-- of the file that isn't the current one no more is read, whether the current one is the first or isn't
 abbrev pub ReadsLittle : {D : Type 0} → Ghosts D → Bool → D → D → D → D → Type 0
 ReadsLittle disks true first first_new second second_new = LooksBriefly disks second second_new
 ReadsLittle disks false first first_new second second_new = LooksBriefly disks first first_new
@@ -132,14 +132,14 @@ PutCalls result old new =
     MatchResult result (λ _. new ≡ with_sync (with_write old))
     (λ _. (new ≡ with_write old) ⊎ (new ≡ with_sync (with_write old)))
 
--- Where so many bytes more than those that count were tried: a write of all, or behind one that failed a write of those
+-- If this many bytes more than those that count were tried: a write of all, or after one that failed a write of those
 -- that count.
 abbrev pub WritesAhead : {T E : Type 0} → ℕ → Result T E → ℕ → ℕ → Counts → Counts → Type 0
 WritesAhead more result failures failures' old new =
     (CountsFault result failures failures' × (new ≡ with_write old))
     ⊎ ((1 ≤ more) × CountsFault result (plus failures 1) failures' × (new ≡ with_write (with_write old)))
 
--- The calls of an append that isn't answered from memory, where no write with zeros failed: a write and a sync; where one
+-- The calls of an append that isn't answered from memory, if no write with zeros failed: a write and a sync; if one
 -- of them failed the repair's write, and its sync unless that write failed.
 abbrev pub AppendCalls : Appended → Counts → Counts → Type 0
 AppendCalls Kept old new = new ≡ with_sync (with_write old)
@@ -150,14 +150,14 @@ AppendCalls Lost old new =
     ⊎ (new ≡ with_sync (with_sync (with_write (with_write old))))
 AppendCalls Full old new = new ≡ old
 
--- the failures and the calls of an append with so many zeros: those, or where there are any, those behind a write with
+-- the failures and the calls of an append with this many zeros: those, or if there are any, those after a write with
 -- them that failed
 abbrev pub AppendsAhead : ℕ → Appended → ℕ → ℕ → Counts → Counts → Type 0
 AppendsAhead more outcome failures failures' old new =
     (HasCause outcome failures failures' × AppendCalls outcome old new)
     ⊎ ((1 ≤ more) × HasCause outcome (plus failures 1) failures' × AppendCalls outcome (with_write old) new)
 
--- How many calls failed from a group's write, which was answered so, to what became of it: where the write failed, none
+-- How many calls failed from a group's write, with this result, to what became of it: if the write failed, none
 -- more, unless the repair failed too.
 abbrev pub SettlesBy : {T E : Type 0} → Result T E → Appended → ℕ → ℕ → Type 0
 SettlesBy (Ok _) outcome failures failures' = HasCause outcome failures failures'
@@ -166,17 +166,17 @@ SettlesBy (Err _) Lost failures failures' = HasCause Lost failures failures'
 SettlesBy (Err _) Kept failures failures' = ⊥
 SettlesBy (Err _) Full failures failures' = ⊥
 
--- so many writes more
+-- this many more writes
 abbrev pub with_writes : ℕ → Counts → Counts
 with_writes zero c = c
 with_writes (suc more) c = with_write (with_writes more c)
 
--- a write of each of so many records and a sync, of which the first that failed is the last
+-- a write of each of this many records and a sync, of which the first that failed is the last
 abbrev pub RecordsCalls : {T E : Type 0} → Result T E → ℕ → Counts → Counts → Type 0
 RecordsCalls result n old new = MatchResult result (λ _. new ≡ with_sync (with_writes n old))
     (λ _. ((k : ℕ) × (1 ≤ k) × (k ≤ n) × (new ≡ with_writes k old)) ⊎ (new ≡ with_sync (with_writes n old)))
 
--- the calls of a checkpoint of so many records before its seal: the header's write and sync, the records' writes and
+-- the calls of a checkpoint of this many records before its seal: the header's write and sync, the records' writes and
 -- sync
 abbrev pub readied : ℕ → Counts → Counts
 readied n c = with_sync (with_writes n (with_sync (with_write c)))
@@ -187,7 +187,7 @@ StopsBefore n old new =
     (new ≡ with_write old) ⊎ (new ≡ with_sync (with_write old))
     ⊎ ((k : ℕ) × (1 ≤ k) × (k ≤ n) × (new ≡ with_writes k (with_sync (with_write old)))) ⊎ (new ≡ readied n old)
 
--- The calls of a checkpoint of so many records on the disk that it writes: nothing is repaired before the seal, and the
+-- The calls of a checkpoint of this many records on the disk that it writes: nothing is repaired before the seal, and the
 -- seal is as an append.
 abbrev pub CheckpointCalls : Appended → ℕ → Counts → Counts → Type 0
 CheckpointCalls Kept n old new = AppendCalls Kept (readied n old) new

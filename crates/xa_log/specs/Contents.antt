@@ -11,7 +11,7 @@ use Rattle.xa_log.specs.declared.contents.LogContents.{LogContents}
 use Rattle.xa_log.specs.declared.fault.OpenFault.TheVariants as fault
 use Rattle.xa_log.specs.declared.standing.Standing.TheVariants as standing_as
 
--- the bodies that chain behind a record which doesn't
+-- the bodies that chain after a record which doesn't
 abbrev pub left_in : List ℕ → List (List ℕ)
 left_in file = left_out (format_in file) (logged file) file
 
@@ -25,7 +25,7 @@ pub record IsLogContents (file : List ℕ) (log : LogContents) : Type 0 where
   pub cut : log.cut ≡ (is_damaged file && is_snapshot (logged file))
   pub left : bodies_of log.left.items ≡ left_in file
 
--- nothing, where that is all that stands in a file that is no log, or else a stray
+-- nothing, if that is all that stands in a file that is no log, otherwise a stray
 abbrev pub IsNoLog : List ℕ → Contents → Type 0
 IsNoLog file (Log log) = ⊥
 IsNoLog file Nothing = standing file ≡ standing_as.Nothing
@@ -33,7 +33,7 @@ IsNoLog file Stray = standing file ≢ standing_as.Nothing
 IsNoLog file Later = ⊥
 IsNoLog file TooLong = ⊥
 
--- what stands in a file, where a log has at most so many bytes
+-- what stands in a file, if a log has at most this many bytes
 abbrev pub IsContents : ℕ → List ℕ → Contents → Type 0
 IsContents most file (Log log) = (fault_of most file ≡ None) × IsLogContents file log
 IsContents most file Nothing = (fault_of most file ≡ Some fault.NotALog) × (standing file ≡ standing_as.Nothing)

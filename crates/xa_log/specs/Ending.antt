@@ -18,7 +18,7 @@ use Rattle.xa_log.specs.declared.finding.Damage.{Damage}
 abbrev pub cleared : List ℕ
 cleared = replicate CLEARED_BYTES 0
 
--- a log that is damaged before a record that was appended stands
+-- a log that is damaged before any record that was appended
 abbrev pub is_cut_in : Contents → Bool
 is_cut_in (Log log) = log.cut
 is_cut_in _ = false
@@ -28,7 +28,7 @@ abbrev pub has_records : Contents → Bool
 has_records (Log log) = not (is_nil (bodies_of log.bodies.items))
 has_records _ = false
 
--- What is left out where two files are damaged: where a snapshot is cut, and the other file has records, no record before
+-- What is left out if two files are damaged: if a snapshot is cut, and the other file has records, no record before
 -- the damage stays.
 abbrev pub left_out : Damage → Contents → Contents → LeftOut
 left_out damage first second = record {
@@ -41,7 +41,7 @@ left_out damage first second = record {
 abbrev pub end_byte : LeftOut → ℕ
 end_byte left = if left.is_whole then FIRST_OFFSET else left.damage.at
 
--- a file that is ended so, where the damage is in it
+-- a file that is ended there, if the damage is in it
 abbrev pub ended : Bool → ℕ → List ℕ → List ℕ
 ended here at file = if here then put file at cleared else file
 
@@ -56,8 +56,8 @@ HasEnded most first second first' second' (Some left) =
     × (first' ≡ ended left.damage.on_first (end_byte left) first)
     × (second' ≡ ended (not left.damage.on_first) (end_byte left) second)
 
--- What stands of two files, of which the damage of one was ended. That one isn't damaged any more, so what still is, is the
--- other one. An opening takes the records that it had taken; where none of them is left, those of the other file.
+-- What stands of two files, of which the damage of one was ended. That one is no longer damaged, so what still is, is the
+-- other one. An opening takes the records that it had taken; if none of them is left, those of the other file.
 pub record IsEnded (left : LeftOut) (first second first' second' : List ℕ) : Type 0 where
   pub sound : is_damaged (if left.damage.on_first then first' else second') ≡ false
   pub beside : (damage : Damage) → damage_of first' second' ≡ Some damage → damage.on_first ≡ not left.damage.on_first

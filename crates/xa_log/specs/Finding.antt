@@ -10,7 +10,7 @@ use Rattle.xa_log.specs.declared.finding.Damage.{Damage}
 abbrev pub at_first : Bool → Damage
 at_first first = record { on_first = first; number = 1; at = FIRST_OFFSET }
 
--- behind the records of a file's log
+-- after the records of a file's log
 abbrev pub behind_last : Bool → List ℕ → Damage
 behind_last first file = record {
   on_first = first;
@@ -18,8 +18,8 @@ behind_last first file = record {
   at = length (text (format_in file) (logged file));
 }
 
--- where a damaged pair breaks off: before a first record that is shown, in the first file before the second; else behind
--- the current file's records
+-- where a damaged pair breaks off: before a first record that is shown, in the first file before the second; otherwise
+-- after the current file's records
 abbrev pub place_of : List ℕ → List ℕ → Damage
 place_of first second =
     if is_headless first then at_first true

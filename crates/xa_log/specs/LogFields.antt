@@ -22,7 +22,7 @@ shown log = record {
   lost = log.lost;
 }
 
--- The end is within the limit. The buffer has a window at least, and the longest record, with the zeros behind it, at most.
+-- The end is within the limit. The buffer has a window at least, and the longest record, with the zeros after it, at most.
 pub record IsSized {D : Type 0} (log : Inside D) : Type 0 where
   pub within : log.end ≤ log.log_bytes
   pub room : WINDOW ≤ length log.buffer.items

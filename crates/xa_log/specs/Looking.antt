@@ -28,7 +28,7 @@ pub record IsFront (file window : List ℕ) (front : Front) : Type 0 where
   pub newer : front.newer ≡ is_newer (take FORMAT_BYTES file)
   pub caches : Caches file window front.span
 
--- a window has the first bytes of a file of this length, as many as it can where they name a log's format
+-- a window has the first bytes of a file of this length, as many as it can if they name a log's format
 pub record HasFront (len : ℕ) (front : Front) : Type 0 where
   pub from : front.span.from ≡ 0
   pub held : front.span.have ≤ WINDOW
@@ -60,7 +60,7 @@ abbrev pub HasHead : ℕ → Option Head → Type 0
 HasHead len None = Unit {0}
 HasHead len (Some head) = (FORMAT_BYTES ≤ len) × IfSome head.first (Fits head.format FIRST_OFFSET len WINDOW)
 
--- the first bytes that were read of a file, up to where a window has it behind its first record
+-- the first bytes that were read of a file, up to where a window has it after its first record
 abbrev pub FetchedHead : ℕ → ℕ → Counts → Counts → Option Head → Type 0
 FetchedHead len most first now None = FetchedWithin len most first now
 FetchedHead len most first now (Some head) = FetchedNext len most first now head.first

@@ -1,4 +1,4 @@
--- What reading finds where a record is shown, whether or not it chains.
+-- What reading finds if a record is shown, whether or not it chains.
 use Rattle.std.specs.Prelude.{◌≡◌, ◌⊎◌, ℕ, ◌+◌, ◌≤◌, min, true, false, List, [], length, take, drop, Option, Some, None}
 use Rattle.std.specs.Int.{w32, to_be_bytes}
 use Rattle.xa_disk.specs.declared.counts.Counts.{Counts}
@@ -36,7 +36,7 @@ Shows format file at window (Some shown) = (shows_record format (drop at file) �
 abbrev pub as_found : Shown → Found
 as_found shown = record { body = shown.body; digest = shown.stored; span = shown.span }
 
--- where a record is shown, the file was read up to where a window has it
+-- if a record is shown, the file was read up to where a window has it
 abbrev pub FetchedShown : ℕ → ℕ → Counts → Counts → Option Shown → Type 0
 FetchedShown len most first now None = FetchedWithin len most first now
 FetchedShown len most first now (Some shown) = FetchedUpto len most first now shown.span
@@ -48,7 +48,7 @@ pub record HasFrom (at len : ℕ) (span : Span) : Type 0 where
   pub held : span.have ≤ WINDOW
   pub inside : span.from + span.have ≤ len
 
--- of the record that is shown at an offset, the size of its body, or 0 where none is, and what the window has by then
+-- of the record that is shown at an offset, the size of its body, or 0 if none is, and what the window has by then
 pub record IsShownSize (format : Format) (file : List ℕ) (at : ℕ) (window : List ℕ) (size : ℕ) (span : Span) : Type 0 where
   pub none : size ≡ 0 → shows_record format (drop at file) ≡ false
   pub some : 1 ≤ size → shows_record format (drop at file) ≡ true
@@ -61,7 +61,7 @@ pub record FitsSize (format : Format) (at len size : ℕ) (span : Span) : Type 0
   pub within : 1 ≤ size → at + (AROUND_BODY + size) ≤ len
   pub length_read : 1 ≤ size → at + LENGTH_BYTES ≤ span.from + span.have
 
--- so much of the file was read for it, and reading it up to its end stays within the same bound
+-- this much of the file was read for it, and reading it up to its end stays within the same bound
 pub record FetchedSize (len most at size : ℕ) (first now : Counts) (span : Span) : Type 0 where
   pub upto : FetchedUpto len most first now span
   pub reaches : 1 ≤ size → ReachesTo (at + (AROUND_BODY + size)) (span.from + span.have) most
@@ -97,24 +97,24 @@ pub record IsFrontOf (front bytes : List ℕ) : Type 0 where
   pub front_is : front ≡ take (length front) bytes
   pub whole : min (length bytes) SHORT_RECORD ≤ length front
 
--- the digest that the record has then, or that none chains so
+-- the digest that the record has then, or that none chains then
 abbrev pub IfChainsWith : Format → List ℕ → List ℕ → ℕ → Option (List ℕ) → Type 0
 IfChainsWith format prev bytes size None = chains_with format prev bytes size ≡ false
 IfChainsWith format prev bytes size (Some digest) =
     (chains_with format prev bytes size ≡ true) × (digest ≡ digest_at prev (with_size size bytes))
 
--- so they were written, or as they are
+-- as they were written, or as they are
 abbrev pub IsWritten : Format → List ℕ → List ℕ → List ℕ → Option Mended → Type 0
 IsWritten format prev bytes written None = written ≡ bytes
 IsWritten format prev bytes written (Some mended) =
     (written ≡ with_size mended.size bytes) × IsMended format prev bytes mended
 
--- what chains behind the record that is shown at the front of these bytes, and how far behind
+-- what chains after the record that is shown at the front of these bytes, and how far after
 pub record IsLeft (format : Format) (prev bytes : List ℕ) (left : Left) : Type 0 where
   pub bodies : bodies_of left.bodies.items ≡ bodies_left format prev bytes
   pub distance : shows_record format bytes ≡ true → left.distance ≡ AROUND_BODY + size_at bytes
 
--- what a log of these bodies leaves out, and where any is, how far it begins behind them
+-- what a log of these bodies leaves out, and if anything is, how far it begins after them
 pub record IsLeftOut (format : Format) (bodies : List (List ℕ)) (file : List ℕ) (left : Left) : Type 0 where
   pub bodies_are : bodies_of left.bodies.items ≡ left_out format bodies file
   pub distance : (bodies_of left.bodies.items ≡ []) ⊎ (left.distance ≡ AROUND_BODY + size_at (written_behind format bodies file))

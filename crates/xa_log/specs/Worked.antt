@@ -1,4 +1,4 @@
--- Worked logs of two files, in bytes: in one of format 1 the first boot's record with a branch prepared, and behind the
+-- Worked logs of two files, in bytes: in one of format 1 the first boot's record with a branch prepared, and after the
 -- checkpoint of the second boot, in one of format 2, its record with the branch held. The digests are sha256sum's.
 use Rattle.std.specs.Prelude.{◌≡◌, List, [], ◌∷◌, ◌++◌, ℕ, true, false, Some, None, take, slice_set}
 use Rattle.xa_log.specs.declared.fault.OpenFault.TheVariants.{NotALog, TooNew, TooLong, Damaged}
@@ -66,7 +66,7 @@ second_file = magic Two ++ again_record ++ held_record ++ 0 ∷ 0 ∷ 0 ∷ 0 �
 abbrev pub unsealed : List ℕ
 unsealed = slice_set second_file 11 0
 
--- ---- what an earlier checkpoint left behind these records
+-- ---- what an earlier checkpoint left after these records
 
 abbrev pub known : List ℕ
 known = 9 ∷ 0 ∷ 0 ∷ 0 ∷ 1 ∷ 1 ∷ 1 ∷ 170 ∷ 187 ∷ 1 ∷ []
@@ -79,7 +79,7 @@ known_digest =
     174 ∷ 243 ∷ []
 
 -- The checkpoint of the second boot stands before the third record of an earlier one with the same two records, and an
--- append was torn behind its length: what was left of that record's body is as given.
+-- append was torn after its length: what was left of that record's body is as given.
 abbrev pub torn_behind : List ℕ → List ℕ
 torn_behind left = magic Two ++ again_record ++ held_record ++ (0 ∷ 0 ∷ 0 ∷ 10 ∷ []) ++ left ++ known_digest
 
@@ -101,13 +101,13 @@ BeforeTheSeal =
     (on_first first_file unsealed ≡ true) × (logged_pair first_file unsealed ≡ opened ∷ prepared ∷ [])
     × (on_first unsealed first_file ≡ false) × (logged_pair unsealed first_file ≡ opened ∷ prepared ∷ [])
 
--- With the closing length alone over it that record comes back; with its first byte cleared too it doesn't.
+-- With only the closing length over it that record comes back; with its first byte cleared too it doesn't.
 abbrev pub StaleTail : Type 0
 StaleTail =
     (logged (torn_behind known) ≡ again ∷ held ∷ known ∷ [])
     × (logged (torn_behind (slice_set known 0 0)) ≡ again ∷ held ∷ [])
 
--- On a tie the one that has records, and the first where both have or neither has. A first body of four bytes is
+-- On a tie the one that has records, and the first if both have or neither has. A first body of four bytes is
 -- generation 0. What the first file says of itself, and what the second one says.
 abbrev pub Ties : Type 0
 Ties =
@@ -115,13 +115,13 @@ Ties =
     × (beats false ((1 ∷ 0 ∷ 0 ∷ 9 ∷ []) ∷ []) [] ≡ true) × (beats true [] ((1 ∷ 0 ∷ 0 ∷ 9 ∷ []) ∷ []) ≡ false)
     × (on_first (preamble One) (preamble One) ≡ true) × (on_first (preamble One) (magic One) ≡ true)
 
--- where one of them is no log, the other one
+-- if one of them is no log, the other one
 abbrev pub OneLog : Type 0
 OneLog =
     (on_first [] (preamble One) ≡ false) × (on_first (preamble One) [] ≡ true)
     × (logged_pair first_file [] ≡ opened ∷ prepared ∷ []) × (logged_pair [] first_file ≡ opened ∷ prepared ∷ [])
 
--- XARMLOG2 alone is a log without records, and comes behind one of format 1 that has some
+-- XARMLOG2 alone is a log without records, and comes after one of format 1 that has some
 abbrev pub SecondFormat : Type 0
 SecondFormat =
     (pair_fault 114 (magic Two) [] ≡ None) × (logged_pair (magic Two) [] ≡ [])
@@ -135,8 +135,8 @@ Faults =
     × (pair_fault 114 first_file newer ≡ Some TooNew) × (pair_fault 114 newer [] ≡ Some TooNew)
     × (pair_fault 114 [] [] ≡ Some NotALog)
 
--- One bit of a body flipped, or the file cut behind a record: in the snapshot of the second generation it is told, unless
--- the next body begins with 0 or the file ends behind a length. In a log of the first generation it isn't.
+-- One bit of a body flipped, or the file cut after a record: in the snapshot of the second generation it is reported, unless
+-- the next body begins with 0 or the file ends after a length. In a log of the first generation it isn't.
 abbrev pub Damages : Type 0
 Damages =
     (pair_fault 115 first_file second_file ≡ None) × (pair_fault 115 first_file (slice_set second_file 60 171) ≡ Some Damaged)
@@ -148,8 +148,8 @@ Damages =
 abbrev pub renamed : List ℕ
 renamed = magic Two ++ record_of (start One) again ++ 0 ∷ 0 ∷ 0 ∷ 0 ∷ []
 
--- One bit of the first record flipped, of its digest, of its number, of its length: that is told in a log of the second
--- generation, beside the first one. Its length zeroed it is a checkpoint without its seal, and another name comes of a torn
+-- One bit of the first record flipped, of its digest, of its number, of its length: that is reported in a log of the second
+-- generation, beside the first one. With its length zeroed it is a checkpoint without its seal, and another name comes of a torn
 -- header; in a log of the first generation it may be a torn append.
 abbrev pub LostFirst : Type 0
 LostFirst =
@@ -163,8 +163,8 @@ LostFirst =
 abbrev pub three_records : List ℕ
 three_records = torn_behind known ++ 0 ∷ 0 ∷ 0 ∷ 0 ∷ []
 
--- Of the second record one byte changed: the third one is found, behind a body and behind a digest that isn't its own, and
--- behind a length of one byte less, which differs in a bit; not behind one that differs in two, or of 0. The log of all three
+-- Of the second record one byte changed: the third one is found, after a body and after a digest that isn't its own, and
+-- after a length of one byte less, which differs in a bit; not after one that differs in two, or of 0. The log of all three
 -- leaves nothing out.
 abbrev pub LeftBehind : Type 0
 LeftBehind =
@@ -174,8 +174,8 @@ LeftBehind =
     × (left_out Two (again ∷ []) (slice_set three_records 52 26) ≡ []) × (left_out Two (again ∷ []) (slice_set three_records 52 0) ≡ [])
     × (left_out Two (again ∷ held ∷ known ∷ []) three_records ≡ [])
 
--- A branch prepared in the first boot is the own one of a log of the first generation, not of the second; a snapshot's record is
--- of none. It tells from 262,144 bytes behind the log's end on, also where another comes before it.
+-- A branch prepared in the first boot belongs to a log of the first generation, not of the second; a snapshot's record
+-- to none. It counts from 262,144 bytes after the log's end on, also if another comes before it.
 abbrev pub OwnRecords : Type 0
 OwnRecords =
     (is_own 0 prepared ≡ true) × (is_own 1 prepared ≡ true) × (is_own 2 prepared ≡ false) × (is_own 1 held ≡ false)
@@ -191,7 +191,7 @@ cut_name = 88 ∷ 65 ∷ 0 ∷ 0 ∷ 76 ∷ []
 abbrev pub other_name : List ℕ
 other_name = 88 ∷ 65 ∷ 82 ∷ 77 ∷ 76 ∷ 79 ∷ 71 ∷ 120 ∷ []
 
--- The second file is missing from the second generation on, the first one beside any log. Neither is where an opening
+-- The second file is missing from the second generation on, the first one beside any log. Neither is if an opening
 -- says that one is too long, or too new.
 abbrev pub Unfits : Type 0
 Unfits =

@@ -1,4 +1,4 @@
--- A group on its way into a log: its records are written after the log's end, and their sync is to follow.
+-- A group on its way into a log: its records are written after the log's end, and their sync has to follow.
 use Rattle.std.specs.Prelude.{◌≡◌, ◌≢◌, ℕ, ◌+◌, ◌-◌, ◌≤◌, ◌<◌, ◌==◌, if◌then◌else◌, true, false, List, length, Result}
 use Rattle.std.specs.List.{AllByRecursion}
 use Rattle.xa_disk.specs.Counts.{top}
@@ -22,7 +22,7 @@ use Rattle.xa_log.specs.declared.appending.Appended.TheVariants.{Full, Kept}
 use Rattle.xa_log.specs.Believed.LogView.{LogView}
 use Rattle.xa_log.specs.declared.written.Written.{Written}
 
--- what its write was answered
+-- what its write returned
 abbrev pub write_of : Written → Result (Unit {0}) DiskFault
 write_of w = w.write
 
@@ -52,7 +52,7 @@ pub record HasWritten {D : Type 0} (disks : Ghosts D) (group : List (List ℕ)) 
   pub number : w.generation ≡ (if old.end == FIRST_OFFSET then number_in (first_of_group group) else old.generation)
   pub fits : w.to + ready_for old (as_one group) ≤ old.log_bytes
   pub range : IsRange w new
-  -- by what the write was answered
+  -- by what the write returned
   pub went : disks.honest
       → LeftWritten disks w.write old.end (range_of old group) (ready_range_of old group) old.disk new.disk
   pub time : disks.honest → TimePasses disks (Torn old.end (length (ready_range_of old group))) old.disk new.disk

@@ -4,12 +4,12 @@ ghost use Rattle.xa_log.specs.{Ahead.ready, declared.ahead.TheConstants.READY_BY
 
 /// Bytes of a piece of the current file. An append that reaches into a new piece writes zeros up to its end in the same
 /// write, unless the file is known to reach that far: the appends that follow write over bytes that are there, and a
-/// sync of a file that hasn't grown is the faster one. What stands behind a log's closing length is no part of it.
+/// sync of a file that hasn't grown is the faster one. What stands after a log's closing length is no part of it.
 pub const READY_BYTES: u64 = 262_144;
 
-// How many zeros go behind a record that is written from `from` up to `to`, closing length included, in a file that is
+// How many zeros go after a record that is written from `from` up to `to`, closing length included, in a file that is
 // known to reach up to `known`: those up to the end of the piece that the record reaches into, within `most` bytes of
-// file; none where it stays in the piece in which it begins, or the file has these bytes already.
+// file; none if it stays in the piece in which it begins, or the file has these bytes already.
 pub(crate) fn ready_behind(from: u64, to: u64, most: u64, known: u64) -> usize
     requires { to ≤ most }
     ensures exact { result ≡ ready from to most known }

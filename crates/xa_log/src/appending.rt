@@ -17,11 +17,11 @@ use xa_limits::{DIGEST_BYTES, LENGTH_BYTES, MOST_BODY};
 /// What became of a record, or of a checkpoint.
 #[derive(Clone, Copy, Debug, PartialEq, Eq)]
 pub enum Appended {
-    /// It stands, and outlasts a crash.
+    /// It stands, and survives a crash.
     Kept,
     /// A device call failed, and what was begun is cleared or doesn't count: the log is as before.
     Refused,
-    /// A device call failed, and the repair too: it stands or doesn't, as a rescan that succeeds will show, or an
+    /// A device call failed, and so did the repair: whether it stands, a rescan that succeeds will show, or an
     /// opening.
     Lost,
     /// It doesn't fit. Nothing changed.
@@ -43,7 +43,7 @@ pub(crate) fn put_synced<D: Disk>(disk: &mut D, at: u64, bytes: &[u8]) -> Result
     disk.sync()
 }
 
-// Writes the bytes. If that fails and only the first `len` count, writes these by themselves: there may be no space for
+// Writes the bytes. If that fails and only the first `len` count, writes these alone: there may be no space for
 // the rest.
 fn write_ahead<D: Disk>(disk: &mut D, at: u64, bytes: &[u8], len: usize) -> Result<(), DiskFault>
     requires some { 1 ≤ len }
@@ -67,11 +67,11 @@ fn write_ahead<D: Disk>(disk: &mut D, at: u64, bytes: &[u8], len: usize) -> Resu
 }
 
 // Makes the sync of what `write_ahead` wrote, or takes the answer of one that was made meanwhile. If that fails, or the write
-// has failed, writes zeros over the first `len` bytes of it and syncs. A sync that fails is never tried again. Clearing the
+// has failed, writes zeros over the first `len` bytes of it and syncs. A sync that fails is never retried. Clearing the
 // length alone isn't enough: a refused body and its digest would still lie there, and chain again once a later record of
-// the same length is torn behind its length. What goes behind these bytes needs no clearing, and no space for it. A disk
-// that syncs no more behind a failed sync, as `FileDisk`, so comes to `Lost` there, and then a rescan fails too: only the
-// files opened anew tell what stands.
+// the same length is torn after its length. What goes after these bytes needs no clearing, and no space for it. A disk
+// that syncs no more after a failed sync, like `FileDisk`, so comes to `Lost` there, and then a rescan fails too: only the
+// reopened files tell what stands.
 pub(crate) fn settle_at<D: Disk>(
     disk: &mut D,
     at: u64,
@@ -105,7 +105,7 @@ pub(crate) fn settle_at<D: Disk>(
     }
 }
 
-// The sync behind a write, where that succeeded.
+// The sync after a write, if that succeeded.
 fn synced_by<D: Disk>(
     disk: &mut D,
     write: Result<(), DiskFault>,
@@ -128,7 +128,7 @@ fn synced_by<D: Disk>(
     }
 }
 
-// Writes the bytes and syncs. If that fails, clears the first `len`, which alone count.
+// Writes the bytes and syncs. If that fails, clears the first `len`, the only ones that count.
 pub(crate) fn put_ahead_or_clear<D: Disk>(
     disk: &mut D,
     at: u64,
@@ -147,7 +147,7 @@ pub(crate) fn put_ahead_or_clear<D: Disk>(
     settle_at(disk, at, bytes, len, write, SyncAnswer::none())
 }
 
-// The same where all the bytes count.
+// The same if all the bytes count.
 pub(crate) fn put_or_clear<D: Disk>(disk: &mut D, at: u64, bytes: &mut [u8]) -> Appended
     requires { 1 ≤ length bytes.old }
     ensures went { D.honest
@@ -161,9 +161,9 @@ pub(crate) fn put_or_clear<D: Disk>(disk: &mut D, at: u64, bytes: &mut [u8]) -> 
     put_ahead_or_clear(disk, at, bytes, len)
 }
 
-// Writes a group's records, and gives the write's answer and the last record's digest. The closing length goes in the same
-// write, and so do the zeros that make the file ready: an append is one write and one sync, and what stands behind it isn't
-// read as a record. The zeros are for speed alone, so the records count where they don't fit.
+// Writes a group's records, and returns the write's answer and the last record's digest. The closing length goes in the same
+// write, and so do the zeros that make the file ready: an append is one write and one sync, and what stands after it isn't
+// read as a record. The zeros are for speed alone, so the records count even if they don't fit.
 pub(crate) fn write_group_at<D: Disk>(
     disk: &mut D,
     at: u64,

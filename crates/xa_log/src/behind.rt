@@ -1,4 +1,4 @@
-//! What stands behind a log's last record, as it is read.
+//! What stands after a log's last record, as it is read.
 ghost use Rattle.std.specs.Prelude.{◌≡◌, ◌+◌, ◌≤◌, length, drop, IfOk, MatchResult};
 ghost use Rattle.xa_disk.specs.Disk.{Same, CountsFault};
 ghost use Rattle.xa_disk.specs.{Time.TimePasses, declared.counts.Counts.Counts};
@@ -17,8 +17,8 @@ pub enum Behind {
     First(u8),
 }
 
-// What stands behind an offset, up to which a window has the file. Of a file that goes on, the window then has the length
-// there and a byte more, which the next record is read from, so no byte is read twice.
+// What stands after an offset up to which a window has the file. If the file goes on, the window then has the length
+// there and one more byte, which the next record is read from, so no byte is read twice.
 pub(crate) fn look_behind<D: Disk>(
     disk: &mut D,
     window: &mut [u8],

@@ -88,7 +88,7 @@ fn long_on(shown: Shown, prev: &[u8; DIGEST_BYTES]) -> Next
     }
 }
 
-// What stands at an offset of a file of this format, behind a record of this digest.
+// What stands at an offset of a file of this format, after a record of this digest.
 pub(crate) fn next_at<D: Disk>(
     alloc: Global,
     disk: &mut D,

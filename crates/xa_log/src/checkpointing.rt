@@ -14,7 +14,7 @@ ghost use Rattle.xa_log.specs.{Ahead.IsCut, Ahead.Shortens};
 ghost use Rattle.xa_log.specs.Believed.Pair.{IsCalm, CalmTears};
 ghost use Rattle.xa_log.specs.Believed.Checkpoint.{behind_preamble, bytes_behind, tailed, records_bytes};
 ghost use Rattle.xa_log.specs.Believed.Checkpoint.{behind_front, first_length, IsComplete, IsTailed};
-ghost use Rattle.xa_log.specs.Believed.Checkpoint.{IsOther, LeavesOf, LeavesNone, LeavesSealed, LeavesAny, Checkpointed};
+ghost use Rattle.xa_log.specs.Believed.Checkpoint.{HasBytes, NeverEmpty, IsOther, LeavesOf, LeavesNone, LeavesSealed, LeavesAny, Checkpointed};
 
 use crate::appending::{Appended, put_or_clear, put_synced};
 use crate::format::{Format, PREAMBLE_BYTES};
@@ -24,12 +24,12 @@ use xa_disk::{Disk, DiskFault};
 use xa_limits::{AROUND_BODY, AROUND_CLOSED, DIGEST_BYTES, FIRST_OFFSET, LENGTH_BYTES, MOST_BODY};
 use xa_shared::SharedBytes;
 
-/// Bytes of zeros that a checkpoint writes behind its last record, where the limit leaves room: the closing length, and
+/// Bytes of zeros that a checkpoint writes after its last record, if the limit leaves room: the closing length, and
 /// the first byte of what would be a body. What stood there before, of an earlier checkpoint that was refused, chains
 /// to the same digests; without its first byte it comes back by no length that an append leaves alone.
 pub const CLEARED_BYTES: usize = LENGTH_BYTES + 1;
 
-// How many zeros more than the closing length go behind a log that ends at `end`, in a file of at most so many bytes.
+// How many zeros more than the closing length go after a log that ends at `end`, in a file of at most `most` bytes.
 pub(crate) fn zeros_behind(end: u64, most: u64) -> usize
     requires { end + LENGTH_BYTES ≤ most }
     ensures exact { LENGTH_BYTES + result ≡ min CLEARED_BYTES (most - end) }
@@ -41,17 +41,18 @@ pub(crate) fn zeros_behind(end: u64, most: u64) -> usize
 }
 
 // The first part: writes a log of no records, and syncs, so that the older log is gone for good before a byte of the
-// new one is written. A fault is not repaired: the older log may be there still, which comes behind the current one as
+// new one is written. A fault is not repaired: the older log may be there still, which comes after the current one as
 // before.
 pub(crate) fn put_front<D: Disk>(disk: &mut D, format: Format) -> Result<(), DiskFault>
     ensures made { D.honest → OnOk result (D.seen disk.new ≡ preamble format ++ drop PREAMBLE_BYTES (D.seen disk.old)) }
     ensures durable { D.honest → OnOk result (Only (D.seen disk.new) (D.may_leave disk.new)) }
     ensures grows { D.honest → length (D.seen disk.old) ≤ length (D.seen disk.new) }
+    ensures time { D.honest → TimePasses D.Disk (Torn 0 PREAMBLE_BYTES) disk.old disk.new }
     ensures stays { D.honest → (most : ℕ) (stood : List (List ℕ)) → PREAMBLE_BYTES ≤ most
         → IsOther D.Disk most stood disk.old → OnErr result (IsOther D.Disk most stood disk.new) }
     ensures calm { D.honest → CalmTears D.tears → (stood : List (List ℕ)) → IsCalm stood (D.seen disk.old)
         → OnErr result (IsCalm stood (D.seen disk.new)) }
-    // Whichever image is left: without chance what stood there, or nothing.
+    // Whichever image is left: without chance, what stood there, or nothing.
     ensures any_moment { D.honest → (most : ℕ) (stood : List (List ℕ)) → PREAMBLE_BYTES ≤ most
         → IsOther D.Disk most stood disk.old → LeavesOnly D.Disk disk.old disk.new (LeavesOf most stood) }
     ensures count { CountsFault result (D.failures disk.old) (D.failures disk.new) }
@@ -60,7 +61,7 @@ pub(crate) fn put_front<D: Disk>(disk: &mut D, format: Format) -> Result<(), Dis
     put_synced(disk, 0, format.preamble().as_slice())
 }
 
-// Writes a body's record and so many zero bytes behind it, but nothing before the end of the preamble. Gives its
+// Writes a body's record and `zeros` zero bytes after it, but nothing before the end of the preamble. Returns its
 // digest.
 fn put_record<D: Disk>(
     disk: &mut D,
@@ -93,8 +94,8 @@ fn put_record<D: Disk>(
     Ok(digest)
 }
 
-// The second part: writes the records behind the preamble, each in one write, a closing length and so many zeros more
-// behind the last, and syncs. Gives the last record's digest. A fault is not repaired: the first length is still 0, and stable, so
+// The second part: writes the records after the preamble, each in one write, a closing length and `more` zeros
+// after the last, and syncs. Returns the last record's digest. A fault is not repaired: the first length is still 0, and stable, so
 // whatever was written here, the file has no record. The sync makes the records stable before the seal makes them
 // count.
 pub(crate) fn put_records<D: Disk>(
@@ -166,9 +167,9 @@ pub(crate) fn put_seal<D: Disk>(disk: &mut D, size: u32) -> Appended
     put_or_clear(disk, FIRST_OFFSET, &mut bytes)
 }
 
-// The three parts. Gives the last record's digest, if the checkpoint is kept. Between the first and the second one the file is
-// cut if it is known to reach far behind `keep` bytes, in which the log has room: it has no record then, whatever a crash leaves
-// of the cut, and the second part's sync makes it last.
+// The three parts. Returns the last record's digest, if the checkpoint is kept. Between the first and the second one the file is
+// cut if it is known to reach far beyond `keep` bytes, in which the log has room: it has no record then, whatever a crash leaves
+// of the cut, and the second part's sync makes it durable.
 pub(crate) fn checkpoint_on<D: Disk>(
     disk: &mut D,
     format: Format,
@@ -193,6 +194,9 @@ pub(crate) fn checkpoint_on<D: Disk>(
         → PREAMBLE_BYTES + (records_bytes format bodies.now + more) ≤ most → IsTailed more most format bodies.now
         → IsOther D.Disk most stood disk.old
         → LeavesOnly D.Disk disk.old disk.new (LeavesAny most format stood bodies.now) }
+    // Nothing that isn't empty becomes so, at any moment.
+    ensures filled { D.honest → NeverEmpty D.Disk disk.old → NeverEmpty D.Disk disk.new }
+    ensures filled_meanwhile { D.honest → NeverEmpty D.Disk disk.old → LeavesOnly D.Disk disk.old disk.new HasBytes }
     ensures known { D.honest → known.old ≤ length (D.seen disk.old) → known.new ≤ length (D.seen disk.new) }
     ensures shortens { Shortens keep known.old known.new }
     ensures cut { D.honest → D.shortens → result.0 ≡ Appended.Kept → IsCut keep known.old (D.seen disk.new) }
@@ -219,7 +223,7 @@ pub(crate) fn checkpoint_on<D: Disk>(
     }
 }
 
-/// Where a log of these bodies ends in a format that takes each of them, if it fits into so many bytes with its closing
+/// Where a log of these bodies ends in a format that takes each of them, if it fits into `most` bytes with its closing
 /// length.
 pub fn end_of(format: Format, bodies: &[SharedBytes], most: u64) -> Option<u64>
     requires sizes { AllByRecursion (IsBody format) bodies.now }

@@ -39,9 +39,9 @@ pub struct LogContents {
     pub end: u64,
     /// Whether it shows that it was damaged there (`is_damaged`).
     pub damaged: bool,
-    /// Whether that is in its snapshot, or right behind it: none of its records was appended.
+    /// Whether that is in its snapshot, or right after it: none of its records was appended.
     pub cut: bool,
-    /// The bodies that chain behind a record there that doesn't.
+    /// The bodies that chain after a record there that doesn't.
     pub left: Vec<Vec<u8>>,
 }
 

@@ -25,7 +25,7 @@ pub const MOST_APPENDED: u8 = 6;
 /// The bytes of the record of a boot, which is the first one of a checkpoint.
 pub const BOOT_RECORD: usize = AROUND_BODY + NUMBER_END;
 
-// Whether an appended body begins so.
+// Whether an appended body begins like this.
 fn is_appended_byte(first: u8) -> bool
     ensures { result ≡ is_appended first }
 {
@@ -51,7 +51,7 @@ pub(crate) fn are_snapshot(bodies: &[Vec<u8>]) -> bool
     true
 }
 
-// Whether this may stand behind a snapshot.
+// Whether this may stand after a snapshot.
 fn may_follow(behind: Behind) -> bool
     ensures { (tail : List ℕ) → IsBehind tail behind → result ≡ goes_on tail }
 {
@@ -62,7 +62,7 @@ fn may_follow(behind: Behind) -> bool
     }
 }
 
-// Whether the snapshot of a log of these bodies is cut, with this behind it. One of no bodies isn't, whatever stands behind
+// Whether the snapshot of a log of these bodies is cut, with this after it. One of no bodies isn't, whatever stands after
 // it.
 pub(crate) fn is_broken(format: Format, bodies: &[Vec<u8>], behind: Behind) -> bool
     ensures { (file : List ℕ)
@@ -75,7 +75,7 @@ pub(crate) fn is_broken(format: Format, bodies: &[Vec<u8>], behind: Behind) -> b
     }
 }
 
-// The same in the second format, whose checkpoints end in a zero byte more.
+// The same in the second format, whose checkpoints end in one more zero byte.
 fn is_short(bodies: &[Vec<u8>], behind: Behind) -> bool
     ensures { (file : List ℕ)
         → (bodies_of bodies.now ≡ []) ⊎ IsBehind (behind_text Two (bodies_of bodies.now) file) behind
@@ -87,7 +87,7 @@ fn is_short(bodies: &[Vec<u8>], behind: Behind) -> bool
     !may_follow(behind)
 }
 
-// Whether a log of these bodies, behind which this stands, and behind that what is left out, breaks off behind them.
+// Whether a log of these bodies, after which this stands, and after that what is left out, breaks off after them.
 pub(crate) fn is_broken_behind(
     format: Format,
     bodies: &[Vec<u8>],
@@ -109,7 +109,7 @@ fn stops_short(bodies: &[Vec<u8>], left: &Left) -> bool
     is_own_left(&left.bodies, generation_of_bodies(bodies), left.distance)
 }
 
-// Whether these bytes, which stand behind a file's name, are a boot's record that chains behind the other format's.
+// Whether these bytes, which stand after a file's name, are a boot's record that chains after the other format's.
 fn is_renamed_front(front: &[u8], format: Format) -> bool
     ensures { result ≡ is_renamed format front.now }
 {
@@ -135,7 +135,7 @@ fn is_first_shown(front: &[u8]) -> bool
     size_of(front) != 0 && !is_appended_byte(front[LENGTH_BYTES]) && number > 1
 }
 
-// Whether these bytes, which stand behind a file's name, show the first record of a checkpoint, where none chains there.
+// Whether these bytes, which stand after a file's name, show the first record of a checkpoint, if none chains there.
 pub(crate) fn is_lost_first(front: &[u8], format: Format) -> bool
     ensures { result ≡ lost_first format front.now }
 {

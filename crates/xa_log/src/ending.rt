@@ -16,17 +16,17 @@ use xa_limits::FIRST_OFFSET;
 /// What is left out of a damaged log, so that what stands is opened.
 #[derive(Clone, Copy, Debug, PartialEq, Eq)]
 pub struct LeftOut {
-    /// The record that isn't as it was written, with all behind it.
+    /// The record that isn't as it was written, with all after it.
     pub damage: Damage,
     /// Whether all records before it are left out, too: they are the beginning of a snapshot, and the other file has all
-    /// that was to be in it.
+    /// that should have been in it.
     pub is_whole: bool,
 }
 
-/// Ends a log that is damaged before what isn't as it was written, if it is: of what `find_damage` finds. Where that is
+/// Ends a log that is damaged before what isn't as it was written, if it is: by what `find_damage` finds. If that is
 /// in a snapshot, and the other file has records, no record of the snapshot is left. The other file isn't written to. The one
-/// that was damaged isn't any more.
-/// Where this fails, the file may still be damaged, and nothing before the damage has changed, or all of it is to be left
+/// that was damaged no longer is.
+/// If this fails, the file may still be damaged, and nothing before the damage has changed, or all of it has to be left
 /// out.
 pub fn end_damage<D: Disk>(
     alloc: Global,
@@ -64,7 +64,7 @@ fn end_either<D: Disk>(first: &mut D, second: &mut D, left: &LeftOut) -> Result<
     }
 }
 
-/// Ends the log that a file is at a byte of it: writes zeros there, as a checkpoint leaves them behind its last record, and
+/// Ends the log that a file is at a byte of it: writes zeros there, as a checkpoint leaves them after its last record, and
 /// syncs.
 pub fn end_at<D: Disk>(disk: &mut D, at: u64) -> Result<(), DiskFault>
     ensures written { D.honest → OnOk result (D.seen disk.new ≡ put (D.seen disk.old) at cleared) }
@@ -76,7 +76,7 @@ pub fn end_at<D: Disk>(disk: &mut D, at: u64) -> Result<(), DiskFault>
     put_synced(disk, at, &[0; CLEARED_BYTES])
 }
 
-// What is to be left out of two files that are damaged there.
+// What has to be left out of two files that are damaged there.
 fn left_out(damage: Damage, first: &Contents, second: &Contents) -> LeftOut
     ensures { result ≡ left_out damage first.now second.now }
 {
@@ -88,7 +88,7 @@ fn left_out(damage: Damage, first: &Contents, second: &Contents) -> LeftOut
     LeftOut { damage, is_whole }
 }
 
-// Whether a file is a log that is damaged before a record that was appended stands.
+// Whether a file is a log that is damaged before any record that was appended.
 fn is_cut_in(contents: &Contents) -> bool
     ensures { result ≡ is_cut_in contents.now }
 {
@@ -108,7 +108,7 @@ fn has_records(contents: &Contents) -> bool
     }
 }
 
-// The byte at which the log is to be ended.
+// The byte at which the log has to be ended.
 fn end_byte(left: &LeftOut) -> u64
     ensures { result ≡ end_byte left.now }
 {

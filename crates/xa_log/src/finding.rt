@@ -28,7 +28,7 @@ pub struct Damage {
     pub at: u64,
 }
 
-/// Where two files show that they were damaged, if they do: for whoever opened them and was told `OpenFault::Damaged`.
+/// Where two files show that they were damaged, if they do: for whoever opened them and got `OpenFault::Damaged`.
 /// Syncs, measures and reads them as an opening does.
 pub fn find_damage<D: Disk>(
     alloc: Global,
@@ -107,7 +107,7 @@ fn first_record(on_first: bool) -> Damage
     }
 }
 
-// What stands behind the records that were read of a file, if it is damaged there.
+// What stands after the records that were read from a file, if it is damaged there.
 fn behind_records(on_first: bool, scan: &Scan) -> Option<Damage>
     requires { Ends scan.now }
     ensures { (file : List ℕ) → IsScan file scan.now → is_headless file ≡ false

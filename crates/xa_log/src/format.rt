@@ -22,7 +22,7 @@ pub enum Format {
 }
 
 impl Format {
-    /// The format in which logs are made.
+    /// The format in which new logs are written.
     pub fn newest() -> Format
         ensures { result ≡ newest }
     {

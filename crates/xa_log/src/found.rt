@@ -1,4 +1,4 @@
-//! One record of a log that is read: by way of a window, and where it is long mostly straight into its body.
+//! One record of a log that is read: by way of a window, and if it is long, mostly straight into its body.
 ghost use Rattle.std.specs.Prelude.{◌≡◌, ◌≢◌, ◌⊎◌, ◌+◌, ◌-◌, ◌≤◌, ◌<◌, List, ℕ, false, length, take, drop, Some, OnOk, IfOk, IfErr, IfSome, MatchResult};
 ghost use Rattle.std.specs.Int.{w32, to_be_bytes};
 ghost use Rattle.xa_disk.specs.{Disk.Same, Disk.CountsFault, Time.TimePasses, declared.counts.Counts.Counts};
@@ -18,7 +18,7 @@ use xa_disk::{Disk, DiskFault};
 use xa_limits::{AROUND_BODY, DIGEST_BYTES, LENGTH_BYTES, MOST_BODY, MOST_BODY_OF_ONE};
 
 /// A record that chains: its body, its digest, and what the window has by then, which is the record's end at least, and
-/// bytes behind it.
+/// bytes after it.
 #[derive(Debug, Drop)]
 pub struct Found {
     pub body: Vec<u8>,
@@ -26,7 +26,7 @@ pub struct Found {
     pub span: Span,
 }
 
-/// A record that is shown, whether or not it chains: its body, the digest that stands behind it, and what the window has
+/// A record that is shown, whether or not it chains: its body, the digest that stands after it, and what the window has
 /// by then.
 #[derive(Debug, Drop)]
 pub struct Shown {
@@ -35,7 +35,7 @@ pub struct Shown {
     pub span: Span,
 }
 
-// A body of so many bytes that begins with these.
+// A body of `size` bytes that begins with these.
 fn begun_with(alloc: Global, front: &[u8], size: usize) -> Result<Vec<u8>, AllocError>
     requires { length front.now ≤ size }
     ensures long { IfOk result (λ body. length body.items ≡ size) }
@@ -47,7 +47,7 @@ fn begun_with(alloc: Global, front: &[u8], size: usize) -> Result<Vec<u8>, Alloc
 }
 
 // Reads a body that stands at an offset, from its first `have` bytes on, in pieces of a window's size, until no more is
-// left than a window holds with what is around it. Gives how many bytes it has then.
+// left than a window holds with what is around it. Returns how many bytes it has then.
 fn read_pieces<D: Disk>(
     disk: &mut D,
     body: &mut [u8],
@@ -78,7 +78,7 @@ fn read_pieces<D: Disk>(
     Ok(done)
 }
 
-// The same where a window of this span has had the body's first `have` bytes. Gives also what it has of the file from
+// The same if a window of this span has had the body's first `have` bytes. Also returns what it has of the file from
 // there on.
 fn read_ahead<D: Disk>(
     disk: &mut D,
@@ -117,7 +117,7 @@ fn read_ahead<D: Disk>(
     Ok((done, behind))
 }
 
-// Reads what is left of a body that stands at an offset, and the digest behind it, by way of a window.
+// Reads what is left of a body that stands at an offset, and the digest after it, by way of a window.
 fn read_rest<D: Disk>(
     disk: &mut D,
     window: &mut [u8],
@@ -161,7 +161,7 @@ fn read_rest<D: Disk>(
     Ok(span)
 }
 
-// Both: reads a body that stands at an offset, of which a window has had the first `have` bytes, and the digest behind
+// Both: reads a body that stands at an offset, of which a window has had the first `have` bytes, and the digest after
 // it. Nothing is read if the window has all of it.
 fn read_on<D: Disk>(
     disk: &mut D,
@@ -201,7 +201,7 @@ fn read_on<D: Disk>(
 }
 
 // The body of this size of the record that stands at an offset. A window has the record's length, and so some of the
-// body or nothing. Gives also what it has of the file by then, the digest included.
+// body or nothing. Also returns what it has of the file by then, the digest included.
 fn read_body<D: Disk>(
     alloc: Global,
     disk: &mut D,
@@ -283,7 +283,7 @@ pub(crate) fn shown_at<D: Disk>(
     Ok(Shown { body, stored, span })
 }
 
-// The size of the body of the record that is shown at an offset of a file of this format, 0 where none is, and what a window
+// The size of the body of the record that is shown at an offset of a file of this format, 0 if none is, and what a window
 // has then.
 pub(crate) fn shown_size<D: Disk>(
     disk: &mut D,
@@ -361,7 +361,7 @@ pub(crate) fn next_shown<D: Disk>(
     Ok(Some(shown))
 }
 
-// The record that is shown, if it chains behind one of this digest.
+// The record that is shown, if it chains after one of this digest.
 pub(crate) fn chain_on(shown: Shown, prev: &[u8; DIGEST_BYTES]) -> Result<Found, Shown>
     requires { length shown.body.items ≤ MOST_BODY }
     ensures kept { MatchResult result (λ f. (f.body ≡ shown.body) × (f.span ≡ shown.span)) (λ s. s ≡ shown) }

@@ -16,7 +16,7 @@ pub enum Group<'a> {
 }
 
 impl<'a> Group<'a> {
-    // Writes their records to the front of the buffer, one after the other, and a closing length after the last. Gives
+    // Writes their records to the front of the buffer, one after the other, and a closing length after the last. Returns
     // the last record's digest.
     pub(crate) fn encode(self, buffer: &mut [u8], prev: &[u8; DIGEST_BYTES]) -> [u8; DIGEST_BYTES]
         requires room { group_bytes (bodies_in self) + LENGTH_BYTES ≤ length buffer.old }
@@ -30,7 +30,7 @@ impl<'a> Group<'a> {
         }
     }
 
-    // Where their records end that begin at an offset, with a closing length, if that is within so many bytes.
+    // Where their records end, from an offset on, with a closing length, if that is within `most` bytes.
     pub(crate) fn end(self, from: u64, most: u64) -> Option<u64>
         ensures some { IfSome result
             (λ end. (end ≡ from + group_bytes (bodies_in self.entry) + LENGTH_BYTES) × (end ≤ most)) }
@@ -57,7 +57,7 @@ impl<'a> Group<'a> {
     }
 }
 
-// Writes a body's record at an offset, and a closing length after it. Gives its digest.
+// Writes a body's record at an offset, and a closing length after it. Returns its digest.
 fn encode_at(
     buffer: &mut [u8],
     at: usize,
@@ -74,7 +74,7 @@ fn encode_at(
 }
 
 // Writes the records of these bodies to the front of the buffer, one after the other, and a closing length after the
-// last. Gives the last record's digest.
+// last. Returns the last record's digest.
 fn encode_group(
     buffer: &mut [u8],
     prev: &[u8; DIGEST_BYTES],
@@ -96,7 +96,7 @@ fn encode_group(
     digest
 }
 
-// Where the records of these bodies end that begin at an offset, with a closing length, if that is within so many bytes.
+// Where the records of these bodies end, from an offset on, with a closing length, if that is within `most` bytes.
 fn group_end(from: u64, bodies: &[Vec<u8>], most: u64) -> Option<u64>
     ensures some { IfSome result
         (λ end. (end ≡ from + group_bytes (bodies_of bodies.now) + LENGTH_BYTES) × (end ≤ most)) }

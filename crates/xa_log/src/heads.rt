@@ -26,7 +26,7 @@ pub struct Head {
     pub lost: bool,
 }
 
-// The generation that a log's first record tells, 0 where there is none.
+// The generation that a log's first record tells, 0 if there is none.
 pub(crate) fn number_in_first(first: &Option<Found>) -> usize
     ensures { (bodies : List (List ℕ)) → Tells bodies first.now → result ≡ generation bodies }
 {
@@ -54,7 +54,7 @@ pub(crate) fn is_either_lost(first: &Option<Head>, second: &Option<Head>) -> boo
     has_lost_first(first) || has_lost_first(second)
 }
 
-// What of a file tells whether it is the current one of two, if it is a log: its first record alone, which has the
+// What tells of a file whether it is the current one of two, if it is a log: its first record alone, which has the
 // generation, and without which the file has no bodies. So of the one that isn't current no more is read.
 pub(crate) fn head_of<D: Disk>(
     alloc: Global,
@@ -99,7 +99,7 @@ pub(crate) fn head_of<D: Disk>(
     }
 }
 
-// Reads the first records of two files that begin so.
+// Reads the first records of two files that begin like this.
 pub(crate) fn read_heads<D: Disk>(
     alloc: Global,
     first: &mut D,

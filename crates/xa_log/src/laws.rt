@@ -18,7 +18,7 @@ pub fn memory_without_chance_beside()
     ensures seal { SealTears (⟦<MemDisk as Disk>⟧.tears) }
 {}
 
-/// Of two files the current one's log is taken where the other one comes behind it: also while records are
+/// Of two files the current one's log is taken if the other one comes after it: also while records are
 /// appended to it, and while a checkpoint's header and records are written to the other one.
 pub fn pair_is_current()
     ensures behind { BehindLaw }
@@ -32,7 +32,7 @@ pub fn pair_is_current_or_new()
     ensures { SealLaw }
 {}
 
-/// Two files that were read are a pair, with the other one behind, where no file that is no log has records that would
+/// Two files that were read are a pair, with the other one after it, if no file that is no log has records that would
 /// come before the other one's.
 pub fn opened_is_pair<D: Disk>()
     ensures { OpenedLaw D.Disk }
@@ -43,17 +43,17 @@ pub fn stray_is_possible()
     ensures { StrayLaw }
 {}
 
-/// Of bytes it is enough that what chains behind the bodies has the new ones' bodies: their lengths and digests follow.
+/// Of bytes it is enough that what chains after the bodies has the new ones' bodies: their lengths and digests follow.
 pub fn plain_by_body()
     ensures { PlainByBody }
 {}
 
-/// Behind a checkpoint no stale record comes back by a length alone.
+/// After a checkpoint no stale record comes back by a length alone.
 pub fn no_stale_record()
     ensures { StaleLaw }
 {}
 
-/// An append that is torn between bytes leaves behind a snapshot what stood there or what was written, so no damage; and
+/// An append that is torn between bytes leaves after a snapshot what stood there or what was written, so no damage; and
 /// whatever it leaves of a group's records, the log doesn't stop short by them.
 pub fn torn_append_is_whole()
     ensures snapshot { MixedLaw }

@@ -4,13 +4,13 @@ ghost use Rattle.xa_log.specs.Opened.{passed_in};
 
 use crate::opened::Opened;
 
-/// Records of the current file that an opening left out: they chain behind a record that is shown there, but doesn't chain
+/// Records of the current file that an opening left out: they chain after a record that is shown there, but doesn't chain
 /// itself. A write was torn, or the file is damaged, less far from its end than a group of records goes.
 #[derive(Clone, Copy, Debug, PartialEq, Eq)]
 pub struct PassedOver {
     /// Whether they stand in the first of the two files.
     pub on_first: bool,
-    /// The byte of the file at which the record begins behind which they chain.
+    /// The byte of the file at which the record after which they chain begins.
     pub at: u64,
     /// How many chain.
     pub records: usize,

@@ -1,4 +1,4 @@
-//! What stands behind the last record of a log that chains.
+//! What stands after the last record of a log that chains.
 ghost use Rattle.std.specs.Prelude.{◌≡◌, ◌⊎◌, ◌+◌, ◌≤◌, List, ℕ, [], false, Some, if◌then◌else◌, length, drop, IfOk, IfErr, IfSome, MatchResult};
 ghost use Rattle.xa_disk.specs.{Disk.Same, Time.TimePasses, declared.counts.Counts.Counts};
 ghost use Rattle.xa_log.specs.{Answers.CountsDevice, Window.Caches};
@@ -19,7 +19,7 @@ use std::alloc::Global;
 use xa_disk::Disk;
 use xa_limits::{AROUND_BODY, DIGEST_BYTES, MOST_BODY, MOST_BODY_OF_ONE};
 
-/// The most bytes of a group of two records or more, with its closing length. What stands farther behind a record was
+/// The most bytes of a group of two records or more, with its closing length. What stands farther after a record was
 /// appended after the sync of its group.
 pub const MOST_GROUP: usize = 262_144;
 
@@ -29,19 +29,19 @@ pub const PREPARED: u8 = 2;
 /// The first byte of the body of a branch that was committed in one phase.
 pub const COMMITTED: u8 = 3;
 
-/// Where such a body has the length of its XID's first part.
+/// Where such a body has the length of the first part of its XID.
 pub const FIRST_PART: usize = 5;
 
 /// Where it has that of the second one.
 pub const SECOND_PART: usize = 6;
 
-/// Where its stamp stands, behind the parts.
+/// Where its stamp stands, after the parts.
 pub const STAMP_OFFSET: usize = 7;
 
 /// The bytes of a boot's number, with which a stamp begins.
 pub const BOOT_BYTES: usize = 4;
 
-/// What chains behind a record that is shown but doesn't chain, and how far behind its front that begins. Without one,
+/// What chains after a record that is shown but doesn't chain, and how far after its front that begins. Without one,
 /// nothing.
 #[derive(Debug, Drop)]
 pub struct Left {
@@ -59,7 +59,7 @@ pub(crate) fn none_left(alloc: Global) -> Left
     }
 }
 
-// The bodies that chain from an offset on, where the first one was read.
+// The bodies that chain from an offset on, once the first one was read.
 fn read_chain<D: Disk>(
     alloc: Global,
     disk: &mut D,
@@ -152,7 +152,7 @@ fn next_on_either<D: Disk>(
     }
 }
 
-// What chains behind a record that is shown at an offset and doesn't chain behind one of this digest.
+// What chains after a record that is shown at an offset and doesn't chain after one of this digest.
 pub(crate) fn read_left<D: Disk>(
     alloc: Global,
     disk: &mut D,
@@ -187,7 +187,7 @@ pub(crate) fn read_left<D: Disk>(
     Ok(Left { distance, bodies })
 }
 
-// What chains behind the record at an offset, if with this length it is one.
+// What chains after the record at an offset, if with this length it is one.
 fn read_mended<D: Disk>(
     alloc: Global,
     disk: &mut D,
@@ -222,7 +222,7 @@ fn read_mended<D: Disk>(
     Ok(Left { distance, bodies })
 }
 
-// What chains behind the record that is shown at an offset and doesn't chain behind one of this digest, if one is.
+// What chains after the record that is shown at an offset and doesn't chain after one of this digest, if one is.
 fn read_shown<D: Disk>(
     alloc: Global,
     disk: &mut D,
@@ -254,7 +254,7 @@ fn read_shown<D: Disk>(
     }
 }
 
-// What chains behind an offset at which none does behind one of this digest, and which a window has: behind the record there
+// What chains after an offset at which none does after one of this digest, and which a window has: after the record there
 // with the length with which it was written.
 fn read_written<D: Disk>(
     alloc: Global,
@@ -289,8 +289,8 @@ fn read_written<D: Disk>(
     }
 }
 
-// The record that stands at an offset, if one does that chains behind one of this digest; where one is shown that doesn't,
-// what chains behind it, also with the length with which it was written.
+// The record that stands at an offset, if one does that chains after one of this digest; if one is shown that doesn't,
+// what chains after it, also with the length with which it was written.
 pub(crate) fn next_or_left<D: Disk>(
     alloc: Global,
     disk: &mut D,
@@ -351,7 +351,7 @@ fn is_own_body(body: &[u8], number: usize) -> bool
     number <= size_of(&body[at..at + BOOT_BYTES])
 }
 
-// Whether one of these bodies, whose records stand so far behind a place, is such a log's that stands farther behind it
+// Whether one of these bodies, whose records stand `at` bytes after a place, is such a log's and stands farther after it
 // than a group goes.
 pub(crate) fn is_own_left(bodies: &[Vec<u8>], number: usize, at: usize) -> bool
     ensures { result ≡ has_own number at (bodies_of bodies.now) }

@@ -4,7 +4,7 @@ ghost use Rattle.xa_disk.specs.{Counts.top, Time.LeavesOnly};
 ghost use Rattle.std.specs.List.{AllByRecursion};
 ghost use Rattle.xa_log.specs.Calls.{CheckpointCalls};
 ghost use Rattle.xa_log.specs.Believed.Chain.{newest, format_number, most_body, text, IsBody};
-ghost use Rattle.xa_log.specs.Believed.Checkpoint.{IsOther, IsQuiet, IsCleared, LeavesAny};
+ghost use Rattle.xa_log.specs.Believed.Checkpoint.{HasBytes, NeverEmpty, IsOther, IsQuiet, IsCleared, LeavesAny};
 ghost use Rattle.xa_log.specs.{Believed.Pair.generation, Answers.HasCause, Believed.Damage.AreAppended};
 ghost use Rattle.xa_limits.specs.declared.TheConstants.{AROUND_CLOSED, MOST_BODY};
 
@@ -33,13 +33,13 @@ pub struct Log<D> {
     // Where the next record begins, and the digest of the one before it.
     pub(crate) end: u64,
     pub(crate) digest: [u8; DIGEST_BYTES],
-    // The number in the current file's first body, 0 where it has no record.
+    // The number in the current file's first body, 0 if it has no record.
     pub(crate) generation: usize,
     // How far the current file and the other one are known to reach: they were measured, or written up to there since.
     pub(crate) known: u64,
     pub(crate) other_known: u64,
     // Its front is the window when the log is read, and a record's bytes when one is appended. It grows to the longest
-    // record that `reserve` was called for, and so at most to the longest that there is, with the zeros behind it.
+    // record that `reserve` was called for, and so at most to the longest that there is, with the zeros after it.
     pub(crate) buffer: Vec<u8>,
     // An append or a checkpoint was lost, and no rescan has succeeded since: whether the last record stands, or which
     // file the next opening takes, isn't known, and a record that went to the wrong one would be passed over.
@@ -65,8 +65,8 @@ impl<D: Disk> Log<D> {
     ghost use Rattle.xa_log.specs.Believed.TwoFiles.{Pair, AppendsTo, Checkpoints, Swaps, kept_end, written};
 
     /// Adds a record of a body that the current file's format takes: the group of one (`append_group`), so one write and
-    /// one sync where nothing fails. Takes no memory: there is room for a body of up to `MOST_BODY_OF_ONE` bytes, and for
-    /// a longer one behind a `reserve`. After `Lost`, its own or a checkpoint's, every append answers so, and asks
+    /// one sync if nothing fails. Takes no memory: there is room for a body of up to `MOST_BODY_OF_ONE` bytes, and for
+    /// a longer one after a `reserve`. After `Lost`, its own or a checkpoint's, every append returns that, and asks
     /// nothing of the disk, until a rescan succeeds.
     pub fn append(&mut self, body: &[u8]) -> Appended
         requires body { IsBody self.old.format body.now }
@@ -106,7 +106,7 @@ impl<D: Disk> Log<D> {
         self.end
     }
 
-    /// The generation of the log: the number in its first body, 0 where it has no record.
+    /// The generation of the log: the number in its first body, 0 if it has no record.
     pub fn generation(&self) -> usize
         ensures { result ≡ self.now.generation }
     {
@@ -137,12 +137,12 @@ impl<D: Disk> Log<D> {
 
     /// Writes a log of these bodies, each of which the newest format takes, to the other file, in that format. Their
     /// generation is above the log's: an opening takes the file with the greater one, nothing else is written to say
-    /// which is current, and the old log stays where it is. Behind the last record go `CLEARED_BYTES` zeros, or as many
-    /// as the limit leaves room for. A file that is known to reach more than `SPARE_BYTES` behind what they take, and behind the
+    /// which is current, and the old log stays where it is. After the last record go `CLEARED_BYTES` zeros, or as many
+    /// as the limit leaves room for. A file that is known to reach more than `SPARE_BYTES` beyond what they take, and beyond the
     /// end of the log that they replace, is cut, if its disk does that. `Kept`: that file is the current one from then on.
-    /// `Refused`: the current file stays in use. `Full`: they don't fit, with a closing length. Where nothing fails: a
-    /// write and a sync, a write a record and a sync, a write and a sync. Takes no memory, as an append does. After
-    /// `Lost`, its own or an append's, every checkpoint answers so, and asks nothing of the disks, until a rescan
+    /// `Refused`: the current file stays in use. `Full`: they don't fit, with a closing length. If nothing fails: a
+    /// write and a sync, a write per record and a sync, a write and a sync. Takes no memory, as an append does. After
+    /// `Lost`, its own or an append's, every checkpoint returns that, and asks nothing of the disks, until a rescan
     /// succeeds.
     pub fn checkpoint(&mut self, bodies: &[SharedBytes]) -> Appended
         requires some { 1 ≤ length bodies.now }
@@ -159,7 +159,11 @@ impl<D: Disk> Log<D> {
         ensures any_moment { D.honest → (old stood : List (List ℕ)) → Pair D.Disk old stood self.old
             → LeavesOnly D.Disk self.old.other (written result self.new)
             (LeavesAny self.old.log_bytes newest stood bodies.now) }
-        // Whichever length an append then leaves alone behind its records brings back nothing that stood there.
+        // If that file isn't empty, no crash leaves it so, at any moment.
+        ensures filled { D.honest → NeverEmpty D.Disk self.old.other → NeverEmpty D.Disk (written result self.new) }
+        ensures filled_meanwhile { D.honest → NeverEmpty D.Disk self.old.other
+            → LeavesOnly D.Disk self.old.other (written result self.new) HasBytes }
+        // Whichever length an append then leaves alone after its records brings back nothing that stood there.
         ensures cleared { D.honest → result ≡ Appended.Kept → self.old.lost ≡ false
             → IsCleared self.new.log_bytes newest bodies.now (D.seen self.new.disk) }
         ensures cut { D.honest → D.shortens → result ≡ Appended.Kept → self.old.lost ≡ false

@@ -24,8 +24,8 @@ use xa_disk::{Disk, SyncAnswer, Syncer};
 use xa_limits::{AROUND_CLOSED, LENGTH_BYTES, MOST_BODY};
 
 impl<D: Disk> Log<D> {
-    /// Makes room in the log's buffer for a group's records together, as `reserve` does for one of that length. Whether
-    /// a group may have so many bytes: with its closing length as many as the longest record.
+    /// Makes room in the log's buffer for a group's records together, as `reserve` does for one of that length. Returns
+    /// whether a group may have that many bytes: with its closing length at most as many as the longest record.
     pub fn reserve_group(&mut self, group: Group<'_>) -> Result<bool, AllocError>
         requires some { 1 ≤ length (bodies_in group) }
         ensures holds { OnOk result (result ≡ Ok true → Holds self.new (as_one (bodies_in group.entry))) }
@@ -43,11 +43,11 @@ impl<D: Disk> Log<D> {
         Ok(true)
     }
 
-    /// Adds the records of a group, one after the other: one write and one sync where nothing fails; a write that goes on
+    /// Adds the records of a group, one after the other: one write and one sync if nothing fails; a write that goes on
     /// with zeros, and fails, is followed by one of the records alone. All are kept, or none is, unless the answer is
-    /// `Lost`: then some first part of them may stand, and every append answers so, and asks nothing of the disk, until
+    /// `Lost`: then some first part of them may stand, and every append returns that, and asks nothing of the disk, until
     /// a rescan succeeds. A crash during the call leaves such a first part too. Takes no memory: there is room for
-    /// records as long as that of one body of `MOST_BODY_OF_ONE` bytes, and for longer ones behind a `reserve_group`.
+    /// records as long as that of one body of `MOST_BODY_OF_ONE` bytes, and for longer ones after a `reserve_group`.
     pub fn append_group(&mut self, group: Group<'_>) -> Appended
         requires some { 1 ≤ length (bodies_in group) }
         requires sizes { AllByRecursion (IsBody self.old.format) (bodies_in group) }
@@ -84,7 +84,7 @@ impl<D: Disk> Log<D> {
         ensures room { KeepsRoom self.old self.new }
     {
         if self.lost {
-            return Appended::Lost; // Until a rescan, which records stand is open.
+            return Appended::Lost; // Until a rescan, which records stand is unknown.
         }
         match self.write_group(group) {
             Some(written) => self.settle(written, SyncAnswer::none()),
@@ -93,8 +93,8 @@ impl<D: Disk> Log<D> {
     }
 
     /// Writes the records of a group after the log's end, as `append_group`, and leaves the sync to follow: whoever makes it
-    /// (`syncer`) needn't have the log. Until it is settled, every append answers `Lost`. A crash meanwhile leaves what it may
-    /// leave during an append. None where an append would answer `Full`, or `Lost`: then nothing changed.
+    /// (`syncer`) needn't have the log. Until it is settled, every append returns `Lost`. A crash meanwhile leaves what it may
+    /// leave during an append. None if an append would return `Full`, or `Lost`: then nothing changed.
     pub fn write_group(&mut self, group: Group<'_>) -> Option<Written>
         requires some { 1 ≤ length (bodies_in group) }
         requires sizes { AllByRecursion (IsBody self.old.format) (bodies_in group) }

@@ -151,7 +151,7 @@ fn choose(first: Option<Head>, second: Option<Head>) -> Option<(bool, Head)>
     }
 }
 
-// Reads how both files begin. `TooNew` where either is of a later format.
+// Reads how both files begin. `TooNew` if either is of a later format.
 pub(crate) fn read_fronts<D: Disk>(
     first: &mut D,
     second: &mut D,
@@ -190,7 +190,7 @@ pub(crate) fn read_fronts<D: Disk>(
     Ok((front, other_front))
 }
 
-// Reads the log of the current one of two files that begin so. The other one isn't touched. Gives their lengths back.
+// Reads the log of the current one of two files that begin like this. The other one isn't touched. Returns their lengths.
 pub(crate) fn read_current<D: Disk>(
     alloc: Global,
     first: &mut D,
@@ -238,7 +238,7 @@ pub(crate) fn read_current<D: Disk>(
     }
 }
 
-// Syncs and measures both files, reads how both begin, and then the log of the current one. Gives it, whether it is
+// Syncs and measures both files, reads how both begin, and then the log of the current one. Returns it, whether it is
 // the first file's, and how long both are. Each file has a window of its own, so that no byte is read twice.
 pub(crate) fn read_pair<D: Disk>(
     alloc: Global,
@@ -336,7 +336,7 @@ pub(crate) fn read_again<D: Disk>(
     read_pair(alloc, other, disk, window, other_window, log_bytes)
 }
 
-// Has the two, of which the first was the current one or not, change places, or not.
+// Swaps the two if the current one was the first of them and no longer is, or wasn't and now is.
 pub(crate) fn arrange<D>(disk: &mut D, other: &mut D, on_first: bool, is_first: bool)
     ensures first { (if is_first then disk.new else other.new) ≡ (if on_first then disk.old else other.old) }
     ensures second { (if is_first then other.new else disk.new) ≡ (if on_first then other.old else disk.old) }

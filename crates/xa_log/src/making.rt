@@ -1,4 +1,4 @@
-//! How a log comes to stand on its disks.
+//! How a log is made on its disks, or read from them.
 ghost use Rattle.std.specs.Prelude.{◌≡◌, ◌≤◌, ◌<◌, ◌↔◌, [], List, ℕ, true, false};
 ghost use Rattle.std.specs.Prelude.{if◌then◌else◌, length, OnOk, IfOk, IfErr, IsErrOf, MatchResult, None};
 ghost use Rattle.xa_disk.specs.{Disk.Same, Time.TimePasses};
@@ -50,7 +50,7 @@ impl<D: Disk + Drop> Log<D> {
         Ok(log)
     }
 
-    /// Opens the log that two disks have, as `open_on` does, and gives its bodies.
+    /// Opens the log that two disks have, as `open_on` does, and returns its bodies.
     pub fn open(
         alloc: Global,
         mut first: D,

@@ -1,4 +1,4 @@
-//! The length with which a record was written, where a bit of it is another now.
+//! The length with which a record was written, if one bit of it has changed.
 ghost use Rattle.std.specs.Prelude.{◌≡◌, ◌⊎◌, ◌+◌, ◌≤◌, List, ℕ, false, length, min, take, drop, IfOk, IfSome, MatchResult};
 ghost use Rattle.xa_disk.specs.{Disk.Same, Disk.CountsFault, Time.TimePasses, declared.counts.Counts.Counts};
 ghost use Rattle.xa_log.specs.Calls.{Fetched, FetchedSome};
@@ -99,8 +99,8 @@ fn search<D: Disk>(
     Ok((mended_of(&window[begin..begin + count], prev), span))
 }
 
-// The record that stands at an offset where none chains behind one of this digest, with the length with which it was written,
-// if that isn't the one there; and what a window has then. No more is read where the length is 0.
+// The record that stands at an offset where none chains after one of this digest, with the length with which it was written,
+// if that isn't the one there; and what a window has then. No more is read if the length is 0.
 pub(crate) fn find_mended<D: Disk>(
     disk: &mut D,
     window: &mut [u8],

@@ -56,7 +56,7 @@ impl Log<MemDisk> {
     }
 
     /// Gives the two disks back, the first one first, after a crash of both: the current file's and the other file's
-    /// keep so many bytes of those that were written since the last sync, as `MemDisk::crash_keeping` does.
+    /// keep `current` and `other` of the bytes written since the last sync, as `MemDisk::crash_keeping` does.
     pub fn into_crashed_disks(
         self,
         current: u64,

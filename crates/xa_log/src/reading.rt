@@ -29,9 +29,9 @@ pub struct Scan {
     pub bodies: Vec<Vec<u8>>,
     pub end: u64,
     pub digest: [u8; DIGEST_BYTES],
-    /// The bodies that chain behind a record that is shown behind these, but doesn't (`left_out`).
+    /// The bodies that chain after a record that is shown after these, but doesn't (`left_out`).
     pub left: Vec<Vec<u8>>,
-    /// Whether it breaks off behind these bodies (`breaks_behind`).
+    /// Whether it breaks off after these bodies (`breaks_behind`).
     pub broken: bool,
 }
 
@@ -184,7 +184,7 @@ pub(crate) fn read_whole<D: Disk>(
     Ok((scan, damaged))
 }
 
-// Whether a log breaks off before its first record, by whether it is shown and whether it chains, or behind some.
+// Whether a log breaks off before its first record, by whether it is shown and whether it chains, or after some.
 fn is_either_broken(shown: bool, chains: bool, broken: bool) -> bool
     ensures { result ≡ ((shown && not chains) || broken) }
 {

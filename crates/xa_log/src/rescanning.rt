@@ -62,8 +62,8 @@ impl<D: Disk> Log<D> {
         ensures measured { D.honest → OnOk result (IsMeasured D.Disk self.new) }
         ensures as_before { OnErr result (Untouched self.old self.new) }
         ensures keeps { D.honest → OnErr result (KeepsAll D.Disk self.old self.new) }
-        // Whichever state the log was in. What was left to chance comes out well: then a rescan that succeeds finds
-        // what it may find, and the other file behind it.
+        // Whichever state the log was in. If what was left to chance comes out well, a rescan that succeeds finds
+        // what it may find, and the other file after it.
         ensures anew { D.honest → (state : LogState) → IsIn D.Disk state self.old → LostTears D.tears state
             → IsCalmBeside D.Disk state self.old
             → IfOk result

@@ -10,9 +10,9 @@ use xa_disk::Disk;
 use xa_limits::{AROUND_CLOSED, MOST_BODY};
 
 impl<D: Disk> Log<D> {
-    /// Has the log's buffer hold the record of a body of so many bytes, with the zeros that may go behind it. A body of
+    /// Has the log's buffer hold the record of a body of `body` bytes, with the zeros that may go after it. A body of
     /// up to `MOST_BODY_OF_ONE` bytes always fits. Asks nothing of the disks, and changes nothing else; nothing at all
-    /// where there is no memory. The buffer grows to the longest record that was reserved and no further, to 8,650,792
+    /// if there is no memory. The buffer grows to the longest record that was reserved and no further, to 8,650,792
     /// bytes for a body of `MOST_BODY` bytes.
     pub fn reserve(&mut self, body: usize) -> Result<(), AllocError>
         requires { body ≤ MOST_BODY }

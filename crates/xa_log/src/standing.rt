@@ -37,7 +37,7 @@ pub(crate) fn standing_of<D: Disk>(disk: &mut D, len: u64) -> Result<Standing, D
     Ok(standing_by(front, len))
 }
 
-// What stands in a file of this length that begins so.
+// What stands in a file of this length that begins like this.
 fn standing_by(front: &[u8], len: u64) -> Standing
     requires { length front.now ≡ min len PREAMBLE_BYTES }
     ensures { (file : List ℕ) → len ≡ length file → front.now ≡ take PREAMBLE_BYTES file → result ≡ standing file }
@@ -54,7 +54,7 @@ fn standing_by(front: &[u8], len: u64) -> Standing
     }
 }
 
-// What a file that begins so is by the name that it has, if that is a format's, or a later one's.
+// What a file that begins like this is, by its name, if that is a format's, or a later one's.
 fn named_by(front: &[u8]) -> Option<Standing>
     ensures { (file : List ℕ) → front.now ≡ take PREAMBLE_BYTES file
         → MatchOption result (standing file ≡ (if is_remnant file then Nothing else Stray)) (λ s. s ≡ standing file) }
@@ -78,7 +78,7 @@ fn is_remnant(front: &[u8], len: u64) -> bool
         && (is_part(front, &Format::One.preamble()) || is_part(front, &Format::Two.preamble()))
 }
 
-// Whether each byte is the one at its place of those that were to be written, or 0.
+// Whether each byte is the one at its place of those that should have been written, or 0.
 fn is_part(front: &[u8], written: &[u8]) -> bool
     requires { length front.now ≤ length written.now }
     ensures { result ≡ is_part_of written.now front.now }
@@ -91,7 +91,7 @@ fn is_part(front: &[u8], written: &[u8]) -> bool
     true
 }
 
-/// What an interrupted write of a log's first bytes leaves of an empty file is no stray, and of a log a log, where each
+/// What an interrupted write of a log's first bytes leaves of an empty file is no stray, and of a log a log, if each
 /// byte is the one that stood there or the one that was written.
 pub fn interrupted_is_no_stray()
     ensures { InterruptedLaw }

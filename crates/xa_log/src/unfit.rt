@@ -1,7 +1,7 @@
 //! Whether two files may be one log's.
 ghost use Rattle.std.specs.Prelude.{◌≡◌, ◌⊎◌, List, ℕ, length, IfErr, IfOk};
 ghost use Rattle.xa_disk.specs.{Disk.Same, Time.TimePasses};
-ghost use Rattle.xa_log.specs.Believed.Unfit.{FitLaw, StaysFitLaw, generation_in, unfit_of};
+ghost use Rattle.xa_log.specs.Believed.Unfit.{FitLaw, MissingLaw, StaysFitLaw, generation_in, unfit_of};
 
 use crate::OpenFault;
 use crate::heads::{head_of, number_in_first};
@@ -25,8 +25,8 @@ pub enum Unfit {
 }
 
 /// Which of two files isn't one of a log's: is missing beside the other one, or has something else in it, over which an
-/// opening would write. `Neither` where they may be one log's, or an opening refuses them anyway: as too long, or as too
-/// new. Asks both lengths, reads the first bytes of each, and the first one's first record where the second one is empty.
+/// opening would write. `Neither` if they may be one log's, or an opening refuses them anyway: as too long, or as too
+/// new. Asks both lengths, reads the first bytes of each, and the first one's first record if the second one is empty.
 pub fn unfit_file<D: Disk>(
     alloc: Global,
     first: &mut D,
@@ -64,7 +64,7 @@ pub fn unfit_file<D: Disk>(
     }
 }
 
-// The generation of the log that a file of this length is, 0 where it is none.
+// The generation of the log that a file of this length is, 0 if it is none.
 fn generation_of<D: Disk>(alloc: Global, disk: &mut D, len: u64) -> Result<usize, OpenFault>
     ensures value { D.honest → len ≡ length (D.seen disk.old)
         → IfOk result (λ number. number ≡ generation_in (D.seen disk.old)) }
@@ -86,8 +86,13 @@ pub fn fit_has_no_stray()
     ensures { FitLaw }
 {}
 
-/// Two files that fit still do when the first write of a checkpoint was interrupted, where each byte is the one that stood
+/// Two files that fit still do when the first write of a checkpoint was interrupted, if each byte is the one that stood
 /// there or the one that was written.
 pub fn interrupted_stays_fit()
     ensures { StaysFitLaw }
+{}
+
+/// Two files that fit, and that an opening doesn't refuse, are none of which one is missing beside the other.
+pub fn fit_has_none_missing()
+    ensures { MissingLaw }
 {}

@@ -44,7 +44,7 @@ fn are_bodies(bodies: &[SharedBytes]) -> bool
     true
 }
 
-// Whether a log has room for each without more being made.
+// Whether a log has room for each without making more.
 fn are_held<D>(log: &Log<D>, bodies: &[SharedBytes]) -> bool
     ensures { result ≡ true → HoldsEach log.now bodies.now }
 {

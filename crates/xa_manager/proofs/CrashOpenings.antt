@@ -1,19 +1,23 @@
 -- What a crash leaves at any moment of an opening.
 use Rattle.std.proofs.Common.{◌≡◌, ◌≢◌, inl, inr, ◌+◌, ◌<◌, ℕ, Bool, true, false, ◌&&◌, ◌||◌, cond, List, [], ◌∷◌, Option, Some, None, map, refl, ap, sym, ◌∙◌, subst}
 use Rattle.std.specs.Prelude.{Result, Ok, Err, IfOk, IfErr, IsSomeAnd, nat_lt, option_map, option_and_then}
+use Rattle.xa_disk.specs.Disk.{Only}
 use Rattle.xa_disk.specs.Time.{LeavesOnly}
 use Rattle.xa_disk.specs.declared.disk.Disk.{Ghosts}
 use Rattle.xa_record.specs.Spelling.{spelled}
 use Rattle.xa_record.specs.declared.record.Record.TheVariants as logged_as
 use Rattle.xa_log.proofs.States.{same_left}
 use Rattle.xa_log.specs.Believed.Chain.{newest, logged}
-use Rattle.xa_log.specs.Believed.Checkpoint.{LeavesAny}
+use Rattle.xa_log.specs.Believed.Checkpoint.{HasBytes, LeavesAny, NeverEmpty}
 use Rattle.xa_log.specs.Believed.Pair.{pair_fault}
 use Rattle.xa_log.specs.Believed.TwoFiles.{Pair, NoStray, first_of, second_of, written}
 use Rattle.xa_log.specs.declared.appending.Appended.{Appended}
 use Rattle.xa_log.specs.declared.appending.Appended.TheVariants as appended
 use Rattle.xa_log.specs.declared.fault.OpenFault.TheVariants.{TooLong, NotALog}
 use Rattle.xa_log.specs.Believed.LogView.{LogView}
+use Rattle.xa_log.specs.Believed.Unfit.{missing_of}
+use Rattle.xa_log.specs.declared.unfit.Unfit.TheVariants.{Neither}
+use Rattle.xa_log.proofs.Beside.{other_found}
 use Rattle.xa_log.proofs.Opens.{opened_law}
 use Rattle.xa_limits.specs.declared.TheConstants.{MOST_BOOTS}
 use Rattle.xa_model.specs.declared.outcome.Appending.{Appending}
@@ -115,6 +119,11 @@ module _ {D : Type 0} (disks : Ghosts D) (only_now : (d : D) (c : List ℕ) → 
   read_snapshot is_new a fresh old new not_new (inl x) = absurd (not_new x.0)
   read_snapshot is_new a fresh old new not_new (inr x) = x
 
+  -- each crash leaves of the other file what was read
+  read_durable : (is_new : Bool) (bodies : List (List ℕ)) (log : LogView D) → (is_new ≡ true → ⊥) → IsFound disks is_new bodies log → Only (disks.seen log.other) (disks.may_leave log.other)
+  read_durable true bodies log not_new found = absurd (not_new refl)
+  read_durable false bodies log not_new found = found.durable
+
   read_pair : (is_new : Bool) (bodies : List (List ℕ)) (log : LogView D) → (is_new ≡ true → ⊥) → NoStray (disks.seen (first_of log)) (disks.seen (second_of log))
       → IsFound disks is_new bodies log → Pair disks bodies (logged (disks.seen log.other)) log
   read_pair true bodies log not_new stray found = absurd (not_new refl)
@@ -139,7 +148,13 @@ module _ {D : Type 0} (disks : Ghosts D) (only_now : (d : D) (c : List ℕ) → 
       let no_stray : NoStray (disks.seen (first_of l.log)) (disks.seen (second_of l.log)) =
       subst (λ (y : List ℕ). NoStray (disks.seen (first_of l.log)) y) (sym look.second_is.seen) (subst (λ (x : List ℕ). NoStray x (disks.seen second)) (sym look.first_is.seen) stray) in
       let pair = read_pair l.is_new l.bodies l.log not_new no_stray (l.found trusts.disk) in
-      let has : HasRecords disks files.records l.log = (logged (disks.seen l.log.other), subst (λ (x : List (List ℕ)). Pair disks x (logged (disks.seen l.log.other)) l.log) spells pair) in
+      let there : missing_of (disks.seen (first_of l.log)) (disks.seen (second_of l.log)) ≡ Neither =
+      subst (λ (y : List ℕ). missing_of (disks.seen (first_of l.log)) y ≡ Neither) (sym look.second_is.seen) (subst (λ (x : List ℕ). missing_of x (disks.seen second) ≡ Neither) (sym look.first_is.seen) files.none_missing) in
+      let has : HasRecords disks files.records l.log = (
+        logged (disks.seen l.log.other),
+        subst (λ (x : List (List ℕ)). Pair disks x (logged (disks.seen l.log.other)) l.log) spells pair,
+        other_found disks l.bodies l.log pair.current (read_durable l.is_new l.bodies l.log not_new (l.found trusts.disk)) there,
+      ) in
       let snap = read_snapshot l.is_new a (map spelled (snapshot l.logs.durable (l.logs.durable.boot + 1))) l.log after not_new l.logs.logs in
       let left : LeavesOnly disks l.log.other (wrote (became a) after) (LeavesAny l.log.log_bytes newest (logged (disks.seen l.log.other)) (map spelled (snapshot (durable t) (t.logged_boot + 1)))) =
       subst (λ (x : Durable). LeavesOnly disks l.log.other (wrote (became a) after) (LeavesAny l.log.log_bytes newest (logged (disks.seen l.log.other)) (map spelled (snapshot x (x.boot + 1))))) d_is
@@ -153,7 +168,8 @@ module _ {D : Type 0} (disks : Ghosts D) (only_now : (d : D) (c : List ℕ) → 
             (snapshot_leaves disks l.log after lost (t.logged_boot + 1) files.records (became a)
             (keeps_recoverable s (Reopened name log_bytes) (Reread many (Some Lost)) (reopen_became t name log_bytes (t.logged_boot + 1) Lost) tt h is)
             refl (same_backed files.records t name log_bytes [] [] Ended (logged_as.Opened (t.logged_boot + 1) ∷ []) t.moment backs) has
-            (newer files.records (durable t) backs.lasts less) snap.log_bytes (same_current a l.log after snap.current) left);
+            (newer files.records (durable t) backs.lasts less) snap.log_bytes (same_current a l.log after snap.current) left
+            (subst (λ (x : D). NeverEmpty disks l.log.other → LeavesOnly disks l.log.other x HasBytes) (same_written a after) (snap.filled trusts.disk)));
       }
 
   -- ---- the opening
@@ -165,6 +181,8 @@ module _ {D : Type 0} (disks : Ghosts D) (only_now : (d : D) (c : List ℕ) → 
   unopened first second s name log_bytes fault.Device first' second' trusts h files stray (a, after, kept, l, one, two) =
       (became a, after, became_kept a kept, reopening_leaves first second s name log_bytes a after trusts h files stray l, one, two)
   unopened first second s name log_bytes (fault.Log e) first' second' trusts h files stray left = looks_over log_bytes first first' second second' s files.whole (left trusts.disk)
+  unopened first second s name log_bytes fault.MissingFirst first' second' trusts h files stray left = looks_over log_bytes first first' second second' s files.whole (left trusts.disk)
+  unopened first second s name log_bytes fault.MissingSecond first' second' trusts h files stray left = looks_over log_bytes first first' second second' s files.whole (left trusts.disk)
   unopened first second s name log_bytes (fault.Malformed i) first' second' trusts h files stray left = looks_over log_bytes first first' second second' s files.whole (left trusts.disk)
   unopened first second s name log_bytes (fault.Order i) first' second' trusts h files stray left = looks_over log_bytes first first' second second' s files.whole (left trusts.disk)
   unopened first second s name log_bytes fault.Boots first' second' trusts h files stray left = looks_over log_bytes first first' second second' s files.whole (left trusts.disk)

@@ -5,7 +5,7 @@ use Rattle.std.specs.Prelude.{slice_index_or}
 use Rattle.std.proofs.lemmas.Bool.{cases_Bool}
 use Rattle.xa_disk.specs.Time.{LeavesOnly}
 use Rattle.xa_disk.specs.declared.disk.Disk.{Ghosts}
-use Rattle.xa_log.specs.Believed.Checkpoint.{LeavesAny}
+use Rattle.xa_log.specs.Believed.Checkpoint.{HasBytes, LeavesAny, NeverEmpty}
 use Rattle.xa_log.specs.Believed.Chain.{newest, text}
 use Rattle.xa_log.specs.Believed.Damage.{AreAppended}
 use Rattle.xa_log.specs.Believed.Pair.{generation}
@@ -64,14 +64,16 @@ pub snapshots_first : {D : Type 0} (disks : Ghosts D) (is_new : Bool) (o : Appen
     → (old.lost ≡ false → Swaps o fresh old new) → (old.lost ≡ true → (o ≡ Lost) × (new ≡ old)) → new.log_bytes ≡ old.log_bytes
     → (disks.honest → (bodies stood : List (List ℕ)) → Pair disks bodies stood old → Checkpoints disks o bodies stood fresh new)
     → (disks.honest → (bodies stood : List (List ℕ)) → Pair disks bodies stood old → LeavesOnly disks old.other (written o new) (LeavesAny old.log_bytes newest stood fresh))
+    → (disks.honest → NeverEmpty disks old.other → LeavesOnly disks old.other (written o new) HasBytes)
     → LogsFirst disks is_new o fresh old new
-snapshots_first {D} disks is_new o fresh old new swaps lost same pair moment = inr (record {
+snapshots_first {D} disks is_new o fresh old new swaps lost same pair moment filled = inr (record {
   current =
       ⊎_elim
       (λ was. subst (λ (x : Appended). KeepsCurrent x old new) (sym (lost was).0) (ap (λ (l : LogView D). l.disk) (lost was).1, ap (λ (l : LogView D). l.on_first) (lost was).1))
       (λ alive. swapped o fresh old new (swaps alive)) (cases_Bool old.lost);
   log_bytes = same;
   left = λ h bodies stood p. (pair h bodies stood p, moment h bodies stood p);
+  filled = filled;
 })
 
 -- they weren't kept

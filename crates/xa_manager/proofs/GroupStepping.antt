@@ -172,7 +172,7 @@ module _ {D : Type 0} (disks : Ghosts D) where
         log = λ trusts.
             log_after disks m.log m'.log s next rs a none others (kinds_appended rs s walk.follow walk.group) x trusts.disk (λ q. ap (λ (u : State). u.open_records) (lost_ q))
             kept_backs left_backs
-            (λ q ls b. subst (Backs ls) (sym (lost_ q)) (backed ls b).2) (st.log trusts);
+            (λ q ls b. subst (Backs ls) (sym (lost_ q)) (backed ls b).2) h (st.log trusts);
       }
 
   -- What a crash at any moment of it leaves stands for the state to which the calls lead where their records are lost.
@@ -189,5 +189,5 @@ module _ {D : Type 0} (disks : Ghosts D) where
         λ current other left plain.
             append_files disks m.log plain.records lost rs plain.stood current other others plain.pair
             ((leaves trusts.disk (map spelled plain.records) plain.pair.current).each current left.current_left)
-            plain.plain left.other_left plain.calm sane.recovers (backs_together plain.records s p ps h up may plain.backs).2 refl,
+            plain.plain left.other_left plain.calm sane.recovers (backs_together plain.records s p ps h up may plain.backs).2 refl (st.log trusts).beside,
       )

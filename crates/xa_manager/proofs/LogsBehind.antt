@@ -6,8 +6,8 @@ use Rattle.xa_disk.specs.declared.disk.Disk.{Ghosts}
 use Rattle.xa_record.specs.Spelling.{spelled}
 use Rattle.xa_record.specs.declared.record.Record.{Record}
 use Rattle.xa_record.specs.declared.record.Record.TheVariants as logged
-use Rattle.xa_log.specs.Believed.LogStates.{LogState, Whole, LostAppend, LostCheckpoint, IsIn, LostTears, IsCalmBeside}
-use Rattle.xa_log.specs.Believed.TwoFiles.{MayStandPair, MaySeal}
+use Rattle.xa_log.specs.Believed.LogStates.{LogState, Whole, LostAppend, LostCheckpoint, KeepsAll, LostTears, IsCalmBeside}
+use Rattle.xa_log.specs.Believed.TwoFiles.{HasOther, MayStandPair, MaySeal}
 use Rattle.xa_log.specs.Believed.LogView.{LogView}
 use Rattle.xa_log.specs.Believed.Group.{HasFirstPart}
 use Rattle.xa_log.proofs.States.{whole_of, beside_by}
@@ -95,35 +95,39 @@ calm_trusted disks t state log = inl (beside_by disks.tears t.headers t.seals st
 module _ {D : Type 0} (disks : Ghosts D) where
   -- where no record was lost the log has the records
   pub only_records : (log : LogView D) (s : State) → s.open_records ≡ [] → (l : LogStandsFor disks log s) → HasRecords disks l.records log
-  only_records log s none l = whole_of disks log l.state l.is_in (map spelled l.records) (λ found may. settles_none l.records s found none (l.finds found may))
+  only_records log s none l =
+      let it = whole_of disks log l.state l.is_in (map spelled l.records) (λ found may. settles_none l.records s found none (l.finds found may)) in
+      (it.0, it.1, l.beside)
 
   pub stands_whole : (log : LogView D) (s : State) (rs : List Record) → Backs rs s → HasRecords disks rs log → LogStandsFor disks log s
-  stands_whole log s rs backs (stood, p) = record {
+  stands_whole log s rs backs (stood, p, beside) = record {
     records = rs;
     backs = backs;
     state = Whole (map spelled rs) stood;
     is_in = p;
     finds = λ found is. (0, omega arith, is);
     lost_as = tt;
+    beside = beside;
   }
 
   -- the records that were lost are no boot's
   pub stands_append : (log : LogView D) (s : State) (rs lost : List Record) (stood : List (List ℕ)) → Backs rs s → s.open_records ≡ lost
       → AllByRecursion (λ (r : Record). is_boot r ≡ false) lost
-      → MayStandPair disks (map spelled rs) (map spelled lost) stood log → LogStandsFor disks log s
-  stands_append log s rs lost stood backs open_is others p = record {
+      → MayStandPair disks (map spelled rs) (map spelled lost) stood log → HasOther disks log → LogStandsFor disks log s
+  stands_append log s rs lost stood backs open_is others p beside = record {
     records = rs;
     backs = backs;
     state = LostAppend (map spelled rs) (map spelled lost) stood;
     is_in = p;
     finds = λ found may. settles_part rs lost s found open_is others may;
     lost_as = subst (λ (l : List Record). AllByRecursion (λ (r : Record). is_boot r ≡ false) l) (sym open_is) others;
+    beside = beside;
   }
 
   -- it is a boot's, whose snapshot was to be the log
   pub stands_seal : (log : LogView D) (s : State) (rs : List Record) (boot : ℕ) → Backs rs s → s.open_records ≡ logged.Opened boot ∷ []
-      → MaySeal disks (map spelled rs) (snapshot_bodies s boot) log → LogStandsFor disks log s
-  stands_seal log s rs boot backs open_is p = record {
+      → MaySeal disks (map spelled rs) (snapshot_bodies s boot) log → HasOther disks log → LogStandsFor disks log s
+  stands_seal log s rs boot backs open_is p beside = record {
     records = rs;
     backs = backs;
     state = LostCheckpoint (map spelled rs) (snapshot_bodies s boot);
@@ -135,6 +139,7 @@ module _ {D : Type 0} (disks : Ghosts D) where
           is ∙ ap (λ (l : List Record). map spelled (settled_first 1 l rs s)) (sym open_is),
         )) may;
     lost_as = subst (λ (l : List Record). AllByRecursion (λ (r : Record). is_boot r ≡ true) l) (sym open_is) (refl, tt);
+    beside = beside;
   }
 
   -- a state from which the same lasts
@@ -147,16 +152,17 @@ module _ {D : Type 0} (disks : Ghosts D) where
     is_in = l.is_in;
     finds = λ found may. settles_same l.records s t found group lasts open_is (l.finds found may);
     lost_as = subst (λ (lost : List Record). AreLostAs l.state lost) (sym open_is) l.lost_as;
+    beside = l.beside;
   }
 
   -- a log that is in whichever state it was in
-  pub stands_kept : (log log' : LogView D) (s : State) → ((state : LogState) → IsIn disks state log → IsIn disks state log')
-      → LogStandsFor disks log s → LogStandsFor disks log' s
+  pub stands_kept : (log log' : LogView D) (s : State) → KeepsAll disks log log' → LogStandsFor disks log s → LogStandsFor disks log' s
   stands_kept log log' s kept l = record {
     records = l.records;
     backs = l.backs;
     state = l.state;
-    is_in = kept l.state l.is_in;
+    is_in = kept.state l.state l.is_in;
     finds = l.finds;
     lost_as = l.lost_as;
+    beside = kept.other l.beside;
   }

@@ -36,5 +36,5 @@ planned_stays disks m log u k s stands = record {
   log_bytes = u.log_bytes ∙ stands.log_bytes;
   doubt = stands.doubt;
   backed = λ up. still_backed m.log log s u.number (stands.backed up);
-  log = λ trusts. stands_kept disks m.log log s k.state (stands.log trusts);
+  log = λ trusts. stands_kept disks m.log log s k (stands.log trusts);
 }

@@ -1,17 +1,22 @@
 -- What an opening that was refused tells, and what it leaves.
-use Rattle.std.proofs.Common.{◌≡◌, ◌⊎◌, ℕ, Bool, true, List, [], sym, subst}
+use Rattle.std.proofs.Common.{◌≡◌, ◌⊎◌, inl, inr, ℕ, Bool, true, false, ◌&&◌, List, [], refl, sym, ◌∙◌, subst, cond, nat_lt}
 use Rattle.std.specs.Prelude.{Result, Ok, Err, IfOk, IfErr, IsErrAnd, None}
 use Rattle.xa_disk.specs.declared.disk.Disk.{Ghosts}
-use Rattle.xa_log.specs.Believed.Pair.{pair_fault, logged_pair}
+use Rattle.xa_log.specs.Believed.Pair.{has_log, pair_fault, logged_pair}
 use Rattle.xa_log.specs.Believed.TwoFiles.{first_of, second_of}
 use Rattle.xa_log.specs.declared.appending.Appended.{Appended}
 use Rattle.xa_log.specs.declared.appending.Appended.TheVariants.{Kept}
 use Rattle.xa_log.specs.Believed.LogView.{LogView}
+use Rattle.xa_log.specs.Believed.Unfit.{generation_in, is_empty, missing_of}
+use Rattle.xa_log.specs.Opened.{WasFound}
+use Rattle.xa_log.specs.declared.opened.Opened.{Opened}
+use Rattle.xa_log.specs.declared.unfit.Unfit.{Unfit}
+use Rattle.xa_log.specs.declared.unfit.Unfit.TheVariants as unfit
 use Rattle.xa_manager.specs.declared.fault.ManagerFault.{ManagerFault}
 use Rattle.xa_manager.specs.declared.fault.ManagerFault.TheVariants as fault
 use Rattle.xa_manager.specs.declared.manager.Manager.{Manager}
 use Rattle.xa_manager.specs.declared.refused.RefusedOpening.{RefusedOpening}
-use Rattle.xa_manager.specs.Believed.Opening.{IsFound, BootRefused, OpenRefused}
+use Rattle.xa_manager.specs.Believed.Opening.{IsFound, BootRefused, Misses, OpenRefused}
 use Rattle.xa_manager.specs.Believed.Refused.{LeavesFinding, LogsBoot, LeavesBegin, LeavesLogging, LeavesRefused}
 
 -- ---- what it tells
@@ -19,6 +24,8 @@ use Rattle.xa_manager.specs.Believed.Refused.{LeavesFinding, LogsBoot, LeavesBeg
 refused_for : (e : ManagerFault) (bodies : List (List ℕ)) (name : List ℕ) (log_bytes : ℕ) (a b : List ℕ) → BootRefused e bodies log_bytes
     → ((a ≡ []) × (b ≡ [])) ⊎ (pair_fault log_bytes a b ≡ None) → logged_pair a b ≡ bodies → OpenRefused e name log_bytes a b
 refused_for (fault.Log e) bodies name log_bytes a b h whole same = absurd h
+refused_for fault.MissingFirst bodies name log_bytes a b h whole same = absurd h
+refused_for fault.MissingSecond bodies name log_bytes a b h whole same = absurd h
 refused_for (fault.Malformed i) bodies name log_bytes a b h whole same = (whole, rw same h)
 refused_for (fault.Order i) bodies name log_bytes a b h whole same = (whole, rw same h)
 refused_for fault.Boots bodies name log_bytes a b h whole same = (whole, rw same h)
@@ -38,6 +45,48 @@ pub never_setting : {D M : Type 0} (r : Result M (RefusedOpening D)) (bodies : L
     → IfErr r (λ x. BootRefused x.fault bodies log_bytes) → IsErrAnd r (λ x. x.fault ≡ fault.Setting) → ⊥
 never_setting (Ok m) bodies log_bytes h is = is
 never_setting (Err x) bodies log_bytes h is = subst (λ e. BootRefused e bodies log_bytes) is h
+
+-- ---- which file is missing
+
+none_stray : (p q : Bool) (u : Unfit) → u ≡ cond p unfit.MissingFirst (cond q unfit.MissingSecond unfit.Neither) → (u ≡ unfit.Neither) ⊎ (u ≡ unfit.StrayFirst) ⊎ (u ≡ unfit.StraySecond)
+    → cond p unfit.MissingFirst (cond q unfit.MissingSecond unfit.Neither) ≡ unfit.Neither
+none_stray p q u is (inl neither) = sym is ∙ neither
+none_stray true q u is (inr (inl stray)) = absurd (cc (is, stray))
+none_stray false true u is (inr (inl stray)) = absurd (cc (is, stray))
+none_stray false false u is (inr (inl stray)) = refl
+none_stray true q u is (inr (inr stray)) = absurd (cc (is, stray))
+none_stray false true u is (inr (inr stray)) = absurd (cc (is, stray))
+none_stray false false u is (inr (inr stray)) = refl
+
+pub none_missing : (a b : List ℕ) (u : Unfit) → u ≡ missing_of a b → (u ≡ unfit.Neither) ⊎ (u ≡ unfit.StrayFirst) ⊎ (u ≡ unfit.StraySecond) → missing_of a b ≡ unfit.Neither
+none_missing a b u is left = none_stray (is_empty a && has_log b) (is_empty b && nat_lt 1 (generation_in a)) u is left
+
+told_missing : (e : ManagerFault) (name : List ℕ) (log_bytes : ℕ) (a b : List ℕ) → pair_fault log_bytes a b ≡ None → Misses e a b → OpenRefused e name log_bytes a b
+told_missing (fault.Log e) name log_bytes a b whole gone = absurd gone
+told_missing fault.MissingFirst name log_bytes a b whole gone = (whole, gone)
+told_missing fault.MissingSecond name log_bytes a b whole gone = (whole, gone)
+told_missing (fault.Malformed i) name log_bytes a b whole gone = absurd gone
+told_missing (fault.Order i) name log_bytes a b whole gone = absurd gone
+told_missing fault.Boots name log_bytes a b whole gone = absurd gone
+told_missing fault.LogFull name log_bytes a b whole gone = absurd gone
+told_missing fault.Device name log_bytes a b whole gone = absurd gone
+told_missing fault.Memory name log_bytes a b whole gone = absurd gone
+told_missing fault.Setting name log_bytes a b whole gone = absurd gone
+
+-- of two files that were found
+pub refused_missing : (e : ManagerFault) (name : List ℕ) (log_bytes : ℕ) (a b : List ℕ) (opened : Opened) → WasFound a b opened → opened.log_bytes ≡ log_bytes → Misses e a b
+    → OpenRefused e name log_bytes a b
+refused_missing e name log_bytes a b opened found is gone = told_missing e name log_bytes a b (subst (λ (n : ℕ). pair_fault n a b ≡ None) is found.fault) gone
+
+pub left_missing : {D : Type 0} (disks : Ghosts D) (e : ManagerFault) (log_bytes : ℕ) (first first' second second' : D) → (e ≡ fault.MissingFirst) ⊎ (e ≡ fault.MissingSecond)
+    → (disks.honest → LeavesFinding disks first first' second second') → LeavesRefused disks e log_bytes first first' second second'
+left_missing disks e log_bytes first first' second second' (inl is) left = subst (λ (x : ManagerFault). LeavesRefused disks x log_bytes first first' second second') (sym is) left
+left_missing disks e log_bytes first first' second second' (inr is) left = subst (λ (x : ManagerFault). LeavesRefused disks x log_bytes first first' second second') (sym is) left
+
+-- and none of two that were made
+pub there_by : (made : Bool) (a b : List ℕ) → (made ≡ true → (a ≡ []) × (b ≡ [])) → (made ≡ false → missing_of a b ≡ unfit.Neither) → missing_of a b ≡ unfit.Neither
+there_by true a b empty read = let e = empty refl in subst (λ (x : List ℕ). missing_of x b ≡ unfit.Neither) (sym e.0) (subst (λ (y : List ℕ). missing_of [] y ≡ unfit.Neither) (sym e.1) refl)
+there_by false a b empty read = read refl
 
 -- ---- what it leaves
 
@@ -73,6 +122,8 @@ module _ {D : Type 0} (disks : Ghosts D) (first second : D) (is_new : Bool) (bod
   left_for : (e : ManagerFault) (after : LogView D) (first' second' : D) → BootRefused e bodies log_bytes
       → LeavesBegin disks e is_new bodies log_bytes log after → first' ≡ first_of after → second' ≡ second_of after → LeavesRefused disks e log_bytes first first' second second'
   left_for (fault.Log e) after first' second' h left one two = absurd h
+  left_for fault.MissingFirst after first' second' h left one two = absurd h
+  left_for fault.MissingSecond after first' second' h left one two = absurd h
   left_for (fault.Malformed i) after first' second' h left one two = as_found after first' second' left one two
   left_for (fault.Order i) after first' second' h left one two = as_found after first' second' left one two
   left_for fault.Boots after first' second' h left one two = as_found after first' second' left one two

@@ -8,7 +8,7 @@ use Rattle.xa_log.specs.declared.format.Format.{Format}
 use Rattle.xa_log.specs.Believed.LogView.{LogView}
 use Rattle.xa_log.specs.Believed.Chain.{start, text, records, digest, record_of}
 use Rattle.xa_log.specs.Believed.LogStates.{LogState, Whole, IsIn, MayFind}
-use Rattle.xa_log.specs.Believed.TwoFiles.{Pair}
+use Rattle.xa_log.specs.Believed.TwoFiles.{HasOther, Pair}
 use Rattle.xa_log.proofs.Records.{length-record_of, length-text}
 use Rattle.xa_model.specs.State.{State}
 use Rattle.xa_model.specs.Fold.{sizes}
@@ -36,6 +36,7 @@ text_size format rs = length-text format (map spelled rs) ∙ ap (λ (n : ℕ). 
 pub record Finds {D : Type 0} (disks : Ghosts D) (found : List (List ℕ)) (log log' : LogView D) : Type 0 where
   pub stood : List (List ℕ)
   pub state : (state : LogState) → IsIn disks state log → MayFind state found × Pair disks found stood log'
+  pub other : (state : LogState) → IsIn disks state log → HasOther disks log → HasOther disks log'
 
 -- the log still stands behind the state
 pub stands_found : {D : Type 0} (disks : Ghosts D) (found : List (List ℕ)) (log log' : LogView D) (s : State)
@@ -49,12 +50,13 @@ stands_found disks found log log' s k st =
       is_in = now.1;
       finds = λ again is. subst (λ (bodies : List (List ℕ)). IsSettled st.records s bodies) (sym is) (st.finds found now.0);
       lost_as = tt;
+      beside = k.other st.state st.is_in st.beside;
     }
 
 -- a log of these records ends where they do
 pub records_end : {D : Type 0} (disks : Ghosts D) (rs : List Record) (t : State) (log : LogView D)
     → Backs rs t → HasRecords disks rs log → log.end ≡ t.end
-records_end disks rs t log k (stood, pair) = pair.current.end ∙ (text_size log.format rs ∙ sym k.end)
+records_end disks rs t log k (stood, pair, beside) = pair.current.end ∙ (text_size log.format rs ∙ sym k.end)
 
 pub found_state : {D : Type 0} (disks : Ghosts D) (found : List (List ℕ)) (log log' : LogView D) (s : State)
     → Finds disks found log log' → IsRecoverable s → LogStandsFor disks log s → Found disks found log' s
@@ -64,7 +66,7 @@ found_state disks found log log' s k h st =
   where
     -- these are the records
     has : (qs : List Record) → found ≡ map spelled qs → Pair disks found k.stood log' → HasRecords disks qs log'
-    has qs spells pair = (k.stood, subst (λ (bodies : List (List ℕ)). Pair disks bodies k.stood log') spells pair)
+    has qs spells pair = (k.stood, subst (λ (bodies : List (List ℕ)). Pair disks bodies k.stood log') spells pair, k.other st.state st.is_in st.beside)
 
     by_fate : IsSettled st.records s found → Pair disks found k.stood log' → Found disks found log' s
     by_fate (many, few, is) pair =

@@ -2,7 +2,7 @@
 use Rattle.std.proofs.Common.{◌≡◌, ◌≤◌, ◌+◌, ℕ, Bool, true, false, cond, nat_eq, not, max, List, [], ◌∷◌, length, refl, ap, sym, ◌∙◌, subst, arith, inl, inr}
 use Rattle.std.specs.Prelude.{fold}
 use Rattle.std.specs.List.{AllByRecursion}
-use Rattle.xa_disk.specs.Disk.{Same}
+use Rattle.xa_disk.specs.Disk.{Only, Same}
 use Rattle.xa_disk.specs.Time.{TimePasses}
 use Rattle.xa_disk.specs.declared.disk.Disk.{Ghosts}
 use Rattle.xa_log.specs.Buffer.{Holds, HoldsEach}
@@ -52,13 +52,14 @@ module _ {D : Type 0} (disks : Ghosts D) (old new : LogView D) (r : HasReserved 
     current = r.keeps.stands bodies p.current;
     other = subst (λ (n : ℕ). IsOther disks n stood new.other) (sym r.fields.log_bytes) (subst (λ (d : D). IsOther disks old.log_bytes stood d) (sym r.files.1) p.other);
     quiet = r.keeps.quiet stood p.quiet;
+    durable = subst (λ (d : D). Only (disks.seen d) (disks.may_leave d)) (sym r.files.1) p.durable;
     older = λ there.
         subst (λ (t : Bool). beats t bodies stood ≡ true) (sym r.fields.on_first)
         (p.older (ap (λ (d : D). has_log (disks.seen d)) (sym r.files.1) ∙ there));
   }
 
   pub found_same : (is_new : Bool) (bodies : List (List ℕ)) → IsFound disks is_new bodies old → IsFound disks is_new bodies new
-  found_same true bodies (stood, p) = (stood, pair_same bodies stood p)
+  found_same true bodies (stood, p, beside) = (stood, pair_same bodies stood p, r.keeps.other beside)
   found_same false bodies p =
       subst (λ (d : D). IsOpenPair disks bodies (logged (disks.seen d)) new) (sym r.files.1) (open_same bodies (logged (disks.seen old.other)) p)
 
@@ -121,6 +122,7 @@ module _ {D : Type 0} (disks : Ghosts D) (old new : LogView D) (r : HasReserved 
     left = λ honest bodies stood p.
         let l = x.left honest bodies stood (pair_same bodies stood p) in
         (l.0, rw (← r.fields.log_bytes, ← r.files.1) l.1);
+    filled = rw (← r.files.1) x.filled;
   })
 
   pub boot_same : (is_new : Bool) (bodies : List (List ℕ)) (log_bytes : ℕ) (a : Appended) (after : LogView D) → LogsBoot disks is_new bodies log_bytes a new after → LogsBoot disks is_new bodies log_bytes a old after
@@ -140,7 +142,7 @@ module _ {D : Type 0} (disks : Ghosts D) (old new : LogView D) (r : HasReserved 
     settled = f.settled;
     spelled_as = f.spelled_as;
     backs = f.backs;
-    has = (f.has.0, pair_same _ f.has.0 f.has.1);
+    has = (f.has.0, pair_same _ f.has.0 f.has.1, r.keeps.other f.has.2);
     end = r.fields.end ∙ f.end;
     alive = r.fields.lost ∙ f.alive;
   }
@@ -180,7 +182,7 @@ pub none_reserved : {D : Type 0} (disks : Ghosts D) (log : LogView D) → HasRes
 none_reserved disks log = record {
   files = (refl, refl);
   fields = record { on_first = refl; log_bytes = refl; format = refl; end = refl; digest = refl; number = refl; lost = refl; known = refl; other_known = refl };
-  keeps = record { state = λ state it. it; quiet = λ stood it. it; known = λ it. it; stands = λ bodies it. it; may_stand = λ bodies body it. it };
+  keeps = record { state = λ state it. it; quiet = λ stood it. it; known = λ it. it; other = λ it. it; stands = λ bodies it. it; may_stand = λ bodies body it. it };
 }
 
 -- ---- the longest of some bodies

@@ -10,7 +10,7 @@ use Rattle.xa_limits.specs.declared.TheConstants.{LENGTH_BYTES}
 use Rattle.xa_log.specs.Believed.LogView.{LogView}
 use Rattle.xa_log.specs.Believed.Pair.{generation}
 use Rattle.xa_log.specs.Believed.Checkpoint.{IsQuiet}
-use Rattle.xa_log.specs.Believed.TwoFiles.{Pair, MaySeal}
+use Rattle.xa_log.specs.Believed.TwoFiles.{HasOther, Pair, MaySeal}
 use Rattle.xa_model.specs.State.{State, Up, Down, Ended}
 use Rattle.xa_model.specs.Durable.{durable}
 use Rattle.xa_model.specs.Fold.{snapshot}
@@ -116,7 +116,7 @@ down_stands disks m m' s t b rs tables up doubt bytes st fate backs has =
 pub lost_stands : {D : Type 0} (disks : Ghosts D) (m m' : Manager D) (s t : State) (b : ℕ) (rs : List Record)
     → m'.tables ≡ m.tables → m'.up ≡ false → m'.doubt ≡ Some (Boot (t.logged_boot + 1)) → m'.log.log_bytes ≡ m.log.log_bytes → ManagerStandsFor disks m s → IsFate b s t → Backs rs t
     → t.logged_boot < MOST_BOOTS
-    → (Trusts disks → (ls : List Record) × Backs ls t × MaySeal disks (map spelled ls) (map spelled (snapshot (durable t) (t.logged_boot + 1))) m'.log)
+    → (Trusts disks → (ls : List Record) × Backs ls t × MaySeal disks (map spelled ls) (map spelled (snapshot (durable t) (t.logged_boot + 1))) m'.log × HasOther disks m'.log)
     → ManagerStandsFor disks m' (record (down t) { open_records = logged.Opened (t.logged_boot + 1) ∷ [] })
 lost_stands disks m m' s t b rs tables up doubt bytes st fate backs less seal =
     let h = outside m.up (view m) s st.tables in
@@ -135,7 +135,7 @@ lost_stands disks m m' s t b rs tables up doubt bytes st fate backs less seal =
       backed = λ is. absurd (cc (is, up));
       log = λ trusts.
           let it = seal trusts in
-          stands_seal disks m'.log after it.0 boot (down_backed it.0 t (logged.Opened boot ∷ []) it.1) refl it.2;
+          stands_seal disks m'.log after it.0 boot (down_backed it.0 t (logged.Opened boot ∷ []) it.1) refl it.2 it.3;
     }
 
 -- so a restart may begin from there
@@ -201,9 +201,10 @@ never_full disks m s t b rs st fate backs fresh same full =
     omega (arith, short, room, bytes, size, full)
 
 pub refused_pair : {D : Type 0} (disks : Ghosts D) (bodies stood : List (List ℕ)) (log : LogView D)
-    → Pair disks bodies stood log ⊎ (Pair disks bodies [] log × IsQuiet disks [] log.other) → (other : List (List ℕ)) × Pair disks bodies other log
-refused_pair disks bodies stood log (inl pair) = (stood, pair)
-refused_pair disks bodies stood log (inr both) = ([], both.0)
+    → Pair disks bodies stood log ⊎ (Pair disks bodies [] log × IsQuiet disks [] log.other) → HasOther disks log
+    → (other : List (List ℕ)) × Pair disks bodies other log × HasOther disks log
+refused_pair disks bodies stood log (inl pair) beside = (stood, pair, beside)
+refused_pair disks bodies stood log (inr both) beside = ([], both.0, beside)
 
 -- the log could not be read
 

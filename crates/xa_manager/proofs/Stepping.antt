@@ -13,7 +13,8 @@ use Rattle.xa_log.specs.Believed.Group.{as_one, first_of_group, IsPlain}
 use Rattle.xa_log.specs.Believed.Pair.{generation, number_in}
 use Rattle.xa_log.specs.Believed.Stands.{Renumbers}
 use Rattle.xa_log.specs.declared.appending.Appended.TheVariants as told
-use Rattle.xa_log.specs.Believed.TwoFiles.{Pair}
+use Rattle.xa_log.specs.Believed.TwoFiles.{MayStandPair, Pair}
+use Rattle.xa_log.proofs.Beside.{kept_generation, lost_generation, other_kept, refused_generation}
 use Rattle.xa_log.specs.Believed.LogView.{LogView}
 use Rattle.xa_model.specs.declared.event.Event.{Event}
 use Rattle.xa_model.specs.declared.outcome.Outcome.{Outcome}
@@ -54,7 +55,7 @@ use Rattle.xa_manager.specs.Believed.LogStands.{Trusts, HasRecords, LogBacks, Lo
 use Rattle.xa_manager.specs.Managed.{view, Doubts, ManagerStandsFor}
 use Rattle.xa_manager.specs.Stands.{StandsFor, TablesStandFor}
 use Rattle.xa_manager.proofs.Appending.{alone}
-use Rattle.xa_manager.proofs.CrashFiles.{append_files, crash_leaves}
+use Rattle.xa_manager.proofs.CrashFiles.{append_files, backs_begun, crash_leaves}
 use Rattle.xa_manager.proofs.Generations.{boot_of}
 use Rattle.xa_manager.proofs.LogsBehind.{only_records, stands_whole, stands_append, stands_alike, still_backed, backed_alike}
 use Rattle.xa_manager.specs.Turns.{HasDone, HasAppended, TakesNow, TakesAppending, Takes, up_after, doubt_after}
@@ -118,18 +119,27 @@ module _ {D : Type 0} (disks : Ghosts D) where
       → HasAppended disks (map spelled group) a log log' → disks.honest
       → (a ≡ Lost → t.open_records ≡ group)
       → (a ≡ Kept → (rs : List Record) → Backs rs s → Backs (rs ++ group) t) → (a ≡ Refused → (rs : List Record) → Backs rs s → Backs rs t) → (a ≡ Lost → (rs : List Record) → Backs rs s → Backs rs t)
-      → LogStandsFor disks log s → LogStandsFor disks log' t
-  log_after log log' s t group Kept none others kinds h disk lost_ backs bref blost l =
+      → IsRecoverable s → LogStandsFor disks log s → LogStandsFor disks log' t
+  log_after log log' s t group Kept none others kinds h disk lost_ backs bref blost rec l =
       let here : HasRecords disks l.records log = only_records disks log s none l in
       let there : Pair disks (map spelled l.records ++ map spelled group) here.0 log' = h.pair disk (map spelled l.records) here.0 here.1 (inl kinds) in
-      stands_whole disks log' t (l.records ++ group) (backs refl l.records l.backs)
-      (here.0, subst (λ (bs : List (List ℕ)). Pair disks bs here.0 log') (sym (map-append spelled l.records group)) there)
-  log_after log log' s t group Refused none others kinds h disk lost_ backs bref blost l =
+      stands_whole disks log' t (l.records ++ group) (backs refl l.records l.backs) (
+        here.0,
+        subst (λ (bs : List (List ℕ)). Pair disks bs here.0 log') (sym (map-append spelled l.records group)) there,
+        other_kept disks log log' h.other.0 h.other.1
+            (kept_generation disks log log' (map spelled l.records) (map spelled group) (backs_begun log.format l.records s rec l.backs) here.1.current there.current) here.2,
+      )
+  log_after log log' s t group Refused none others kinds h disk lost_ backs bref blost rec l =
       let here : HasRecords disks l.records log = only_records disks log s none l in
-      stands_whole disks log' t l.records (bref refl l.records l.backs) (here.0, h.pair disk (map spelled l.records) here.0 here.1 (inl kinds))
-  log_after log log' s t group Lost none others kinds h disk lost_ backs bref blost l =
+      let there : Pair disks (map spelled l.records) here.0 log' = h.pair disk (map spelled l.records) here.0 here.1 (inl kinds) in
+      stands_whole disks log' t l.records (bref refl l.records l.backs)
+      (here.0, there, other_kept disks log log' h.other.0 h.other.1 (refused_generation disks log log' (map spelled l.records) here.1.current there.current) here.2)
+  log_after log log' s t group Lost none others kinds h disk lost_ backs bref blost rec l =
       let here : HasRecords disks l.records log = only_records disks log s none l in
-      stands_append disks log' t l.records group here.0 (blost refl l.records l.backs) (lost_ refl) others (h.pair disk (map spelled l.records) here.0 here.1 (inl kinds))
+      let there : MayStandPair disks (map spelled l.records) (map spelled group) here.0 log' = h.pair disk (map spelled l.records) here.0 here.1 (inl kinds) in
+      stands_append disks log' t l.records group here.0 (blost refl l.records l.backs) (lost_ refl) others there
+      (other_kept disks log log' h.other.0 h.other.1
+      (lost_generation disks log log' (map spelled l.records) (map spelled group) (backs_begun log'.format l.records s rec l.backs) here.1.current there.current) here.2)
 
   bytes_by : (s : State) (direction : Direction) (xid : Triple) → (completed s direction xid).log_bytes ≡ s.log_bytes
   bytes_by s Commit xid = refl
@@ -319,7 +329,7 @@ module _ {D : Type 0} (disks : Ghosts D) where
           log = λ trusts.
               log_after m.log m'.log s next (r ∷ []) a none (last.1, tt) (kind_appended s r logs.0 last.1, tt) x.log trusts.disk (λ q. ap (λ (u : State). u.open_records) (lost_ q))
               kept_backs left_backs
-              (λ q rs b. of_answer after (λ y. Backs rs y.after) a Lost q (backed rs b).2) (st.log trusts);
+              (λ q rs b. of_answer after (λ y. Backs rs y.after) a Lost q (backed rs b).2) before (st.log trusts);
         };
       }
 
@@ -374,7 +384,7 @@ module _ {D : Type 0} (disks : Ghosts D) where
             ((x.log.leaves trusts.disk (map spelled plain.records) plain.pair.current).each current left.current_left)
             (subst (λ (rs : List Record). IsPlain m.log.format (map spelled plain.records) (map spelled rs) current) open_is plain.plain) left.other_left plain.calm recoverable
             (let backed : BacksTurn plain.records s (Appends r after) = subst (BacksTurn plain.records s) t (keeps_backed plain.records s (Asked e) event before plain.backs) in backed.2)
-            open_is,
+            open_is (st.log trusts).beside,
       )))
 
   takes_crash : (m m' : Manager D) (s : State) (e : Event) (t : Turn) (reply : Reply) (outcome : Outcome) → IsEvent e → begins_boot e ≡ false → ManagerStandsFor disks m s → Trusts disks → respond s e ≡ t

@@ -15,7 +15,7 @@ use Rattle.xa_log.specs.Believed.Chain.{IsBody, newest, text}
 use Rattle.xa_log.specs.Believed.Pair.{generation}
 use Rattle.xa_log.specs.declared.appending.Appended.{Appended as Told}
 use Rattle.xa_log.specs.declared.appending.Appended.TheVariants as told
-use Rattle.xa_log.specs.Believed.TwoFiles.{MaySeal, Swaps, written}
+use Rattle.xa_log.specs.Believed.TwoFiles.{HasOther, MaySeal, Swaps, written}
 use Rattle.xa_log.specs.Believed.LogView.{LogView}
 use Rattle.xa_limits.specs.declared.TheConstants.{LENGTH_BYTES}
 use Rattle.xa_model.specs.declared.outcome.Outcome.{Outcome}
@@ -145,12 +145,12 @@ module _ {D : Type 0} (disks : Ghosts D) (m : Manager D) (s : State) (st : Manag
   -- it was lost
   pub sealed_stands : (m' : Manager D) (next : ℕ) → trim_refusal s ≡ None → next ≡ s.logged_boot + 1
       → m'.tables ≡ m.tables → m'.up ≡ false → m'.doubt ≡ Some (Boot next) → m'.log.log_bytes ≡ m.log.log_bytes
-      → (Trusts disks → (rs : List Record) × Backs rs s × MaySeal disks (map spelled rs) (snapshot_bodies s (s.logged_boot + 1)) m'.log)
+      → (Trusts disks → (rs : List Record) × Backs rs s × MaySeal disks (map spelled rs) (snapshot_bodies s (s.logged_boot + 1)) m'.log × HasOther disks m'.log)
       → ManagerStandsFor disks m' (lost s (logged.Opened (s.logged_boot + 1))).after
   sealed_stands m' next e number tables stopped doubt bytes seal =
       let b = st.backed up in
       lost_stands disks m m' s (record s { open_records = [] }) 0 b.records tables stopped (doubt ∙ ap (λ (n : ℕ). Some (Boot n)) number) bytes st refl
-      (backs_settled b.records b.backs) (less_of e) (λ trusts. let it = seal trusts in (it.0, backs_settled it.0 it.1, it.2))
+      (backs_settled b.records b.backs) (less_of e) (λ trusts. let it = seal trusts in (it.0, backs_settled it.0 it.1, it.2, it.3))
 
   -- under the premises the log has some records
   pub records_here : Trusts disks → (l : LogStandsFor disks m.log s) × HasRecords disks l.records m.log
@@ -183,7 +183,7 @@ trim_leaves disks m log new s rs a o st up r e backs has told left =
     (subst (λ (b : Bool). LeavesWritten disks b log a new s after) (sym (ap checkpoints (trim_is s e)))
     (snapshot_leaves disks log new after boot rs a (lost_in_doubt s (trim_recoverable disks m s st up) less).recoverable refl (lost_backed rs s (logged.Opened boot) backs) has
     (newer rs (durable s) backs.lasts less) (left.log_bytes ∙ r.fields.log_bytes) (current_same disks log m.log new a r left.current)
-    (rw (← r.fields.log_bytes, ← r.files.1) left.other))))
+    (rw (← r.fields.log_bytes, ← r.files.1) left.other) (rw (← r.files.1) left.filled))))
 
 -- ---- a refusal before the device was called
 

@@ -32,11 +32,11 @@ SuspendsAs n xid kind s = (suspend_refusal_of s n xid ≡ None) × (kind ≡ Act
 abbrev pub Ends : ℕ → Triple → Kind → State → Type 0
 Ends n xid kind s = ended_kind s.associations n xid ≡ Some kind
 
--- the branch with this XID, which is at work or in doubt, is completed so, wherever the log ends then
+-- the branch with this XID, which is at work or in doubt, is completed like this, wherever the log ends then
 abbrev pub BranchBecomes : Tables → Triple → (State → Triple → State) → Tables → Type 0
 BranchBecomes t xid act t' = BecomesAt (view_of t) (λ s. IsSome (known_of s.branches xid)) (λ s. act s xid) (view_of t')
 
--- what becomes of a branch of which nothing is logged: it is settled so, or stays as it is
+-- what becomes of a branch for which nothing is logged: it is settled by this fate, or stays as it is
 abbrev pub settled : Option Fate → Triple → State → State
 settled None xid s = s
 settled (Some Committed) xid s = committed s xid

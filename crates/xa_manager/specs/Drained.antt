@@ -13,6 +13,6 @@ use Rattle.xa_manager.specs.Believed.Parts.{branches_of, records_of}
 abbrev pub GivesBack : Branches → Records → Type 0
 GivesBack branches records = (s : State) → IsSound s → BranchesStandFor branches s → IsDrained (low_water s) records
 
--- so it is of a manager's: what the low water lets go has been given back
+-- the same of a manager's: what the low water frees has been given back
 abbrev pub HasGivenBack : {D : Type 0} → Manager D → Type 0
 HasGivenBack m = GivesBack (branches_of m) (records_of m)

@@ -21,7 +21,7 @@ use Rattle.xa_manager.specs.Believed.Together.{Member, PreparesFirst, asked_at, 
 use Rattle.xa_manager.specs.Turns.{reply_to}
 use Rattle.xa_manager.specs.View.{view_of}
 
--- the state to which a group leads of whose records this became
+-- the state to which a group leads if this became of its records
 abbrev pub group_after : Appending → State → List Part → State
 group_after Kept s ps = applied_all (records_of ps) s
 group_after Refused s ps = left_by_all ps s
@@ -40,7 +40,7 @@ TakesFirst t (Writes Prepare) xid Refused t' = GivesFirstRoomBack t xid t'
 TakesFirst t (Writes Prepare) xid Lost t' = GivesFirstRoomBack t xid t'
 TakesFirst t _ xid a t' = Unit {0}
 
--- what it makes of all of them, where they aren't lost
+-- what it makes of all of them, if they aren't lost
 abbrev pub TakeAnswers : Tables → List Joining → Appending → Tables → Type 0
 TakeAnswers t js a t' =
     (calls : List Asked) (s : State) → a ≢ Lost → AreTogether s (members_of calls js)

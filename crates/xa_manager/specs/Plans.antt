@@ -38,12 +38,12 @@ abbrev pub bytes_of : Body → List ℕ
 bytes_of (Small body) = body.items
 bytes_of (Long body) = body.items
 
--- Of this state the row is answered at once, and nothing is logged.
+-- In this state the row is answered at once, and nothing is logged.
 pub record AnswersAtOnce (row : Row) (xid : Triple) (reply : Reply) (fate : Option Fate) (s : State) : Type 0 where
   pub turn_is : row_turn row xid s ≡ AtOnce (answer reply (settled fate xid s))
   pub may : MaySettle fate xid s
 
--- Of this state the row appends its record, of this body, for which the log has the room.
+-- In this state the row appends its record, of this body, for which the log has the room.
 pub record Appends (row : Row) (xid : Triple) (body : List ℕ) (s : State) : Type 0 where
   pub turn_is : row_turn row xid s ≡ logs s (record_of row xid s) (refused_code row) (left_by row xid s)
   pub may : MayLog s (record_of row xid s)
@@ -68,7 +68,7 @@ TakesAnswer t row xid answer t' =
     → IsRecoverable (became row xid s answer).after
     → TablesStandFor (up_after answer) (view_of t') (became row xid s answer).after
 
--- Whichever state the manager stands for, the record is to be appended.
+-- Whichever state the manager stands for, the record has to be appended.
 pub record CanLog {D : Type 0} (disks : Ghosts D) (m : Manager D) (l : Logging) : Type 0 where
   pub size : IsBody m.log.format (bytes_of l.body)
   pub small : takes_memory l.row ≡ false → length (bytes_of l.body) ≤ MOST_SMALL

@@ -75,7 +75,7 @@ PreparedHaveKeys ps = AllByRecursion (λ p. HaveKeys p.writes) ps
 abbrev pub NoneHasWritten : Records → Type 0
 NoneHasWritten m = (t : ℕ) → own_of t m ≡ []
 
--- so it is of those branches in doubt that are left
+-- the same of those branches in doubt that are left
 pub record KeysUpto (left : List PreparedBranch) (m : Records) : Type 0 where
   pub limits : PreparedHaveKeys left
   pub apart : Pairwise prepares_before left

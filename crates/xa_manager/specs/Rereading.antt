@@ -27,12 +27,12 @@ use Rattle.xa_manager.specs.declared.doubt.Doubt.{Doubt}
 use Rattle.xa_manager.specs.declared.doubt.Doubt.TheVariants.{Boot, Record as LastRecord}
 use Rattle.xa_manager.specs.Believed.LogStands.{HasRecords}
 
--- what a state is once its last records' fates are known: the first so many survived
+-- what a state is once its last records' fates are known: the first k survived
 abbrev pub IsFate : ℕ → State → State → Type 0
 IsFate k s t = survived s k ≡ Some t
 
--- The log was read again: it has these bodies, and its records stand behind the state whose last records' fates are
--- known. They are those that stood behind the state before, and the first so many of those that were lost.
+-- The log was read again: it has these bodies, and its records back the state whose last records' fates are
+-- known. They are those that backed the state before, and the first `many` of those that were lost.
 pub record Found {D : Type 0} (disks : Ghosts D) (bodies : List (List ℕ)) (log : LogView D) (s : State) : Type 0 where
   pub state : State
   pub many : ℕ
@@ -47,7 +47,7 @@ pub record Found {D : Type 0} (disks : Ghosts D) (bodies : List (List ℕ)) (log
   pub end : log.end ≡ state.end
   pub alive : log.lost ≡ false
 
--- So many records were counted after where the log ended: as many as survived, if those that were lost are there.
+-- This many records were counted after where the log ended: as many as survived, if those that were lost are there.
 abbrev pub IsCounted : Option Doubt → ℕ → ℕ → Type 0
 IsCounted None counted many = Unit {0}
 IsCounted (Some (Boot boot)) counted many = Unit {0}

@@ -45,7 +45,7 @@ row_turn Rollback xid s = rollback_turn s xid
 row_turn (Decide direction) xid s = decide_turn s direction xid
 row_turn Forget xid s = forget_turn s xid
 
--- which rows may want memory: those whose record has writes
+-- which rows may need memory: those whose record has writes
 abbrev pub takes_memory : Row → Bool
 takes_memory (Writes writing) = true
 takes_memory _ = false
@@ -68,12 +68,12 @@ abbrev pub more_of : Writing → ℕ
 more_of Prepare = 1
 more_of CommitOnePhase = 0
 
--- what a branch is answered that has written nothing, of which nothing is logged
+-- what is answered for a branch that has written nothing, for which nothing is logged
 abbrev pub unwritten_code : Writing → ℤ
 unwritten_code Prepare = XA_RDONLY
 unwritten_code CommitOnePhase = XA_OK
 
--- What becomes of the append: a record that is refused is answered this code, and leaves this state
+-- What becomes of the append: a record that is refused is answered with this code, and leaves this state
 
 abbrev pub refused_code : Row → ℤ
 refused_code CommitTwoPhase = XA_RETRY

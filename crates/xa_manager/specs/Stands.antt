@@ -25,7 +25,7 @@ pub record StandsFor (m : View) (s : State) : Type 0 where
   pub records : RecordsStandFor (history_of s) m.records
   pub recoverable : IsRecoverable s
 
--- The same, but that what will be kept of the branches with these XIDs once they are prepared has its room.
+-- The same, except that what will be kept of the branches with these XIDs once they are prepared has its room.
 pub record StandsWithRooms (xids : List Triple) (m : View) (s : State) : Type 0 where
   pub name : m.name ≡ s.name
   pub log_bytes : m.log_bytes ≡ s.log_bytes
@@ -39,7 +39,7 @@ abbrev pub StandsWithRoom : Triple → View → State → Type 0
 StandsWithRoom xid m s = StandsWithRooms (xid ∷ []) m s
 
 -- Of a manager that is down only the sessions and the moment count: nothing is answered of branches and records, and the
--- next restart makes them anew from the log.
+-- next restart rebuilds them from the log.
 pub record StandsDown (m : View) (s : State) : Type 0 where
   pub name : m.name ≡ s.name
   pub log_bytes : m.log_bytes ≡ s.log_bytes

@@ -9,7 +9,7 @@ use Rattle.xa_manager.specs.View.{View}
 use Rattle.xa_model.specs.Logging.{prepared_count}
 use Rattle.xa_model.specs.State.{State, Standing, Up, Down, Ended, known_in}
 
--- what is known while the manager is up, else 0
+-- what is known while the manager is up, otherwise 0
 abbrev pub while_up : Standing → ℕ → ℕ
 while_up Up n = n
 while_up Down n = 0
@@ -30,7 +30,7 @@ status_of s versions = record {
   seconds = 0;
 }
 
--- the same with so many calls in its history
+-- the same with this many calls in its history
 abbrev pub status_behind : State → ℕ → ℕ → Status
 status_behind s versions calls = record (status_of s versions) { calls = calls }
 

@@ -56,7 +56,7 @@ pub record HasAppended {D : Type 0} (disks : Ghosts D) (group : List (List ℕ))
   pub leaves : disks.honest → (bodies : List (List ℕ)) → Stands disks bodies log
       → LeavesOnly disks log.disk log'.disk (Leaves log.log_bytes log.format bodies group)
 
--- whether the manager is up afterwards, and what it keeps of a record that was lost behind the log's end
+-- whether the manager is up afterwards, and what it keeps of a record that was lost after the log's end
 abbrev pub up_after : Appending → Bool
 up_after Kept = true
 up_after Refused = true
@@ -67,7 +67,7 @@ doubt_after Kept end = None
 doubt_after Refused end = None
 doubt_after Lost end = Some (doubt.Record end)
 
--- A group's bodies were journaled: where the log is alive and has the room, so much was appended.
+-- A group's bodies were journaled: if the log is alive and has the room, this much was appended.
 pub record HasJournaled {D : Type 0} (disks : Ghosts D) (group : List (List ℕ)) (a : Appending)
     (m m' : Manager D) : Type 0 where
   pub appended : m.log.lost ≡ false → m.log.end + AROUND_CLOSED + as_one group ≤ m.log.log_bytes
@@ -77,7 +77,7 @@ pub record HasJournaled {D : Type 0} (disks : Ghosts D) (group : List (List ℕ)
   pub tables : m'.tables ≡ m.tables
   pub outcome : m'.outcome ≡ m.outcome
 
--- A group that was written was settled: so much was appended to the log that it was written to.
+-- A group that was written was settled: this much was appended to the log that it was written to.
 pub record HasSettled {D : Type 0} (disks : Ghosts D) (w : Written) (a : Appending) (m m' : Manager D) : Type 0 where
   pub appended : (log : LogView D) (group : List (List ℕ)) → HasWritten disks group w log m.log
       → HasAppended disks group a log m'.log
@@ -129,9 +129,9 @@ pub record TakesTurn {D : Type 0} (disks : Ghosts D) (m : Manager D) (act : Stat
   pub takes : (s : State) → ManagerStandsFor disks m s → m.up ≡ true → Takes disks m (act s) reply outcome m'
   pub served : is_memory reply.detail ≡ false
 
--- What a call has done of an event, also while the manager is down: the answer is the step's with this outcome, and the
--- manager stands for the step's new state. What a restart finds in its files is said under the premises on the type of
--- disks.
+-- What a call has done for an event, also while the manager is down: the answer is the step's with this outcome, and
+-- the manager stands for the step's new state. What a restart finds in its files is said under the premises on the type
+-- of disks.
 pub record HasDone {D : Type 0} (disks : Ghosts D) (m : Manager D) (event : Event) (reply : Reply)
     (outcome : Outcome) (m' : Manager D) : Type 0 where
   pub steps : (s : State) → ManagerStandsFor disks m s → Trusts disks ⊎ (is_restart event ≡ false)
@@ -140,7 +140,7 @@ pub record HasDone {D : Type 0} (disks : Ghosts D) (m : Manager D) (event : Even
   pub crash : CrashesAs disks m event outcome m'
   pub served : is_memory reply.detail ≡ false
 
--- What a restart has done, of whichever state the manager stood for: as HasDone of its turn.
+-- What a restart has done, from whichever state the manager stood for: as HasDone of its turn.
 pub record HasRestarted {D : Type 0} (disks : Ghosts D) (m : Manager D) (reply : Reply) (outcome : Outcome)
     (m' : Manager D) : Type 0 where
   pub turn : (s : State) → ManagerStandsFor disks m s → Trusts disks
@@ -151,7 +151,7 @@ pub record HasRestarted {D : Type 0} (disks : Ghosts D) (m : Manager D) (reply :
   pub called : HasCalled disks outcome m.log m'.log
   pub served : is_memory reply.detail ≡ false
 
--- What a trim has done, of whichever state the manager stood for, which was up: as HasDone of its turn.
+-- What a trim has done, from whichever state the manager stood for, which was up: as HasDone of its turn.
 pub record HasTrimmed {D : Type 0} (disks : Ghosts D) (m : Manager D) (reply : Reply) (outcome : Outcome)
     (m' : Manager D) : Type 0 where
   pub turn : (s : State) → ManagerStandsFor disks m s → AnswersAs disks (taken (trim_turn s) outcome) reply m'
@@ -161,7 +161,7 @@ pub record HasTrimmed {D : Type 0} (disks : Ghosts D) (m : Manager D) (reply : R
   pub called : (s : State) → ManagerStandsFor disks m s → HasCalledToTrim disks outcome m.log m'.log
   pub served : is_memory reply.detail ≡ false
 
--- What a request leaves that wanted memory, as it may.
+-- What a request leaves that ran out of memory, as it may.
 pub record HasWanted {D : Type 0} (disks : Ghosts D) (m : Manager D) (request : Request) (m' : Manager D) : Type 0 where
   pub may : may_want request ≡ true
   pub stays : StaysFor disks m m'

@@ -17,7 +17,7 @@ use xa_xid::Xid;
 
 /// How a session comes to work for a branch, in each table alike, once nothing is refused. What can fail comes first.
 impl Tables {
-    /// Begins a branch, for which the session is at work. Answers its timestamp.
+    /// Begins a branch, for which the session is at work. Returns its timestamp.
     pub fn begin_branch(&mut self, session: u64, xid: &Xid) -> Result<u64, AllocError>
         requires connected { IsSome (opened_at self.old.sessions session) }
         requires free { TablesSay self.old (λ s. begin_refusal_of s session xid.now ≡ None) }
@@ -118,7 +118,7 @@ impl Tables {
         self.branches.mark(xid, code);
     }
 
-    /// The fate of a branch at work or of a prepared one is decided, and it is known no more.
+    /// The fate of a branch at work or of a prepared one is decided, and it is no longer known.
     pub fn finish_branch(&mut self, xid: &Xid, fate: Fate)
         ensures rolled_back { fate ≡ Fate.RolledBack → BranchBecomes self.old xid.now rolled_back self.new }
         ensures committed { fate ≡ Fate.Committed → BranchBecomes self.old xid.now committed self.new }
@@ -129,7 +129,7 @@ impl Tables {
         self.records.settle(timestamp, fate);
     }
 
-    /// What becomes of a branch of which nothing is logged.
+    /// What becomes of a branch for which nothing is logged.
     pub fn settle(&mut self, xid: &Xid, fate: Option<Fate>)
         ensures settles { Settles self.old fate xid.now self.new }
         ensures company { company_of self.new.sessions ≡ company_of self.old.sessions }
@@ -167,7 +167,7 @@ pub fn fate_of(direction: Direction) -> Fate
     }
 }
 
-/// How a boot begins while all goes on, and what is no longer needed of the versions.
+/// How a boot begins while all work goes on, and what is no longer needed of the versions.
 impl Tables {
     /// The boot of this number begins, after all that were logged: one table's change, said of all of them.
     pub fn begin_boot(&mut self, boot: u32)

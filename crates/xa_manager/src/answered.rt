@@ -18,7 +18,7 @@ use xa_xid::Xid;
 
 /// What the rows that log do in the tables before the append and after it.
 impl Tables {
-    /// Makes the room that a row keeps something in once its record is kept.
+    /// Makes room for what a row keeps once its record is kept.
     pub fn make_ready(&mut self, writing: Writing, xid: &Xid) -> Result<(), AllocError>
         ensures ok { OnOk result (MakesReady self.old (Row.Writes writing) xid.now self.new) }
         ensures err { OnErr result (TablesStay self.old self.new) }
@@ -70,7 +70,7 @@ impl Tables {
 
 /// What becomes of a branch that is prepared, once it is known whether its record stands.
 impl Tables {
-    /// Makes room for what is kept of the branch once it is prepared, beside what others have: one table's change, said of
+    /// Makes room for what is kept of the branch once it is prepared, besides what others have: one table's change, said of
     /// all of them.
     pub fn make_room(&mut self, xid: &Xid) -> Result<(), AllocError>
         ensures ok { OnOk result (MakesRoom self.old xid.now self.new) }
@@ -105,8 +105,8 @@ impl Tables {
     }
 }
 
-/// What becomes of a branch, once it is known whether the record that completes it stands. Of one that was lost nothing
-/// is told.
+/// What becomes of a branch, once it is known whether the record that completes it stands. If it was lost, nothing
+/// is said.
 impl Tables {
     pub fn take_committed(&mut self, xid: &Xid, answer: Appending)
         ensures kept { answer ≡ Appending.Kept → BranchBecomes self.old xid.now committed self.new }

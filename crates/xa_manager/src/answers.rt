@@ -8,8 +8,8 @@ use crate::together::Joining;
 use xa_model::Appending;
 
 impl Tables {
-    /// What the answer makes of each, one after another. Of records that were lost nothing is told: their rooms are to be
-    /// given back.
+    /// What the answer makes of each, one after another. If the records were lost, nothing is said: their rooms have to
+    /// be given back.
     pub fn take_answers(&mut self, members: &[Joining], answer: Appending)
         ensures takes { TakeAnswers self.old members.now answer self.new }
         ensures company { company_of self.new.sessions ≡ company_of self.old.sessions }

@@ -33,7 +33,7 @@ impl<D: Disk> Manager<D> {
     /// Answers a call of a session's work on a branch that is none of those of a pending group.
     ///
     /// # Errors
-    /// Gives any other request back: it is to wait until the group is finished.
+    /// Gives any other request back: it has to wait until the group is finished.
     pub fn work(
         &mut self,
         group: &PendingGroup,

@@ -57,7 +57,7 @@ fn ready(alloc: Global, durable: Durable, boot: u32, moment: u64) -> Result<Next
     })
 }
 
-/// What the bodies of a log come to, with the next boot made ready for this moment. The bodies are let go one by one.
+/// What the bodies of a log come to, with the next boot made ready for this moment. The bodies are freed one by one.
 /// All memory of a restart and of an opening is taken here, once the log was read, but for the log's buffer.
 pub(crate) fn plan(alloc: Global, moment: u64, bodies: Vec<Vec<u8>>) -> Result<Planned, LogFault>
     ensures { Plans moment (map (λ b. b.items) bodies.items) result }

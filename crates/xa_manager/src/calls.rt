@@ -33,7 +33,7 @@ impl<D: Disk> Manager<D> {
     }
 
     /// Answers a request of a session: the refusals that come before its row, then the row. A manager that is down
-    /// comes to the first three alone.
+    /// gets only to the first three rows.
     pub(crate) fn answer(&mut self, session: u64, request: Request) -> Result<Done, AllocError>
         requires { IsAsked request }
         ensures ok { IfOk result

@@ -44,8 +44,8 @@ impl Tables {
         Ok(prepared)
     }
 
-    /// What lasts, where `boot` is the greatest that was logged: the same as the log's records come to. Each key and
-    /// each branch that lasts is gone over once, and copied.
+    /// What lasts, if `boot` is the greatest that was logged: the same as the log's records come to. Each key and
+    /// each branch that lasts is visited once, and copied.
     ///
     /// # Errors
     /// Out of memory.

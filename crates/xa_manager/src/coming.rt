@@ -28,7 +28,7 @@ impl Tables {
         self.sessions.connect()
     }
 
-    /// The session is connected no more, its associations end, and their branches are marked.
+    /// The session is no longer connected, its associations end, and their branches are marked.
     pub fn hangup(&mut self, session: u64)
         ensures up { TablesFollow self.old (λ s. hang_up_by s session) (plain (pos 0)) self.new }
         ensures down { TablesFollowDown self.old (λ s. hang_up_by s session) (plain (pos 0)) self.new }

@@ -18,7 +18,7 @@ use xa_xid::Xid;
 
 /// What the rows of the branch table come to before their append: how branches are prepared and completed. Nothing changes.
 impl<D: Disk> Manager<D> {
-    /// Of a prepare, and of a commit in one phase. A branch without writes isn't logged: it counts as committed. One
+    /// For a prepare, and for a commit in one phase. A branch without writes isn't logged: it counts as committed. One
     /// that would leave too little room in the log is rolled back.
     pub(crate) fn plan_written(&self, writing: Writing, xid: &Xid) -> Result<Plan, AllocError>
         requires name { IsWithinLimits xid.now }
@@ -46,7 +46,7 @@ impl<D: Disk> Manager<D> {
         Ok(Plan::Logs(Logging::long(writing, xid, body)))
     }
 
-    /// Of a commit in two phases. Takes no memory.
+    /// For a commit in two phases. Takes no memory.
     pub(crate) fn plan_commit(&self, xid: &Xid) -> Plan
         requires name { IsWithinLimits xid.now }
         ensures { IsPlan D.Disk self.now Row.CommitTwoPhase xid.now result }
@@ -64,7 +64,7 @@ impl<D: Disk> Manager<D> {
         Plan::Logs(Logging::small(Row::CommitTwoPhase, xid, &record))
     }
 
-    /// Of a rollback: of a branch at work nothing is logged. Takes no memory.
+    /// For a rollback: for a branch at work nothing is logged. Takes no memory.
     pub(crate) fn plan_rollback(&self, xid: &Xid) -> Plan
         requires name { IsWithinLimits xid.now }
         ensures { IsPlan D.Disk self.now Row.Rollback xid.now result }

@@ -13,7 +13,7 @@ pub struct Done {
 }
 
 impl Done {
-    /// Of a call that made no device call.
+    /// For a call that made no device call.
     pub fn now(reply: Reply) -> Done
         ensures { result ≡ record { reply = reply; outcome = Outcome.Quiet } }
     {
@@ -23,7 +23,7 @@ impl Done {
         }
     }
 
-    /// Of a call that appended a record: the code of one that was refused is the call's own.
+    /// For a call that appended a record: the code of one that was refused is the call's own.
     pub fn appended(answer: Appending, refused: Code) -> Done
         ensures { result ≡ record { reply = reply_to refused answer; outcome = Outcome.Appended answer } }
     {

@@ -96,7 +96,7 @@ fn has_wrong_count(request: &Request) -> bool
     }
 }
 
-/// A moment that is told is not below the last one.
+/// Whether a request tells a moment below the last one.
 fn has_wrong_moment(last: u64, request: &Request) -> bool
     ensures { result ≡ has_wrong_moment last request.now }
 {
@@ -117,7 +117,7 @@ fn is_invalid(name: &Bytes, moment: u64, request: &Request) -> bool
         || has_wrong_moment(moment, request)
 }
 
-/// The refusals that come before the row of a call. The session is connected if there is a word on whether it is
+/// The refusals that come before the row of a call. The session is connected if `session` says whether it is
 /// opened.
 pub fn early_refusal(
     up: bool,

@@ -60,7 +60,7 @@ impl Tables {
         self.branches.loose(xid) > 0
     }
 
-    /// Of which kind the association is that a start with TMRESUME takes, where it isn't refused.
+    /// The kind of the association that a start with TMRESUME takes, if it isn't refused.
     pub fn resumed_kind(&self, session: u64, xid: &Xid) -> Kind
         ensures { TablesSay self.now (λ s. resume_refusal_of s session xid.now ≡ None
             → resumed_kind s.associations session xid.now ≡ Some result) }
@@ -72,7 +72,7 @@ impl Tables {
         }
     }
 
-    /// Of which kind the association is that an end with TMSUCCESS or TMFAIL takes, where it isn't refused.
+    /// The kind of the association that an end with TMSUCCESS or TMFAIL takes, if it isn't refused.
     pub fn ended_kind(&self, session: u64, xid: &Xid) -> Kind
         ensures { TablesSay self.now (λ s. leave_refusal_of s session xid.now ≡ None
             → ended_kind s.associations session xid.now ≡ Some result) }

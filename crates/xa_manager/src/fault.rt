@@ -8,10 +8,17 @@ pub enum ManagerFault {
     /// The files are no log that can be read.
     #[error("{0}")]
     Log(OpenFault),
-    /// The record with this index is none.
+    /// The log is in the second file, and the first one is empty, in which every log is made.
+    #[error("first file missing")]
+    MissingFirst,
+    /// The log in the first file is of generation 2 or more, and the second one is empty, to which the second generation
+    /// went.
+    #[error("second file missing")]
+    MissingSecond,
+    /// What has this index is no record.
     #[error("record {0} malformed")]
     Malformed(usize),
-    /// The record with this index may not stand behind those before it.
+    /// The record with this index may not follow those before it.
     #[error("record {0} out of order")]
     Order(usize),
     /// The number of the boot would be too great.
@@ -26,7 +33,7 @@ pub enum ManagerFault {
     /// There was no memory.
     #[error("no memory")]
     Memory,
-    /// A setting is out of its limits.
+    /// A setting is outside its limits.
     #[error("bad setting")]
     Setting,
 }

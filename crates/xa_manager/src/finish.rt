@@ -12,9 +12,9 @@ use xa_frame::Reply;
 
 impl<D: Disk> Manager<D> {
     /// Answers the calls of a pending group, by the answer of its sync: each acts as one step at its place in the group.
-    /// Gives their replies in the order of the group, each with the place of its call among those that were asked, and the
-    /// calls back. Of a call that has no reply nothing has been done: it logs nothing, or may not stand in the group. It is
-    /// to be called by itself afterwards. Takes no memory.
+    /// Returns their replies in the order of the group, each with the place of its call among those that were asked, and
+    /// the calls back. For a call that has no reply nothing has been done: it logs nothing, or may not stand in the group.
+    /// It has to be called alone afterwards. Takes no memory.
     pub fn finish_group(
         &mut self,
         group: PendingGroup,

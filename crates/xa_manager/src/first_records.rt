@@ -32,7 +32,7 @@ fn longest(bodies: &[SharedBytes]) -> usize
     bodies.iter().fold(0, |most, body| most.max(body.len()))
 }
 
-/// Logs the first records of a boot: a log that was just made gets its first one, and else a new file begins with them.
+/// Logs a boot's first records: a log that was just made gets its first one, otherwise a new file begins with them.
 pub(crate) fn log_first<D: Disk>(log: &mut Log<D>, is_new: bool, bodies: &[SharedBytes]) -> Appended
     requires some { 1 ≤ length bodies.now }
     requires modern { is_new ≡ true → log.old.format ≡ newest }

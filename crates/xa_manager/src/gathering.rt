@@ -51,7 +51,7 @@ impl Together {
         }
     }
 
-    /// Adds a call, behind the others.
+    /// Adds a call, after the others.
     fn push(&mut self, at: usize, logging: Logging, alloc: Global) -> Result<(), AllocError>
         requires { self.old.bytes + length (bytes_of logging.body) ≤ MOST_BODY }
         ensures { OnOk result (StandsLast self.old at logging.row logging.xid (bytes_of logging.body) self.new) }
@@ -71,7 +71,7 @@ impl Together {
 }
 
 impl<D: Disk> Manager<D> {
-    /// What a call appends that is asked with others. None where it logs nothing: it is refused, or answered at once.
+    /// What a call appends that is asked with others. None if it logs nothing: it is refused, or answered at once.
     /// Nothing changes.
     fn plan_of(&self, session: u64, request: &Request) -> Result<Option<Logging>, AllocError>
         requires { IsAsked request.now }
@@ -108,7 +108,7 @@ impl<D: Disk> Manager<D> {
     }
 
     /// Takes a call into the group. One that logs nothing, or may not stand after those that were taken, is left out,
-    /// to be called by itself afterwards. Nothing else changes.
+    /// to be called alone afterwards. Nothing else changes.
     fn take_in(&self, at: usize, call: &Asked, together: &mut Together) -> Result<(), AllocError>
         requires { IsAsked call.now.request }
         ensures { OnOk result
@@ -143,7 +143,7 @@ impl<D: Disk> Manager<D> {
         Ok(())
     }
 
-    /// Makes room for the group's records in the log's buffer. Whether there was memory for it, and they may be so long.
+    /// Makes room in the log's buffer for the group's records. Returns whether there was memory, and they may be that long.
     pub(crate) fn has_reserved(&mut self, together: &Together) -> bool
         requires some { 1 ≤ length together.now.bodies.items }
         ensures holds { result ≡ true → Holds self.new.log (as_one (bodies_of together.now.bodies.items)) }
@@ -154,7 +154,7 @@ impl<D: Disk> Manager<D> {
         self.log.reserve_group(Group::Many(&together.bodies)) == Ok(true)
     }
 
-    /// Takes all memory that the group still wants: for what is kept of the branches that are prepared, and room for
+    /// Takes all memory that the group still needs: for what is kept of the branches that are prepared, and room for
     /// its records in the log's buffer. The manager stands for what it stood for.
     pub(crate) fn take_memory_together(&mut self, together: &Together) -> Result<(), AllocError>
         requires some { 1 ≤ length together.now.bodies.items }

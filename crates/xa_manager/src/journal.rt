@@ -18,7 +18,7 @@ use xa_model::Appending;
 
 /// How records come into the log.
 impl<D: Disk> Manager<D> {
-    /// Whether the log has room for a record with a body of so many bytes, with so many more prepared branches, beside
+    /// Whether the log has room for a record with a body of `len` bytes, with `more` more prepared branches, besides
     /// what it keeps free. No log takes a body over `MOST_BODY`, nor does one that isn't of the newest format, which
     /// that of a manager that is up always is.
     pub(crate) fn has_room(&self, len: usize, more: u64) -> bool
@@ -39,7 +39,7 @@ impl<D: Disk> Manager<D> {
         leaves_room(end, prepared, completed, self.tables.log_bytes)
     }
 
-    /// Appends the records of these bodies, for which the buffer has room, by one write and one sync. Where they are
+    /// Appends the records of these bodies, for which the buffer has room, by one write and one sync. If they are
     /// lost the manager is down until it is restarted. Takes no memory.
     pub(crate) fn append(&mut self, group: Group<'_>) -> Appending
         requires some { 1 ≤ length (bodies_in group) }
@@ -63,7 +63,7 @@ impl<D: Disk> Manager<D> {
     }
 }
 
-// What the log's answer to records makes of whether a manager is up, and of its doubt, where they begin here.
+// What the log's answer to records makes of whether a manager is up, and of its doubt, if they begin here.
 fn became(up: &mut bool, doubt: &mut Option<Doubt>, appended: Appended, end: u64) -> Appending
     ensures answer { appended ≢ Appended.Full → appended ≡ as_appended result }
     ensures up { up.old ≡ true → up.new ≡ up_after result }

@@ -10,7 +10,7 @@ use xa_xid::Xid;
 
 /// The row of the list of known branches.
 impl Tables {
-    /// Lists the first so many of the known branches above this XID, or of all. Nothing changes.
+    /// Lists the first `count` of the known branches above this XID, or of all. Nothing changes.
     #[tactic(auto, using(crate::proofs::Replying::branches_fresh))]
     pub fn known_branches(&self, count: u32, after: Option<&Xid>) -> Result<Reply, AllocError>
         requires { count ≤ MOST_XIDS }

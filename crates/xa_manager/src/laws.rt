@@ -5,17 +5,17 @@ ghost use Rattle.xa_manager.specs.Believed.Promises.{ReachedPromises, OnePromise
 
 use xa_disk::{Disk, MemDisk};
 
-/// What a read gives of a log's two files is a log of the records of the state that it stands behind.
+/// What a read gives of a log's two files is a log of the records of the state that it backs.
 pub fn read_leaves<D: Disk>()
     ensures { ReadLeaves D.Disk }
 {}
 
-/// So it is of a manager's log, for each state that the manager stands for.
+/// The same holds of a manager's log, for each state that the manager stands for.
 pub fn read_stands<D: Disk>()
     ensures { ReadStands D.Disk }
 {}
 
-/// So is what a crash leaves of the two files, where nothing is left to chance.
+/// So is what a crash leaves of the two files, if nothing is left to chance.
 pub fn crash_leaves<D: Disk>()
     ensures { CrashLeaves D.Disk }
 {}
@@ -25,7 +25,7 @@ pub fn pending_leaves<D: Disk>()
     ensures { PendingLeaves D.Disk }
 {}
 
-/// The records of such files come to what lasts of the state: where the fate of a record is unknown, with it or without
+/// The records of such files come to what lasts of the state: if the fate of a record is unknown, with it or without
 /// it.
 pub fn files_last()
     ensures settled { FilesLast }
@@ -44,7 +44,7 @@ pub fn reached_promises()
     ensures { ReachedPromises }
 {}
 
-/// So it is behind each connect, call and hang-up of a manager that stood for such a state.
+/// The same holds after each connect, call and hang-up of a manager that stood for such a state.
 pub fn one_promises<D: Disk>()
     ensures { OnePromises D.Disk }
 {}

@@ -3,7 +3,7 @@
 //! The modules:
 //!
 //! - `manager`: `Manager`, its calls; `calls`, the way of a request; `early`, the refusals before its row; `replies`:
-//!   `connect_reply` and `memory_reply`, those to a connect and to want of memory
+//!   `connect_reply` and `memory_reply`, those to a connect and to a lack of memory
 //! - the rows, by table: of sessions in `coming`, of associations in `work`, of branches in `completion`, of the
 //!   operator in `operator`, of gets and puts in `data`, of recovery scans in `recovery`, of time limits in `time_limits`,
 //!   of the list of known branches in `known_list`
@@ -16,7 +16,7 @@
 //! - a group whose sync is made apart: `pending`, `PendingGroup`, whose records are written; `beside`, what sessions are
 //!   answered meanwhile (`working`, the rows of their work); `finish`, how its calls are answered
 //! - a boot: `settings`, `Settings`; `opening`, `restarting` or `trimming`, how it begins; `boots`, what is made
-//!   ready for it, and `rebuilding` its tables, of writes that are let go many together (`spent`); `first_records`, how an
+//!   ready for it, and `rebuilding` its tables, of writes that are freed many together (`spent`); `first_records`, how an
 //!   opening logs it; `fault`: `ManagerFault`, why there is no manager, and `refused`: `RefusedOpening`, with the disks
 //! - `laws`: `read_leaves`, `read_stands`, `crash_leaves` and `pending_leaves`, that a read and a crash leave the records
 //!   of the state;

@@ -8,7 +8,7 @@ use xa_limits::{DECIDED_ROOM, LENGTH_BYTES, PREPARED_ROOM};
 use xa_log::{Format, end_of};
 use xa_shared::SharedBytes;
 
-/// The room that a log keeps for so many prepared branches and completed XIDs. None where it is over 2^64 - 1 bytes.
+/// The room that a log keeps for this many prepared branches and completed XIDs. None if it is over 2^64 - 1 bytes.
 fn kept_room(prepared: u64, completed: u64) -> Option<u64>
     ensures { result ≡ (if nat_lt (PREPARED_ROOM * prepared + DECIDED_ROOM * completed) (2 ^ 64)
         then Some (PREPARED_ROOM * prepared + DECIDED_ROOM * completed) else None) }
@@ -17,7 +17,7 @@ fn kept_room(prepared: u64, completed: u64) -> Option<u64>
     kept.checked_add(completed.checked_mul(DECIDED_ROOM)?)
 }
 
-/// Whether a log that ends there keeps that room.
+/// Whether a log that ends at `end` keeps that room.
 pub(crate) fn leaves_room(end: u64, prepared: u64, completed: u64, log_bytes: u64) -> bool
     ensures { result ≡ log_room log_bytes end prepared completed }
 {

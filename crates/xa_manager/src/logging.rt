@@ -19,7 +19,7 @@ use xa_log::Group;
 use xa_xid::Xid;
 
 impl<D: Disk> Manager<D> {
-    /// A call that logs, by itself.
+    /// A call that logs, alone.
     pub(crate) fn log_call(&mut self, row: Row, xid: &Xid) -> Result<Done, AllocError>
         requires up { self.old.up ≡ true }
         requires name { IsWithinLimits xid.now }
@@ -59,7 +59,7 @@ impl<D: Disk> Manager<D> {
         }
     }
 
-    /// Takes all memory that is still wanted: for what is kept of a branch that is prepared, and room for a record with
+    /// Takes all memory that is still needed: for what is kept of a branch that is prepared, and room for a record with
     /// writes in the log's buffer.
     fn take_memory(&mut self, logging: &Logging) -> Result<(), AllocError>
         requires up { self.old.up ≡ true }

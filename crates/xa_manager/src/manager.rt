@@ -27,7 +27,7 @@ use xa_model::{Event, Outcome};
 /// (Bernstein, Hadzilacos and Goodman, 5.3).
 ///
 /// Whatever state of the sequential resource manager it stood for before a call, it answers as that manager's step and
-/// then stands for the step's new state. Where memory was wanted, it stands for whatever it stood for.
+/// then stands for the step's new state. If memory ran out, it stands for whatever it stood for.
 #[derive(Debug, Drop)]
 pub struct Manager<D> {
     pub(crate) tables: Tables,
@@ -39,8 +39,8 @@ pub struct Manager<D> {
 }
 
 impl<D: Disk> Manager<D> {
-    /// Connects a session, whose number is the least from 1 that is free. `Full` comes where 1,024 are connected,
-    /// `Memory` where there was no memory; neither changes what the manager stands for.
+    /// Connects a session, whose number is the least from 1 that is free. `Full` comes if 1,024 are connected,
+    /// `Memory` if there was no memory; neither changes what the manager stands for.
     pub fn connect(&mut self) -> Result<u64, ConnectFault>
         ensures answered { FullyAnswered D.Disk self.old Event.Connect (connect_reply result) self.new }
         ensures came { IfOk result (λ n. Gains (connected_to self.old) n (connected_to self.new)) }
@@ -61,9 +61,9 @@ impl<D: Disk> Manager<D> {
     }
 
     /// Answers a request of a session, by its number, with a code of C193. The reply has place 0. Its detail is Memory
-    /// where there was no memory: then the code is XAER_RMFAIL, and nothing changed. Open, Close, End, a commit in two
+    /// if there was no memory: then the code is XAER_RMFAIL, and nothing changed. Open, Close, End, a commit in two
     /// phases, Rollback, Forget, Decide, Doom, Timeout and Tick take no memory. After each call the records have given back
-    /// what the low water lets go.
+    /// what the low water frees.
     #[tactic(auto, using(crate::proofs::Replying::bare_fresh))]
     pub fn call(&mut self, session: u64, request: Request) -> Reply
         requires { IsAsked request }
@@ -86,7 +86,7 @@ impl<D: Disk> Manager<D> {
     }
 
     /// Hangs a session up: each association of its own ends, and the branch is marked XA_RBCOMMFAIL unless it is
-    /// marked. The session's number is free again. Of a session that isn't connected nothing changes. Takes no memory.
+    /// marked. The session's number is free again. If the session isn't connected, nothing changes. Takes no memory.
     pub fn hangup(&mut self, session: u64)
         ensures answered { FullyAnswered D.Disk self.old (Event.Hangup session) (plain (pos 0)) self.new }
         ensures gone { Loses (connected_to self.old) session (connected_to self.new) }
@@ -116,7 +116,7 @@ impl<D: Disk> Manager<D> {
         self.tables.sessions.connected() as u64
     }
 
-    /// Whether a session has an association of its own: it is at work for a branch, or has suspended that.
+    /// Whether a session has an association of its own: it is at work for a branch, or has suspended its work for one.
     pub fn has_association(&self, session: u64) -> bool
         ensures { (s : State) → ManagerStandsFor D.Disk self.now s
             → result ≡ list_any (is_of_session session) s.associations }
@@ -124,7 +124,7 @@ impl<D: Disk> Manager<D> {
         self.tables.sessions.holds_any(session)
     }
 
-    /// Where the log's next record begins, of a manager that is up.
+    /// Where the log's next record begins, if the manager is up.
     pub fn log_end(&self) -> u64
         ensures { (s : State) → ManagerStandsFor D.Disk self.now s → s.standing ≡ Up → result ≡ s.end }
     {
@@ -132,7 +132,7 @@ impl<D: Disk> Manager<D> {
     }
 
     /// How many versions of all keys are kept, with one for the absence of each key that a branch found absent or was
-    /// the first to write. Those that nobody can read any more are dropped as the calls go on.
+    /// the first to write. Those that nobody can read are dropped as the calls go on.
     pub fn versions(&self) -> u64
         ensures { result ≡ versions_of self.now }
     {
@@ -185,15 +185,15 @@ impl<D: Disk> Manager<D> {
     /// would read one at a time on one copy of the records; and each branch that was answered as prepared is listed
     /// until its completion is asked for.
     ///
-    /// A connect answers 0 with its number, XAER_RMERR with detail Limit where no more may connect, or XAER_RMFAIL with
-    /// detail Memory. A hang-up answers 0. Room for the replies is made first, and its want changes nothing.
+    /// A connect answers 0 with its number, XAER_RMERR with detail Limit if no more may connect, or XAER_RMFAIL with
+    /// detail Memory. A hang-up answers 0. Room for the replies is made first; if there is none, nothing changes.
     pub fn drive(&mut self, events: Vec<Event>) -> Result<Vec<Reply>, AllocError>
         requires { AreEvents events.items }
         ensures history { IfOk result (λ replies. AnswersAll D.Disk self.old events.items replies.items self.new) }
         ensures promises { IfOk result (λ replies. PromisesAll D.Disk self.old events.items replies.items self.new) }
-        // What is said of a call by itself is said of each, what a crash at any moment of it leaves among it.
+        // What is said of a single call is said of each, what a crash at any moment of it leaves among it.
         ensures each { IfOk result (λ replies. RunsAll D.Disk self.old events.items replies.items self.new) }
-        // The outcomes of that history tell of no more failures than the disks counted.
+        // The outcomes of that history report no more failures than the disks counted.
         ensures counted { IfOk result (λ replies. CountsAll D.Disk self.old events.items replies.items self.new) }
         ensures pinned { IfOk result (λ replies. ArePinned events.items replies.items) }
         ensures err { OnErr result (StaysFor D.Disk self.old self.new) }

@@ -1,7 +1,8 @@
-ghost use Rattle.std.specs.Prelude.{ℕ, ◌≡◌, ◌≤◌, ◌<◌, ◌⊎◌, ◌↔◌, Bool, true, [], IfOk, IfErr, OnOk, IsErrOf, IsErrAnd, IsSomeAnd, Some, None, length};
+ghost use Rattle.std.specs.Prelude.{ℕ, List, ◌≡◌, ◌≢◌, ◌≤◌, ◌<◌, ◌⊎◌, ◌↔◌, Bool, true, false, [], IfOk, IfErr, IfSome, IfNone, OnOk, IsErrOf, IsErrAnd, IsSomeAnd, Some, None, length};
 ghost use Rattle.xa_limits.specs.declared.TheConstants.{MOST_LOG};
 ghost use Rattle.xa_log.specs.{Believed.Chain.newest, Believed.LogView.LogView};
-ghost use Rattle.xa_log.specs.Opened.{IsOpened, found_in, found_in_first, passed_in, passed_of, limit_of};
+ghost use Rattle.xa_log.specs.{Believed.Unfit.missing_of, declared.unfit.Unfit.TheVariants.Neither};
+ghost use Rattle.xa_log.specs.Opened.{IsOpened, WasFound, found_in, found_in_first, passed_in, passed_of, limit_of};
 ghost use Rattle.xa_log.specs.Believed.Pair.{generation, pair_fault, logged_pair};
 ghost use Rattle.xa_log.specs.{Reading.Ends, Reading.bodies_of};
 ghost use Rattle.xa_log.specs.{Believed.Stands.EndsBehind, Believed.TwoFiles.first_of, Believed.TwoFiles.second_of};
@@ -9,7 +10,7 @@ ghost use Rattle.xa_model.specs.{declared.outcome.Outcome.TheVariants.Reread, de
 ghost use Rattle.xa_model.specs.{Invariants.Loggable.IsRecoverable, Turn.Reopened, Step.step, History.fresh};
 ghost use Rattle.xa_manager.specs.{Believed.CrashOpening.CrashesOpening, Believed.Files.FilesStandFor};
 ghost use Rattle.xa_manager.specs.{Believed.LogStands.Trusts, Managed.ManagerStandsFor};
-ghost use Rattle.xa_manager.specs.Believed.Opening.{IsBadSetting, IsFound, HasBegun, HasBegunOn};
+ghost use Rattle.xa_manager.specs.Believed.Opening.{IsBadSetting, IsFound, Misses, HasBegun, HasBegunOn};
 ghost use Rattle.xa_manager.specs.Believed.Opening.{LogRefused, BootRefused, OpenRefused, begun_manager};
 ghost use Rattle.xa_manager.specs.Believed.Parts.{log_of};
 ghost use Rattle.xa_manager.specs.Believed.Refused.{LeavesFinding, LogsBoot, LeavesBegin, LeavesLogging, LeavesRefused};
@@ -27,7 +28,7 @@ use xa_assoc::Sessions;
 use xa_codes::Bytes;
 use xa_disk::Disk;
 use xa_limits::{LEAST_LOG, MOST_INFO, MOST_LOG};
-use xa_log::{Appended, Log, OpenFault, Opened, PassedOver, create_on, open_on};
+use xa_log::{Appended, Log, OpenFault, Opened, PassedOver, Unfit, create_on, open_on};
 use xa_model::Outcome;
 
 impl<D: Disk + Drop> Manager<D> {
@@ -41,6 +42,7 @@ impl<D: Disk + Drop> Manager<D> {
         ensures setting { IsErrOf result ManagerFault.Setting ↔ IsBadSetting settings.name settings.log_bytes }
         ensures begun { IfOk result
             (HasBegunOn D.Disk (D.seen first) (D.seen second) settings.name settings.log_bytes) }
+        ensures there { D.honest → OnOk result (missing_of (D.seen first) (D.seen second) ≡ Neither) }
         // On empty disks it is a new manager; on files that stand for a state it stands for that state's opening.
         ensures fresh { Trusts D.Disk → D.seen first ≡ [] → D.seen second ≡ []
             → IfOk result (λ m. ManagerStandsFor D.Disk m (fresh settings.name settings.log_bytes)) }
@@ -58,10 +60,10 @@ impl<D: Disk + Drop> Manager<D> {
         }
     }
 
-    /// Opens a manager on two disks: where both are empty it makes a log, and else it reads the log that they have. A
+    /// Opens a manager on two disks: if both are empty it makes a log, and otherwise it reads the log that they have. A
     /// new boot begins with what lasts of it; `passed_over` tells which records the log leaves out, if any. A fault gives the
-    /// disks back. Faults are looked for in this order: `Setting`, the log's own, `Memory`, `Malformed`, `Order`, `Boots`,
-    /// `LogFull`, `Device`. Where there is a log, none of them but the last has written anything.
+    /// disks back. Faults are looked for in this order: `Setting`, the log's own, `MissingFirst` or `MissingSecond`, `Memory`,
+    /// `Malformed`, `Order`, `Boots`, `LogFull`, `Device`. If there is a log, none of them but the last has written anything.
     pub fn open_returning(
         alloc: Global,
         mut first: D,
@@ -73,6 +75,7 @@ impl<D: Disk + Drop> Manager<D> {
             ↔ IsBadSetting settings.name settings.log_bytes }
         ensures begun { IfOk result
             (HasBegunOn D.Disk (D.seen first) (D.seen second) settings.name settings.log_bytes) }
+        ensures there { D.honest → OnOk result (missing_of (D.seen first) (D.seen second) ≡ Neither) }
         ensures fresh { Trusts D.Disk → D.seen first ≡ [] → D.seen second ≡ []
             → IfOk result (λ m. ManagerStandsFor D.Disk m (fresh settings.name settings.log_bytes)) }
         ensures reopens { Trusts D.Disk → (s : State) → IsRecoverable s
@@ -102,6 +105,13 @@ impl<D: Disk + Drop> Manager<D> {
         }
         match find_log(alloc, &mut first, &mut second, log_bytes) {
             Ok((opened, is_new)) => {
+                if let Some(fault) = missing_fault(&opened, is_new) {
+                    return Err(RefusedOpening {
+                        fault,
+                        first,
+                        second,
+                    });
+                }
                 *passed_over = opened.passed_over();
                 let (log, bodies) = Log::on(first, second, opened);
                 begin(alloc, log, bodies, is_new, name, log_bytes)
@@ -112,6 +122,25 @@ impl<D: Disk + Drop> Manager<D> {
                 second,
             }),
         }
+    }
+}
+
+/// Which file is missing of two that were found to have a log: none if it was made.
+fn missing_fault(opened: &Opened, is_new: bool) -> Option<ManagerFault>
+    ensures some { IfSome result
+        (λ e. (is_new ≡ false) × ((e ≡ ManagerFault.MissingFirst) ⊎ (e ≡ ManagerFault.MissingSecond))
+        × ((first second : List ℕ) → WasFound first second opened.now → Misses e first second)) }
+    ensures other { IfSome result (λ e. e ≢ ManagerFault.Setting) }
+    ensures none { IfNone result
+        (is_new ≡ false → (first second : List ℕ) → WasFound first second opened.now → missing_of first second ≡ Neither) }
+{
+    if is_new {
+        return None;
+    }
+    match opened.missing() {
+        Unfit::MissingFirst => Some(ManagerFault::MissingFirst),
+        Unfit::MissingSecond => Some(ManagerFault::MissingSecond),
+        Unfit::Neither | Unfit::StrayFirst | Unfit::StraySecond => None,
     }
 }
 
@@ -213,7 +242,7 @@ fn begin_on<D: Disk>(
     })
 }
 
-/// The log that two disks have, and whether it was made: one is made where both are empty, and else the one that is
+/// The log that two disks have, and whether it was made: one is made if both are empty, and otherwise the one that is
 /// there is read. Both lengths are asked first.
 fn find_log<D: Disk>(
     alloc: Global,
@@ -227,6 +256,7 @@ fn find_log<D: Disk>(
     ensures made { IfOk result (λ r. r.1 ≡ true → ((found_in r.0).bodies.items ≡ []) × (found_in_first r.0 ≡ true)) }
     ensures modern { IfOk result (λ r. r.1 ≡ true → (found_in r.0).format ≡ newest) }
     ensures left { D.honest → IfOk result (λ r. passed_in r.0 ≡ passed_of (D.seen first.old) (D.seen second.old)) }
+    ensures found { D.honest → IfOk result (λ r. r.1 ≡ false → WasFound (D.seen first.old) (D.seen second.old) r.0) }
     ensures made_beside { D.honest → IfOk result (λ r. r.1 ≡ true → D.seen second.new ≡ []) }
     ensures made_of { D.honest
         → IfOk result (λ r. r.1 ≡ true → (D.seen first.old ≡ []) × (D.seen second.old ≡ [])) }

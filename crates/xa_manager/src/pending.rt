@@ -14,7 +14,7 @@ use xa_disk::{Disk, Syncer};
 use xa_frame::Reply;
 use xa_log::{Group, Written};
 
-/// Calls that are asked together, as a group that is pending: their records are written, and the sync is to follow.
+/// Calls that are asked together, as a group that is pending: their records are written, and the sync has to follow.
 #[derive(Debug, Drop)]
 pub struct PendingGroup {
     pub(crate) calls: Vec<Asked>,
@@ -37,10 +37,10 @@ impl<D: Disk> Manager<D> {
     /// Begins a group of calls of different sessions: those that log, each on an XID of its own, the prepares first. Their
     /// records share one write, which is made here, and one sync, which is left to whoever has the `syncer`. Until the group
     /// is finished (`finish_group`), the manager answers sessions' work on other branches (`work`), and nothing else. All
-    /// memory that finishing it wants is taken before the write.
+    /// memory that finishing it needs is taken before the write.
     ///
     /// # Errors
-    /// Gives the calls back where none of them logs, or out of memory: then nothing changed.
+    /// Gives the calls back if none of them logs, or out of memory: then nothing changed.
     pub fn begin_group(&mut self, calls: Vec<Asked>) -> Result<PendingGroup, Vec<Asked>>
         requires asked { AllByRecursion (λ c. IsAsked c.request) calls.items }
         ensures ok { IfOk result

@@ -15,12 +15,12 @@ use xa_xid::Xid;
 /// What a row that logs comes to before its append.
 #[derive(Debug, Drop)]
 pub enum Plan {
-    /// It is answered, nothing is logged, and the branch is settled so, or stays as it is.
+    /// It is answered, nothing is logged, and the branch is settled by this fate, or stays as it is.
     Now(Reply, Option<Fate>),
     Logs(Logging),
 }
 
-/// A record that is to be appended: the row that asks for it and the XID tell what the device's answer makes of it.
+/// A record to append: the row that asks for it and the XID tell what the device's answer makes of it.
 #[derive(Debug, Drop)]
 pub struct Logging {
     pub row: Row,
@@ -36,7 +36,7 @@ pub enum Body {
 }
 
 impl Logging {
-    /// Of a record with what the branch wrote.
+    /// For a record with what the branch wrote.
     pub fn long(writing: Writing, xid: &Xid, body: Vec<u8>) -> Logging
         ensures row { result.row ≡ Row.Writes writing }
         ensures xid { result.xid ≡ xid.now }
@@ -49,7 +49,7 @@ impl Logging {
         }
     }
 
-    /// Of a record without writes. Takes no memory.
+    /// For a record without writes. Takes no memory.
     pub fn small(row: Row, xid: &Xid, record: &Record) -> Logging
         requires { IsSmall «record».now }
         ensures row { result.row ≡ row }

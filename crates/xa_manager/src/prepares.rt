@@ -8,7 +8,7 @@ use std::alloc::AllocError;
 use xa_xid::Xid;
 
 impl Tables {
-    /// Makes the rooms of these branches, which are distinct. Where there is no memory, none has one.
+    /// Makes the rooms of these branches, which are distinct. If there is no memory, none has one.
     pub fn make_rooms(&mut self, xids: &[Xid]) -> Result<(), AllocError>
         ensures ok { OnOk result (MakeRooms self.old xids.now self.new) }
         ensures err { OnErr result (StaysIfDistinct self.old xids.now self.new) }

@@ -42,7 +42,7 @@ fn put_prepared(
     Ok(())
 }
 
-/// Puts what the operator completed beside them.
+/// Puts what the operator completed along with them.
 fn put_completed(
     branches: &mut Branches,
     decided: &BTreeMap<Xid, Direction>,
@@ -73,7 +73,7 @@ pub(crate) fn branches_of(
     Ok(branches)
 }
 
-/// A timestamp that none of these branches in doubt stands below, of the boots before this one.
+/// A timestamp below which none of these branches in doubt stands, of the boots before this one.
 fn least_of(prepared: &BTreeMap<u64, InDoubt>, boot: u32) -> u64
     ensures below { Pairwise prepares_before (map as_prepared prepared.now.entries)
         → AllByRecursion (λ p. result ≤ p.timestamp) (map as_prepared prepared.now.entries) }
@@ -86,8 +86,8 @@ fn least_of(prepared: &BTreeMap<u64, InDoubt>, boot: u32) -> u64
     }
 }
 
-/// Records without any versions, with room for those of what lasted: one of each key, beside those that the keys of a
-/// branch have until the older ones are let go. Records that grow by and by leave the places that they had.
+/// Records without any versions, with room for those of what lasted: one of each key, besides those that the keys of a
+/// branch have until the older ones are freed. Records that grow bit by bit leave the places that they had.
 fn records_for(
     alloc: Global,
     committed: &BTreeMap<u64, Writes>,
@@ -108,7 +108,7 @@ fn records_for(
 }
 
 /// Puts the writes of committed branches into records without any, up to a low water of at most `least`: what is noted
-/// of a branch below it is let go again at once. The body of each is put behind the others before.
+/// of a branch below it is freed again at once. Before that the body of each is put after the others.
 fn put_committed(
     alloc: Global,
     records: &mut Records,
@@ -140,7 +140,7 @@ fn put_committed(
     Ok(())
 }
 
-/// Puts those of the branches in doubt there, and puts their bodies behind the others.
+/// Puts those of the branches in doubt there, and puts their bodies after the others.
 fn put_undecided(
     alloc: Global,
     records: &mut Records,
@@ -170,7 +170,7 @@ fn put_undecided(
 }
 
 /// The versions that lasted, in the boot of this number, and the bodies of the records that its log begins with. Each
-/// branch is spelled, and its values are left in that body; what it lasted in is let go soon after.
+/// branch is spelled, and its values are left in that body; what it lasted in is freed soon after.
 pub(crate) fn records_of(
     alloc: Global,
     durable: Durable,

@@ -13,7 +13,7 @@ use xa_xid::Xid;
 
 /// The row of recoveries.
 impl Tables {
-    /// Lists the next of the branches that are prepared or were completed by the operator, at most so many.
+    /// Lists the next of the branches that are prepared or were completed by the operator, at most `count`.
     #[tactic(auto, using(crate::proofs::Replying::bare_fresh, crate::proofs::Replying::listing_fresh))]
     pub fn recover(&mut self, session: u64, flags: u32, count: u32) -> Result<Reply, AllocError>
         requires { count ≤ MOST_XIDS }

@@ -19,7 +19,7 @@ use xa_xid::Xid;
 
 /// How starts and ends are refused.
 impl Tables {
-    /// Of the start of a new branch.
+    /// The refusal of the start of a new branch.
     pub fn begin_refusal(&self, session: u64, xid: &Xid) -> Option<Reply>
         ensures value { TablesSay self.now (λ s. result ≡ begin_refusal_of s session xid.now) }
         ensures served { IfSome result (λ r. is_memory r.detail ≡ false) }
@@ -30,7 +30,7 @@ impl Tables {
             .begin_refusal(session, taken, self.branches.len(), self.branches.given())
     }
 
-    /// Of a start with TMJOIN.
+    /// The refusal of a start with TMJOIN.
     pub fn join_refusal(&self, session: u64, xid: &Xid) -> Option<Reply>
         ensures value { TablesSay self.now (λ s. result ≡ join_refusal_of s session xid.now) }
         ensures served { IfSome result (λ r. is_memory r.detail ≡ false) }
@@ -41,7 +41,7 @@ impl Tables {
         self.sessions.join_refusal(session, xid, unknown, lasting)
     }
 
-    /// Of a start with TMRESUME.
+    /// The refusal of a start with TMRESUME.
     pub fn resume_refusal(&self, session: u64, xid: &Xid) -> Option<Reply>
         ensures value { TablesSay self.now (λ s. result ≡ resume_refusal_of s session xid.now) }
         ensures served { IfSome result (λ r. is_memory r.detail ≡ false) }
@@ -53,7 +53,7 @@ impl Tables {
             .resume_refusal(session, xid, unknown, has_loose)
     }
 
-    /// Of an end with TMSUSPEND.
+    /// The refusal of an end with TMSUSPEND.
     pub fn suspend_refusal(&self, session: u64, xid: &Xid) -> Option<Reply>
         ensures value { TablesSay self.now (λ s. result ≡ suspend_refusal_of s session xid.now) }
         ensures served { IfSome result (λ r. is_memory r.detail ≡ false) }
@@ -63,7 +63,7 @@ impl Tables {
         self.sessions.suspend_refusal(session, xid, unknown)
     }
 
-    /// Of an end with TMSUSPEND, of a branch that isn't marked: one more loose association with TMMIGRATE.
+    /// The refusal of an end with TMSUSPEND, of a branch that isn't marked: with TMMIGRATE, one more loose association.
     pub fn loose_refusal(&self, migrates: bool, xid: &Xid) -> Option<Reply>
         ensures value { TablesSay self.now (λ s. result ≡ loose_refusal migrates (loose_of s.associations xid.now)) }
         ensures served { IfSome result (λ r. is_memory r.detail ≡ false) }
@@ -72,7 +72,7 @@ impl Tables {
         loose_refusal(migrates, self.branches.loose(xid))
     }
 
-    /// Of an end with TMSUCCESS or TMFAIL.
+    /// The refusal of an end with TMSUCCESS or TMFAIL.
     pub fn leave_refusal(&self, session: u64, xid: &Xid) -> Option<Reply>
         ensures value { TablesSay self.now (λ s. result ≡ leave_refusal_of s session xid.now) }
         ensures served { IfSome result (λ r. is_memory r.detail ≡ false) }
@@ -113,7 +113,7 @@ impl Tables {
         rollback_refusal(self.branches.known(xid), self.branches.is_associated(xid))
     }
 
-    /// Of a commit in two phases or a rollback of a branch that the operator completed.
+    /// The refusal of a commit in two phases or a rollback of a branch that the operator completed.
     pub fn heuristic_refusal(&self, call: Call, xid: &Xid) -> Option<Reply>
         ensures value { TablesSay self.now (λ s. result ≡ completion_refusal call (known_as s xid.now)) }
         ensures served { IfSome result (λ r. is_memory r.detail ≡ false) }

@@ -28,8 +28,8 @@ pub fn memory_reply(request: &Request) -> Reply
     Reply::detailed(memory_code(request), Detail::Memory)
 }
 
-/// The code that says that memory was wanted. A commit in two phases, which only a room may want memory for, is asked
-/// again, since its branch stays in doubt.
+/// The code that says that there was no memory. A commit in two phases, for which only a room may need memory, is
+/// asked again, since its branch stays in doubt.
 pub(crate) fn memory_code(request: &Request) -> Code
     ensures { result ≡ memory_code request.now }
 {

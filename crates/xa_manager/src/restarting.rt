@@ -67,7 +67,7 @@ impl<D: Disk> Manager<D> {
         self.log.rescan()
     }
 
-    /// Whether the log that was read again goes on behind this offset, with this generation, in a file of the newest
+    /// Whether the log that was read again goes on after this offset, with this generation, in a file of the newest
     /// format.
     fn goes_on(&self, end: u64, number: usize) -> bool
         ensures end { result ≡ true → self.now.log.end ≡ end }
@@ -81,7 +81,7 @@ impl<D: Disk> Manager<D> {
             && self.log.format() == Format::newest().number()
     }
 
-    /// Makes ready what the next boot begins with, of the bodies of the log that was read again. All memory of a restart
+    /// Makes ready what the next boot begins with, from the bodies of the log that was read again. All memory of a restart
     /// is taken by then.
     fn make_ready(&mut self, bodies: Vec<Vec<u8>>) -> Result<Planned, LogFault>
         ensures plans { Plans (moment_of self.old.tables.branches) (bodies_of bodies.items) result }
@@ -107,8 +107,8 @@ impl<D: Disk> Manager<D> {
         }
     }
 
-    /// How many of the records that were lost stand in the log that was read again, which came to this boot, and has so
-    /// many records after where it ended.
+    /// How many of the records that were lost stand in the log that was read again, which came to this boot, and has
+    /// `after_end` records after where it ended.
     fn survivors(&self, boot: u32, after_end: usize) -> usize
         ensures { (s : State) (bodies : List (List ℕ)) (f : Found D.Disk bodies self.now.log s)
             → Doubts self.now.doubt s → IsRecoverable s → boot ≡ f.state.logged_boot
@@ -121,7 +121,7 @@ impl<D: Disk> Manager<D> {
         }
     }
 
-    /// Nothing is to be appended: the manager is down.
+    /// Nothing can be appended: the manager is down.
     fn stopped(&mut self, survived: usize, detail: Detail) -> Done
         ensures reply { result.reply ≡ detailed XAER_RMFAIL detail }
         ensures told { result.outcome ≡ Outcome.Reread survived None }
@@ -194,7 +194,7 @@ impl<D: Disk> Manager<D> {
         }
     }
 
-    /// A new boot begins with what the log came to, which has so many records after where it ended.
+    /// A new boot begins with what the log came to, which has `after_end` records after where it ended.
     fn begin(&mut self, planned: Planned, after_end: usize) -> Done
         requires next { IsNext planned.durable.value (moment_of self.old.tables.branches) planned.next }
         requires boot { planned.boot ≡ planned.durable.value.boot }
@@ -253,7 +253,7 @@ impl<D: Disk> Manager<D> {
         }
     }
 
-    /// The row of the request Restart: as `restart`, where want of memory is an error.
+    /// The row of the request Restart: as `restart`, where lack of memory is an error.
     pub(crate) fn restarted(&mut self) -> Result<Done, AllocError>
         ensures ok { IfOk result (λ d. HasRestarted D.Disk self.old d.reply d.outcome self.new) }
         ensures err { OnErr result (HasWanted D.Disk self.old Request.Restart self.new) }
@@ -287,7 +287,7 @@ impl<D: Disk> Manager<D> {
 
     /// What the request Restart does, for whoever asks it without a session: the log is read again, and a new boot
     /// begins with what lasts of it. Sessions stay connected, and opened as they were; branches at work, associations,
-    /// scans and read marks are gone. Where it fails the manager is down. Behind want of memory it stands for what it
+    /// scans and read marks are gone. If it fails the manager is down. If memory ran out it stands for what it
     /// stood for.
     pub fn restart(&mut self) -> Reply
         ensures answered { MatchBool (is_memory result.detail)
@@ -331,7 +331,7 @@ fn reserve_next<D: Disk>(log: &mut Log<D>, next: &Option<NextBoot>) -> Result<()
     }
 }
 
-/// How many of these bodies' records are the log's last so many bytes.
+/// How many of these bodies' records are the log's last `bytes` bytes.
 fn count_last(bodies: &[Vec<u8>], bytes: u64) -> usize
     ensures { (earlier later : List (List ℕ)) → bodies_of bodies.now ≡ earlier ++ later → bytes ≡ group_bytes later
         → result ≡ length later }

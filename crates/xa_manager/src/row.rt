@@ -7,7 +7,7 @@ use xa_frame::Request;
 use xa_record::{Record, Writes};
 use xa_xid::Xid;
 
-/// A row that logs, with what it is asked beside the XID.
+/// A row that logs, with what it is asked besides the XID.
 #[derive(Clone, Copy, Debug, PartialEq, Eq)]
 pub enum Row {
     /// Its record has what the branch wrote.
@@ -104,7 +104,7 @@ impl Writing {
         }
     }
 
-    /// What a branch that has written nothing is answered.
+    /// What is answered for a branch that has written nothing.
     pub fn unwritten_code(self) -> Code
         ensures { result ≡ unwritten_code self }
     {

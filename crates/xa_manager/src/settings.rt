@@ -12,8 +12,8 @@ pub struct Settings {
 impl Settings {
     ghost use Rattle.std.specs.Prelude.{◌≡◌, IfOk};
 
-    /// The settings of a manager by this name, a log of which may reach this size. Whether they are within the limits
-    /// is looked at when a manager is opened.
+    /// The settings of a manager of this name, whose log may reach this size. Whether they are within the limits
+    /// is checked when a manager is opened.
     pub fn new(alloc: Global, name: &str, log_bytes: u64) -> Result<Settings, AllocError>
         ensures name { IfOk result (λ settings. settings.name ≡ name.now) }
         ensures log_bytes { IfOk result (λ settings. settings.log_bytes ≡ log_bytes) }

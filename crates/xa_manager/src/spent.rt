@@ -2,12 +2,12 @@ use std::alloc::{AllocError, Global};
 use xa_record::Writes;
 use xa_shared::SharedBytes;
 
-/// How many bytes the bodies of branches have whose writes are let go together.
+/// How many bytes the bodies of branches have whose writes are freed together.
 const MOST_BYTES: usize = 65_536;
 
-/// The writes of branches that stand in the records and in a snapshot's bodies by now, until many are let go together. Of
-/// the places that are let go an allocator keeps a few of each size for itself. After every single branch, those few would
-/// lie in the midst of what the branch leaves, and the body of a later one wouldn't fit there.
+/// The writes of branches that stand in the records and in a snapshot's bodies by now, until many are freed together. Of
+/// the places that are freed an allocator keeps a few of each size for itself. After every single branch, those few would
+/// lie in the middle of what the branch leaves, and the body of a later one wouldn't fit there.
 #[derive(Drop)]
 pub(crate) struct Spent {
     writes: Vec<Writes>,
@@ -23,7 +23,7 @@ impl Spent {
         }
     }
 
-    /// Takes the writes of a branch, with this body. Where the bodies have many bytes, all are let go.
+    /// Takes the writes of a branch, with this body. If the bodies have many bytes, all are freed.
     pub(crate) fn add(
         &mut self,
         writes: Writes,

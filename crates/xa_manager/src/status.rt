@@ -34,7 +34,7 @@ impl<D: Disk> Manager<D> {
 
 /// What a status tells, from the tables.
 impl Tables {
-    /// Of a manager that is up, whose log ends there.
+    /// For a manager that is up, whose log ends at `end`.
     fn status_up(&self, end: u64) -> Status
         ensures { TablesSay self.now (λ s. end ≡ s.end → result ≡ status_of s (versions_in self.now.records)) }
     {
@@ -48,7 +48,7 @@ impl Tables {
         }
     }
 
-    /// Of a manager that is down: nothing is known of branches until it is restarted.
+    /// For a manager that is down: nothing is known of branches until it is restarted.
     fn status_down(&self) -> Status
         ensures { result ≡ status_down (view_of self.now) }
     {

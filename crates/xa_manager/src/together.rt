@@ -76,7 +76,7 @@ impl Tables {
     }
 }
 
-// What each call of a group is replied, of whose records this became.
+// What each call of a group is replied, if this became of their records.
 pub(crate) fn tell(members: &[Joining], answer: Appending, replies: &mut Vec<(usize, Reply)>)
     requires none { replies.old.items ≡ [] }
     requires room { length members.now ≤ vec_capacity replies.old }

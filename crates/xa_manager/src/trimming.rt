@@ -25,10 +25,10 @@ use xa_log::{Appended, Format, generation_of_snapshot};
 use xa_model::{Appending, Outcome};
 use xa_shared::SharedBytes;
 
-/// How the log is begun anew while the manager is up.
+/// How a new log is begun while the manager is up.
 impl<D: Disk> Manager<D> {
     /// The row of the request Trim: a snapshot of what lasts is written to the other file, as the log of the next boot.
-    /// All that is at work goes on. Memory is taken for the snapshot, before anything is written.
+    /// All work goes on. Memory is taken for the snapshot, before anything is written.
     pub(crate) fn trim(&mut self) -> Result<Done, AllocError>
         requires up { self.old.up ≡ true }
         ensures ok { IfOk result (λ d. HasTrimmed D.Disk self.old d.reply d.outcome self.new) }
@@ -50,7 +50,7 @@ impl<D: Disk> Manager<D> {
         Ok(self.log_trim(boot + 1, &bodies))
     }
 
-    /// Whether the other file takes a log of these bodies, as it does of each snapshot of what lasts, with the next
+    /// Whether the other file takes a log of these bodies, as it does for each snapshot of what lasts, with the next
     /// boot's number.
     fn can_begin_with(&self, bodies: &[SharedBytes]) -> bool
         ensures some { result ≡ true → 1 ≤ length bodies.now }
@@ -89,7 +89,7 @@ impl<D: Disk> Manager<D> {
         ensures turn { (s : State) → ManagerStandsFor D.Disk self.old s → trim_refusal s ≡ None
             → next ≡ s.logged_boot + 1 → bodies.now ≡ snapshot_bodies s (s.logged_boot + 1)
             → AnswersAs D.Disk (taken (trim_turn s) result.outcome) result.reply self.new }
-        // Both of a log whose buffer alone was another.
+        // Both of a log that differed only in its buffer.
         ensures leaves { (log : LogView D) (s : State) (rs : List Record) → HasReserved D.Disk log self.old.log
             → ManagerStandsFor D.Disk self.old s → Trusts D.Disk → Backs rs s → HasRecords D.Disk rs log
             → trim_refusal s ≡ None → bodies.now ≡ snapshot_bodies s (s.logged_boot + 1)

@@ -8,7 +8,7 @@ use xa_fields::Key;
 use xa_frame::Request;
 use xa_xid::Xid;
 
-/// How far a session came with its branch.
+/// How far a session is with its branch.
 #[derive(Clone, Copy, PartialEq, Eq)]
 pub enum Phase {
     Idle,
@@ -32,7 +32,7 @@ pub enum Act {
     Restart,
 }
 
-/// Numbers by chance, the same in each run: a linear congruential generator, with Knuth's constants for 64 bits.
+/// Random numbers, the same in each run: a linear congruential generator, with Knuth's constants for 64 bits.
 #[derive(Clone, Copy)]
 pub struct Chance {
     state: u64,
@@ -73,7 +73,7 @@ impl Chance {
         }
     }
 
-    /// What a session asks that came so far, where a put puts this value.
+    /// What a session in this phase asks; a put puts this value.
     pub fn act(&mut self, phase: Phase, value: u64) -> Act {
         let percent = self.percent();
         let key = self.key();
@@ -165,7 +165,7 @@ pub fn request(alloc: Global, act: Act, number: u64) -> Option<Request>
     }
 }
 
-/// How far the session is with its branch behind this answer. `None` is an answer that isn't to come.
+/// How far the session is with its branch after this answer. `None` is an answer that mustn't come.
 pub fn next_phase(act: Act, code: Code) -> Option<Phase> {
     let is_marked = code >= 100 && code <= 107;
     match act {

@@ -1,33 +1,36 @@
 -- The lines of a script are read as what they ask.
-use Rattle.std.proofs.Common.{◌≡◌, ◌≢◌, ◌==◌, ◌<◌, ◌≤◌, ℕ, suc, ℤ, pos, negsuc, ◌/◌, ◌%◌, ◌^◌, Bool, true, false, List, [], ◌∷◌, ◌++◌, length, get_or, All, Option, Some, None, refl, sym, ap, ◌∙◌, arith, cond, codes, FitsSigned, w32}
+use Rattle.std.proofs.Common.{◌≡◌, ◌≢◌, ◌==◌, ◌<◌, ◌≤◌, ◌-◌, ℕ, suc, not, ℤ, pos, negsuc, ◌/◌, ◌%◌, ◌^◌, Bool, true, false, List, [], ◌∷◌, ◌++◌, length, get_or, All, Option, Some, None, refl, sym, ap, ◌∙◌, arith, cond, codes, FitsSigned, w32}
 use Rattle.std.specs.Prelude.{◌&&◌, decimal, nat_le, nat_lt}
 use Rattle.std.specs.Fmt.{signed_decimal}
-use Rattle.std.specs.List.{list_all, slice_split}
+use Rattle.std.specs.Io.BufRead.{strip_last}
+use Rattle.std.specs.List.{list_all, onto_first}
 use Rattle.std.proofs.lemmas.Bool.{ne_eqb}
 use Rattle.std.proofs.lemmas.Bool.Decides.{nat_tests}
 use Rattle.std.proofs.lemmas.Fmt.{decimal_is_IsNumeral}
-use Rattle.std.proofs.lemmas.List.Elements.{All-append, All-cons, All-from_get_or, All-nil, All-weaker}
-use Rattle.std.proofs.lemmas.List.Splits.{slice_split_none}
+use Rattle.std.proofs.lemmas.List.Elements.{All-append, All-cons, All-from_get_or, All-head, All-nil, All-tail, All-weaker}
 use Rattle.std.proofs.lemmas.Str.Parse.{digit_at}
 use Rattle.xa_codes.specs.declared.direction.Direction.TheVariants as direction
 use Rattle.xa_script.specs.Requests.{ReadsTexts, is_graphic, is_name}
+use Rattle.xa_script.specs.Words.{next_place, words, words_from}
+use Rattle.xa_script.specs.declared.words.Place.{Place}
+use Rattle.xa_script.specs.declared.words.Place.TheVariants.{Front}
 use Rattle.xa_xid.specs.Spelling.{hex, hex_digit, text_of}
 use Rattle.xa_xid.specs.Triple.{IsWithinLimits, Triple}
 use Rattle.xa_codes.specs.declared.flags.TheConstants.{TMNOFLAGS}
 use Rattle.xa_frame.specs.declared.question.Question.TheVariants as question
 use Rattle.xa_frame.specs.declared.request.Request.TheVariants.{Open}
-use Rattle.xa_script.specs.Lines.{line_of}
+use Rattle.xa_script.specs.Lines.{line_of, said_of}
 use Rattle.xa_operate.specs.Agendas.{question_of}
 use Rattle.xa_operate.specs.Scripts.{NamesXid, TalkReads, call_text, open_line, said}
 use Rattle.xa_operate.specs.declared.task.Task.{Task}
 use Rattle.xa_operate.specs.declared.task.Task.TheVariants.{Status, Branches, Recover, RollbackMarked, Commit, Rollback, Forget, Decide, Doom, Trim, Restart}
 
--- no blank
+-- no blank, and no end of a line
 abbrev IsInk : ℕ → Type 0
-IsInk b = (b == 32) ≡ false
+IsInk b = 33 ≤ b
 
 ink : (b : ℕ) → 33 ≤ b → IsInk b
-ink b above = ne_eqb b 32 (λ e. omega (arith, e, above))
+ink b above = above
 
 decimal_ink : (n : ℕ) → n < 2 ^ 64 → All IsInk (decimal n)
 decimal_ink n small =
@@ -58,10 +61,16 @@ xid_ink x h =
     (All-append IsInk (hex x.gtrid) (58 ∷ hex x.bqual) (hex_ink x.gtrid) (All-cons IsInk 58 (hex x.bqual) (ink 58 (omega arith)) (hex_ink x.bqual))))
 
 -- a text without blanks is one word
-one_word : (text : List ℕ) → All IsInk text → slice_split (λ byte. byte == 32) text ≡ text ∷ []
-one_word text all = slice_split_none (λ byte. byte == 32) text all
+word_from : (place : Place) (text : List ℕ) → All IsInk text → words_from place text ≡ text ∷ []
+word_from place [] all = refl
+word_from place (c ∷ cs) all =
+    let above = All-head IsInk c cs all in
+    rw (ne_eqb c 32 (λ e. omega (arith, e, above))) (ap (onto_first c) (word_from (next_place place c) cs (All-tail IsInk c cs all)))
 
-xid_word : (x : Triple) → IsWithinLimits x → slice_split (λ byte. byte == 32) (text_of x) ≡ text_of x ∷ []
+one_word : (text : List ℕ) → All IsInk text → words text ≡ text ∷ []
+one_word text all = word_from Front text all
+
+xid_word : (x : Triple) → IsWithinLimits x → words (text_of x) ≡ text_of x ∷ []
 xid_word x h = one_word (text_of x) (xid_ink x h)
 
 both_true : (a b : Bool) → (a && b) ≡ true → (a ≡ true) × (b ≡ true)
@@ -76,26 +85,63 @@ graphic_ink (c ∷ cs) h =
     let above : 33 ≤ c = grind (arith, nat_tests, front.0) in
     All-cons IsInk c cs (ink c above) (graphic_ink cs both.1)
 
-name_word : (name : List ℕ) → is_name name ≡ true → slice_split (λ byte. byte == 32) name ≡ name ∷ []
+name_word : (name : List ℕ) → is_name name ≡ true → words name ≡ name ∷ []
 name_word name h =
     let first = both_true _ (is_graphic name) h in
     one_word name (graphic_ink name first.1)
 
+-- a text without a carriage return stays
+abbrev IsKept : ℕ → Type 0
+IsKept b = (b == 13) ≡ false
+
+kept : (text : List ℕ) → All IsKept text → strip_last 13 text ≡ text
+kept text all = go (nat_lt 0 (length text)) refl
+  where
+    go : (b : Bool) → nat_lt 0 (length text) ≡ b → strip_last 13 text ≡ text
+    go true e =
+        let some : 0 < length text = grind (arith, nat_tests, e) in
+        rw (e, all (length text - 1) 0 (omega (arith, some))) refl
+    go false e = rw e refl
+
+plain : (text : List ℕ) → list_all (λ b. not (b == 13)) text ≡ true → All IsKept text
+plain [] h = All-nil IsKept
+plain (c ∷ cs) h =
+    let both = both_true (not (c == 13)) (list_all (λ b. not (b == 13)) cs) h in
+    All-cons IsKept c cs (not_true_false (c == 13) both.0) (plain cs both.1)
+  where
+    not_true_false : (b : Bool) → not b ≡ true → b ≡ false
+    not_true_false true e = cc
+    not_true_false false e = refl
+
+ends_in_ink : (front text : List ℕ) → list_all (λ b. not (b == 13)) front ≡ true → All IsInk text → strip_last 13 (front ++ text) ≡ front ++ text
+ends_in_ink front text h inks =
+    kept (front ++ text)
+    (All-append IsKept front text (plain front h) (All-weaker IsInk IsKept (λ b above. ne_eqb b 13 (λ e. omega (arith, e, above))) text inks))
+
 module _ (xid_of : List ℕ → Option Triple) (each : ReadsTexts xid_of) where
   opens : (name : List ℕ) → is_name name ≡ true → line_of xid_of (open_line name) ≡ said (question.Call (Open TMNOFLAGS name))
-  opens name named = rw (name_word name named, named) refl
+  opens name named =
+      let inks = graphic_ink name (both_true _ (is_graphic name) named).1 in
+      ap (said_of xid_of) (ends_in_ink (codes "1 open TMNOFLAGS ") name refl inks) ∙ rw (name_word name named, named) refl
+
+  -- a line that ends with an XID has no carriage return there
+  about : (front : List ℕ) (xid : Triple) → list_all (λ b. not (b == 13)) front ≡ true → IsWithinLimits xid
+      → line_of xid_of (front ++ text_of xid) ≡ said_of xid_of (front ++ text_of xid)
+  about front xid h limits = ap (said_of xid_of) (ends_in_ink front (text_of xid) h (xid_ink xid limits))
 
   asks : (task : Task) → NamesXid task → line_of xid_of (call_text task) ≡ said (question_of task)
   asks Status h = refl
   asks Branches h = refl
   asks Recover h = refl
   asks RollbackMarked h = refl
-  asks (Commit xid) h = rw (xid_word xid h, each.each xid h) refl
-  asks (Rollback xid) h = rw (xid_word xid h, each.each xid h) refl
-  asks (Forget xid) h = rw (xid_word xid h, each.each xid h) refl
-  asks (Decide direction.Commit xid) h = rw (xid_word xid h, each.each xid h) refl
-  asks (Decide direction.Rollback xid) h = rw (xid_word xid h, each.each xid h) refl
-  asks (Doom xid) h = rw (xid_word xid h, each.each xid h) refl
+  asks (Commit xid) h = about (codes "1 commit TMNOFLAGS ") xid refl h ∙ rw (xid_word xid h, each.each xid h) refl
+  asks (Rollback xid) h = about (codes "1 rollback TMNOFLAGS ") xid refl h ∙ rw (xid_word xid h, each.each xid h) refl
+  asks (Forget xid) h = about (codes "1 forget TMNOFLAGS ") xid refl h ∙ rw (xid_word xid h, each.each xid h) refl
+  asks (Decide direction.Commit xid) h =
+      about (codes "1 decide commit ") xid refl h ∙ rw (xid_word xid h, each.each xid h) refl
+  asks (Decide direction.Rollback xid) h =
+      about (codes "1 decide rollback ") xid refl h ∙ rw (xid_word xid h, each.each xid h) refl
+  asks (Doom xid) h = about (codes "1 doom ") xid refl h ∙ rw (xid_word xid h, each.each xid h) refl
   asks Trim h = refl
   asks Restart h = refl
 

@@ -17,10 +17,10 @@ use xa_disk::MemDisk;
 use xa_frame::Reply;
 use xa_manager::{Manager, Settings, memory_is_trusted};
 use xa_output::write_text;
-use xa_script::{Line, first_part, read_line, reply_line};
+use xa_script::{Line, Teller, first_part, read_line, reply_line};
 
 /// Opens a manager on two empty disks in memory, reads the whole script, and then runs it: each line that asks
-/// something is answered by one line.
+/// something is answered by one line. Of a line that asks nothing a teller is told, too.
 ///
 /// Settings out of their limits are found before anything is read, a script that can't be read and one that is too long
 /// before anything is written. What was answered before a later fault is written. What is printed is a legal run of the
@@ -30,10 +30,11 @@ use xa_script::{Line, first_part, read_line, reply_line};
 /// Of the run behind each line: the committed branches read what they would read if they were executed one at a time,
 /// in the order of their timestamps; and each XID whose prepare was answered XA_OK is listed, unless its completion was
 /// asked for.
-pub fn play_run<R: Read + Drop, W: Write>(
+pub fn play_run<R: Read + Drop, W: Write, T: Teller>(
     alloc: Global,
     reader: &mut R,
     writer: &mut W,
+    teller: &mut T,
     settings: Settings,
 ) -> Result<(), PlayFault>
     ensures played { Plays IsLawful settings.name settings.log_bytes result (R.remaining reader.old)
@@ -50,7 +51,7 @@ pub fn play_run<R: Read + Drop, W: Write>(
     let (manager, kept) = open_first(alloc, settings)?;
     let script = read_script(alloc, reader)?;
     files_stand();
-    let played = play_lines(alloc, manager, &kept, writer, script.as_slice());
+    let played = play_lines(alloc, manager, &kept, writer, teller, script.as_slice());
     let flushed = writer.flush();
     end_of(played, flushed)
 }
@@ -63,11 +64,12 @@ fn end_of(played: Result<(), PlayFault>, flushed: io::Result<()>) -> Result<(), 
     flushed.map_err(|_| PlayFault::Write)
 }
 
-fn play_lines<W: Write>(
+fn play_lines<W: Write, T: Teller>(
     alloc: Global,
     manager: Manager<MemDisk>,
     settings: &Settings,
     writer: &mut W,
+    teller: &mut T,
     script: &[u8],
 ) -> Result<(), PlayFault>
     requires { ¬ IsBadSetting settings.now.name settings.now.log_bytes }
@@ -78,21 +80,27 @@ fn play_lines<W: Write>(
     runs_are_lawful();
     let mut manager = manager;
     let mut calls = 0;
+    let mut index: u64 = 0;
     let mut rest = Some(script);
     while let Some(lines) = rest {
         let (line, behind) = first_part(lines, b'\n');
-        manager = play_line(alloc, manager, settings, writer, line, &mut calls)?;
+        manager = play_line(
+            alloc, manager, settings, writer, teller, index, line, &mut calls,
+        )?;
+        index = index.saturating_add(1);
         rest = behind;
     }
     Ok(())
 }
 
-// Counts the line, if it is an event.
-fn play_line<W: Write>(
+// Counts the line, of which so many stand before it, if it is an event.
+fn play_line<W: Write, T: Teller>(
     alloc: Global,
     manager: Manager<MemDisk>,
     settings: &Settings,
     writer: &mut W,
+    teller: &mut T,
+    index: u64,
     line: &[u8],
     calls: &mut u64,
 ) -> Result<Manager<MemDisk>, PlayFault>
@@ -104,6 +112,7 @@ fn play_line<W: Write>(
     files_stand();
     runs_are_lawful();
     let said = read_line(alloc, line)?;
+    tell_unknown(teller, index, line, &said);
     let before = *calls;
     if is_event(&said) {
         *calls = before.saturating_add(1);
@@ -111,6 +120,13 @@ fn play_line<W: Write>(
     let (manager, reply) = answer(alloc, manager, settings, said, before)?;
     write_reply(alloc, writer, reply)?;
     Ok(manager)
+}
+
+/// Tells of a line that asks nothing.
+fn tell_unknown<T: Teller>(teller: &mut T, index: u64, line: &[u8], said: &Line) {
+    if let Line::Unknown = said {
+        teller.tell(index, line);
+    }
 }
 
 /// Whether a line is an event of the history.

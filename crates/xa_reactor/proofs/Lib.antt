@@ -6,3 +6,4 @@ pub mod Aside
 pub mod Each
 pub mod Asking
 pub mod Telling
+pub mod Noticed

@@ -1,7 +1,39 @@
--- How many connections are accepted.
-use Rattle.std.specs.Prelude.{ℕ, ◌-◌, ◌^◌, zero, suc}
+-- How many connections are accepted, and for how long a loop waits that accepts.
+use Rattle.std.specs.Prelude.{ℕ, ◌≡◌, ◌+◌, ◌-◌, ◌^◌, ◌<◌, ◌≤◌, max, min, zero, suc, Bool, true, false, not, ◌&&◌, ◌||◌, nat_lt, Option, Some, None, IsTrue}
+use Rattle.std.specs.VecDeque.{deque_len}
+use Rattle.slab.specs.Slab.{slab_len}
+use Rattle.xa_reactor.specs.Timing.{wait_of}
+use Rattle.xa_reactor.specs.declared.acceptor.Acceptor.{Acceptor}
+use Rattle.xa_reactor.specs.declared.peers.Peers.{Peers}
 
 -- as many as were asked for, or any number where that is 0
 abbrev pub most_of : ℕ → ℕ
 most_of zero = 2 ^ 64 - 1
 most_of (suc n) = suc n
+
+-- whether there may be a connection to accept, where the loop is to
+abbrev pub waits_in : Option Acceptor → Bool
+waits_in None = false
+waits_in (Some acceptor) = acceptor.waits
+
+-- accepting pauses, which isn't over at that time
+abbrev pub MayPause : Option Acceptor → ℕ → Bool → Type 0
+MayPause None now pauses = pauses ≡ false
+MayPause (Some acceptor) now pauses = IsTrue pauses → now < acceptor.resumes
+
+-- a loop waits so long: by its turns and what there may be to accept, whether accepting pauses, and its connections
+abbrev pub IsWait : Peers → Option Acceptor → ℕ → Option ℕ → Type 0
+IsWait peers acceptor now wait =
+    (pauses : Bool) × MayPause acceptor now pauses
+    × (wait
+    ≡ wait_of (nat_lt 0 (deque_len peers.queue) || (waits_in acceptor && not pauses)) pauses (nat_lt 0 (slab_len peers.all)))
+
+-- by whether it is admitted: it is handed to the loop before this one; or it is counted, and how many are open then at least
+abbrev pub after_one : Bool → ℕ → ℕ → Acceptor → Acceptor
+after_one true most turn a = record a { turn = turn }
+after_one false most turn a = record a { refused = min (a.refused + 1) (2 ^ 64 - 1); full = max a.full most }
+
+-- a listener is kept, if there is one, and no more are accepted than may be
+abbrev pub KeepsFew : Option Acceptor → Option Acceptor → Type 0
+KeepsFew None after = after ≡ None
+KeepsFew (Some a) after = (b : Acceptor) × (after ≡ Some b) × (a.accepted ≤ a.most → b.accepted ≤ a.most)

@@ -2,6 +2,7 @@ pub mod Believed
 pub mod Turning
 pub mod Timing
 pub mod Since
+pub mod Admission
 pub mod Accepting
 pub mod Patience
 pub mod Trims

@@ -6,6 +6,8 @@ use Rattle.xa_frame.specs.declared.question.Question.{Question}
 use Rattle.xa_frame.specs.declared.request.Request.TheVariants.{Tick}
 use Rattle.xa_frame.specs.Spelling.{SpellsRequest}
 use Rattle.xa_reactor.specs.declared.ticks.Ticks.{Ticks}
+use Rattle.xa_reactor.specs.declared.visited.Visited.{Visited}
+use Rattle.xa_reactor.specs.declared.visited.Visited.TheVariants.{Done, Refused, Down}
 use Rattle.xa_reactor.specs.Aside.{HasVisited}
 
 -- none was told
@@ -25,6 +27,12 @@ after_tick moment = record { told = Some moment; is_refused = false }
 
 abbrev pub refused_by : Ticks → Ticks
 refused_by ticks = record ticks { is_refused = true }
+
+-- by what came of one
+abbrev pub after_visit : Ticks → ℕ → Visited → Ticks
+after_visit ticks moment (Done marked) = after_tick moment
+after_visit ticks moment (Refused reason) = refused_by ticks
+after_visit ticks moment Down = ticks
 
 -- by what a connect, a call of a session and its hang-up do at the door
 module _ {D : Type 0} (connected : D → Result ℕ ConnectFault → D → Type 0)

@@ -38,6 +38,10 @@ pub record IsToEnd (associates : Bool → Type 0) (is_inside : Bool) (quiet : �
 abbrev pub looks_of : ℕ → ℕ
 looks_of connections = 40 / max connections 1
 
+-- at first not at all, and a millisecond after a thousand looks
+abbrev pub gather_nanos : ℕ → ℕ
+gather_nanos looks = if nat_le 1000 looks then 1000000 else 0
+
 abbrev pub wait_of : Bool → Bool → Bool → Option ℕ
 wait_of has_turn pauses has_connections =
     if has_turn then Some 0 else (if pauses then Some PAUSE else (if has_connections then Some LOOK else None))

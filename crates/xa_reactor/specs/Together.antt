@@ -1,8 +1,12 @@
 -- What a round has lent.
-use Rattle.std.specs.Prelude.{ℕ, ◌≡◌, ◌+◌, ◌≤◌, Bool, ◌&&◌, nat_le, nat_lt, All, []}
+use Rattle.std.specs.Prelude.{ℕ, ◌≡◌, ◌+◌, ◌≤◌, Bool, ◌&&◌, nat_le, nat_lt, All, List, [], ◌∷◌}
 use Rattle.std.specs.Vec.{vec_capacity, vec_len}
+use Rattle.std.specs.VecDeque.{deque_len}
 use Rattle.xa_reactor.specs.Asking.{IsLent}
 use Rattle.xa_reactor.specs.Believed.Tending.{Table}
+use Rattle.xa_reactor.specs.Peers.{GoesOn}
+use Rattle.xa_reactor.specs.declared.peer.Step.{Step}
+use Rattle.xa_reactor.specs.declared.peers.Peers.{Peers}
 use Rattle.xa_reactor.specs.declared.together.Together.{Together}
 
 -- the requests that were brought in are of connections that are lent, and there is room for what comes after their turns
@@ -10,6 +14,19 @@ pub record HasLent (table : Table) (t : Together) : Type 0 where
   pub quick : All (IsLent table) t.quick.items
   pub waiting : All (IsLent table) t.waiting.items
   pub room : vec_len t.over + vec_len t.quick + vec_len t.waiting ≤ vec_capacity t.over
+
+-- how many turns of a round aren't behind it: of requests that were brought in, and of those of which something comes after
+abbrev pub turns_in : Together → ℕ
+turns_in t = vec_len t.over + vec_len t.quick + vec_len t.waiting
+
+-- no turn is lost: those that peers have next, and those of the round, are as many as before
+abbrev pub KeepsTurns : Together → Peers → Together → Peers → Type 0
+KeepsTurns t peers t' peers' = turns_in t' + deque_len peers'.queue ≡ turns_in t + deque_len peers.queue
+
+-- What comes after turns, by the keys of their connections, came one behind the other.
+abbrev pub GoesOnAll : Peers → List (ℕ × Step) → Peers → Type 0
+GoesOnAll old [] new = new ≡ old
+GoesOnAll old (turn ∷ rest) new = (between : Peers) × GoesOn old turn.0 turn.1 between × GoesOnAll between rest new
 
 -- nothing is lent any more, and each turn is over
 abbrev pub IsOver : Together → Type 0

@@ -1,5 +1,5 @@
 -- When the log is trimmed.
-use Rattle.std.specs.Prelude.{ℕ, ◌≡◌, ◌-◌, ◌/◌, min, Bool, true, false, ◌&&◌, ◌||◌, nat_lt, nat_le, Option, Some, None, is_none, if◌then◌else◌}
+use Rattle.std.specs.Prelude.{ℕ, ◌≡◌, ◌⊎◌, ◌-◌, ◌/◌, min, Bool, true, false, ◌&&◌, ◌||◌, nat_lt, nat_le, Option, Some, None, is_none, if◌then◌else◌}
 use Rattle.xa_reactor.specs.declared.common.Settings.{Settings}
 use Rattle.xa_reactor.specs.declared.trims.Refused.{Refused}
 use Rattle.xa_reactor.specs.declared.trims.Trims.{Trims}
@@ -33,6 +33,14 @@ is_to_trim trims settings now end =
 -- none was refused, and the log grew by a MiB since the last snapshot
 abbrev pub has_grown : Trims → ℕ → Bool
 has_grown trims end = is_none trims.refused && nat_le 1048576 (end - trims.base)
+
+-- 64 MiB are trimmed in less than a second
+abbrev pub is_quick : ℕ → Bool
+is_quick end = nat_le end 67108864
+
+-- a door is as it was, or the log ended at such a place before, as was answered there
+abbrev pub IsTrimmedAt : {D : Type 0} → (D → ℕ → Type 0) → (ℕ → Type 0) → D → D → Type 0
+IsTrimmedAt ends at d e = (e ≡ d) ⊎ ((end : ℕ) × ends d end × at end)
 
 -- no end was seen
 abbrev pub new_trims : Trims

@@ -1,8 +1,11 @@
-ghost use Rattle.std.specs.Prelude.{◌≡◌, ◌⊎◌, ◌<◌, ◌≤◌, false, true};
-ghost use Rattle.xa_reactor.specs.Accepting.{most_of};
+ghost use Rattle.std.specs.Prelude.{◌≡◌, ◌⊎◌, ◌<◌, ◌≤◌, ℕ, IsTrue, false, true};
+ghost use Rattle.xa_reactor.specs.Accepting.{after_one, most_of};
+ghost use Rattle.xa_reactor.specs.Admission.{may_admit, most_open};
 
-use crate::common::{Common, MOST_OPEN};
+use crate::admission::Origin;
+use crate::common::Common;
 use crate::listener::Listener;
+use crate::socket::Socket;
 use crate::timing::{LOOK, PAUSE};
 use crate::trims::REST;
 use std::io;
@@ -28,6 +31,8 @@ pub(crate) struct Acceptor {
     /// How many were refused of which nobody was told, and when that may be told.
     refused: u64,
     tells: u64,
+    /// How many were open then, at least.
+    full: u64,
     /// Why the last accept failed that is to be told, and when another one may be.
     failed: Option<io::Error>,
     tells_failed: u64,
@@ -51,6 +56,7 @@ impl Acceptor {
             resumes: 0,
             refused: 0,
             tells: 0,
+            full: 0,
             failed: None,
             tells_failed: 0,
         }
@@ -64,7 +70,9 @@ impl Acceptor {
     }
 
     /// Whether it pauses: an accept failed, since then no connection closed, and the pause isn't over.
-    pub(crate) fn is_pausing(&self, common: &Common<'_>, now: u64) -> bool {
+    pub(crate) fn is_pausing(&self, common: &Common<'_>, now: u64) -> bool
+        ensures { IsTrue result → now < self.now.resumes }
+    {
         now < self.resumes && common.pauses()
     }
 
@@ -77,6 +85,7 @@ impl Acceptor {
 
     /// Accepts what waits, so many at most.
     pub(crate) fn accept_all<R: Wait>(&mut self, rt: &R, common: &Common<'_>, now: u64)
+        ensures most { self.new.most ≡ self.old.most }
         ensures few { self.old.accepted ≤ self.old.most → self.new.accepted ≤ self.new.most }
         ensures none { self.old.waits ≡ false → self.new ≡ self.old }
     {
@@ -101,13 +110,9 @@ impl Acceptor {
             return false;
         }
         match self.listener.accept() {
-            Ok(socket) => {
+            Ok((socket, origin)) => {
                 self.accepted += 1;
-                if common.admit() {
-                    self.turn = common.hand(rt, self.turn, socket).saturating_add(1);
-                } else {
-                    self.refused = self.refused.saturating_add(1);
-                }
+                self.admit(rt, common, socket, origin);
                 true
             }
             Err(error) => match error.kind() {
@@ -126,10 +131,25 @@ impl Acceptor {
         }
     }
 
+    // Hands a connection from there to a loop, where it is admitted; else it is closed.
+    fn admit<R: Wait>(&mut self, rt: &R, common: &Common<'_>, socket: Socket, origin: Origin)
+        ensures taken { (count : ℕ) × (turn : ℕ)
+            × (self.new ≡ after_one (may_admit common.now.has_path origin count) (most_open common.now.has_path origin) turn self.old) }
+        ensures same { self.new ≡ record self.old { turn = self.new.turn; refused = self.new.refused; full = self.new.full } }
+    {
+        if common.admit(origin) {
+            self.turn = common.hand(rt, self.turn, socket).saturating_add(1);
+        } else {
+            self.refused = self.refused.saturating_add(1);
+            self.full = self.full.max(common.most_open(origin));
+        }
+    }
+
     /// Tells why accepting pauses, at most once a minute, and how many were refused, at most once a second.
     pub(crate) fn tell<R: Eprint>(&mut self, rt: &R, now: u64)
         ensures refused { (self.new.refused ≡ 0) ⊎ ((now < self.old.tells) × (self.new.refused ≡ self.old.refused)) }
         ensures waits { (self.new.waits ≡ self.old.waits) × (self.new.accepted ≡ self.old.accepted) }
+        ensures most { self.new.most ≡ self.old.most }
     {
         if let Some(error) = self.failed.take() {
             self.tell_failed(rt, now, &error);
@@ -137,9 +157,10 @@ impl Acceptor {
         if self.refused == 0 || now < self.tells {
             return;
         }
-        let refused = self.refused;
-        let _ = eprintln!(rt; "xarm: {refused} connections refused: {MOST_OPEN} are open");
+        let (refused, full) = (self.refused, self.full);
+        let _ = eprintln!(rt; "xarm: {refused} connections refused: {full} are open");
         self.refused = 0;
+        self.full = 0;
         self.tells = now.saturating_add(LOOK);
     }
 

@@ -1,6 +1,8 @@
 //! What a loop does between its rounds.
-ghost use Rattle.std.specs.Prelude.{◌≡◌, IfOk, IfSome};
-ghost use Rattle.xa_reactor.specs.{Accepting.most_of, Aside.IsAside, Believed.Tending.Tends};
+ghost use Rattle.std.specs.Prelude.{◌≡◌, IfOk, IfSome, IsTrue, false};
+ghost use Rattle.slab.specs.Slab.{slab_len};
+ghost use Rattle.xa_reactor.specs.Accepting.{IsWait, KeepsFew, most_of};
+ghost use Rattle.xa_reactor.specs.{Aside.IsAside, Believed.Tending.Tends};
 ghost use Rattle.xa_reactor.specs.Believed.Tending.{sessions_of};
 ghost use Rattle.xa_reactor.specs.declared.trimming.TheConstants.{TRIM};
 
@@ -40,7 +42,9 @@ pub(crate) fn wait_for(
     peers: &Peers,
     acceptor: &Option<Acceptor>,
     now: u64,
-) -> Option<u64> {
+) -> Option<u64>
+    ensures { IsWait peers.now acceptor.now now result }
+{
     let (waits, pauses) = match acceptor {
         Some(acceptor) => (acceptor.waits(), acceptor.is_pausing(common, now)),
         None => (false, false),
@@ -74,7 +78,9 @@ pub(crate) fn accept<R: Eprint + Wait>(
     acceptor: &mut Option<Acceptor>,
     accepts: bool,
     now: u64,
-) {
+)
+    ensures { KeepsFew acceptor.old acceptor.new }
+{
     if let Some(acceptor) = acceptor {
         if accepts {
             acceptor.notice();
@@ -114,6 +120,7 @@ pub(crate) fn tell<R: Eprint>(rt: &R, common: &Common<'_>) {
     };
     let _ = eprintln!(rt; "xarm: manager down until a Restart or a restart of the server: {cause}");
     if common.settings.ends_when_down && common.watch.is_down() {
+        common.watch.end();
         common.stop();
     }
 }
@@ -137,6 +144,8 @@ pub(crate) fn stop<D: Reception, R: AllocGlobal + Clock + Eprint + Wait>(
 }
 
 /// Whether there is another round.
-pub(crate) fn goes_on(common: &Common<'_>, is_over: bool, peers: &Peers) -> bool {
+pub(crate) fn goes_on(common: &Common<'_>, is_over: bool, peers: &Peers) -> bool
+    ensures { IsTrue is_over → slab_len peers.now.all ≡ 0 → result ≡ false }
+{
     !common.is_stopped() && !(is_over && peers.len() == 0)
 }

@@ -1,5 +1,7 @@
-ghost use Rattle.std.specs.Prelude.{◌≡◌};
+ghost use Rattle.std.specs.Prelude.{◌≡◌, ◌≤◌, ℕ, vec_len};
+ghost use Rattle.xa_reactor.specs.Admission.{has_path, may_admit, most_open};
 
+use crate::admission::{Origin, may_admit, most_open};
 use crate::listener::Listener;
 use crate::mailbox::Mailbox;
 use crate::socket::Socket;
@@ -8,9 +10,6 @@ use crate::trims::Trims;
 use crate::watch::Watch;
 use std::sync::atomic::{AtomicBool, AtomicU64, Ordering};
 use std::sync::{Mutex, Wait};
-
-/// The most connections that are open at a time. With one session more the manager has as many as it may.
-pub const MOST_OPEN: u64 = 1_023;
 
 /// What is asked of the loops.
 #[derive(Clone, Copy, Debug, PartialEq, Eq)]
@@ -44,6 +43,8 @@ pub(crate) struct Common<'a> {
     pub(crate) ticks: Mutex<Ticks>,
     /// Until a loop has taken it, the first one that begins.
     listener: Mutex<Option<Listener>>,
+    /// Whether the listener has a Unix socket.
+    has_path: bool,
     /// How many connections are open, or handed to a loop.
     open: AtomicU64,
     /// Whether accepting pauses until a connection closes.
@@ -61,8 +62,9 @@ impl<'a> Common<'a> {
         watch: &'a Watch,
         listener: Listener,
     ) -> Common<'a>
-        ensures { result.settings ≡ settings }
+        ensures { (result.settings ≡ settings) × (result.has_path ≡ has_path listener) }
     {
+        let has_path = listener.has_path();
         Common {
             settings,
             boxes,
@@ -70,6 +72,7 @@ impl<'a> Common<'a> {
             trims: Mutex::new(Trims::new()),
             ticks: Mutex::new(Ticks::new()),
             listener: Mutex::new(Some(listener)),
+            has_path,
             open: AtomicU64::new(0),
             pauses: AtomicBool::new(false),
             is_over: AtomicBool::new(false),
@@ -85,13 +88,22 @@ impl<'a> Common<'a> {
         self.listener.lock(rt).take()
     }
 
-    /// Takes up a connection, where fewer than `MOST_OPEN` are open.
-    pub(crate) fn admit(&self) -> bool {
-        if self.open.load(Ordering::SeqCst) >= MOST_OPEN {
-            return false;
+    /// Takes up a connection from there, where few enough are open.
+    pub(crate) fn admit(&self, origin: Origin) -> bool
+        ensures { (count : ℕ) × (result ≡ may_admit self.now.has_path origin count) }
+    {
+        let is_admitted = may_admit(self.has_path, origin, self.open.load(Ordering::SeqCst));
+        if is_admitted {
+            self.open.fetch_add(1, Ordering::SeqCst);
         }
-        self.open.fetch_add(1, Ordering::SeqCst);
-        true
+        is_admitted
+    }
+
+    /// How many are open where one from there isn't taken up, at least.
+    pub(crate) fn most_open(&self, origin: Origin) -> u64
+        ensures { result ≡ most_open self.now.has_path origin }
+    {
+        most_open(self.has_path, origin)
     }
 
     /// So many connections have closed.
@@ -115,7 +127,9 @@ impl<'a> Common<'a> {
     }
 
     /// Hands a connection to one of the loops that have begun, the next one in turn from this one on; says which.
-    pub(crate) fn hand<R: Wait>(&self, rt: &R, from: usize, socket: Socket) -> usize {
+    pub(crate) fn hand<R: Wait>(&self, rt: &R, from: usize, socket: Socket) -> usize
+        ensures { result ≤ vec_len self.now.boxes }
+    {
         let index = self.next_loop(from);
         let is_put = match self.boxes.get(index) {
             Some(mailbox) => mailbox.put(rt, socket),
@@ -128,7 +142,9 @@ impl<'a> Common<'a> {
     }
 
     // The loop in turn, or the next one behind it that has begun.
-    fn next_loop(&self, from: usize) -> usize {
+    fn next_loop(&self, from: usize) -> usize
+        ensures { result ≤ vec_len self.now.boxes }
+    {
         for index in from..self.boxes.len() {
             if self.has_begun(index) {
                 return index;

@@ -1,5 +1,10 @@
 //! Worked rows.
-ghost use Rattle.xa_reactor.specs.{Ticks.TickRows, Trims.DueRows, Visited.VisitRows};
+ghost use Rattle.xa_reactor.specs.{Admission.AdmissionRows, Ticks.TickRows, Trims.DueRows, Visited.VisitRows};
+
+/// Who is admitted at a few counts. It does nothing.
+pub fn places_are_kept()
+    ensures { AdmissionRows }
+{}
 
 /// When trims are due of a few logs. It does nothing.
 pub fn trims_are_due()

@@ -10,14 +10,15 @@
 //!   requests that wait for no device, whose replies are sent then, and another for the rest, which are posted before
 //! - `tending`: a loop, round by round (`round`, `timing`, `clock`, `tools`): while another loop holds up its answers, it
 //!   takes in more requests, and for a while before it waits for a device (`patience`); `beside`: what it does between
-//!   rounds; `noticing`: what events tell it; `acceptor`: the one that accepts; `common`: what the loops share, with a
-//!   `mailbox` for each
+//!   rounds; `noticing`: what events tell it; `acceptor`: the one that accepts, `admission`: whom; `common`: what the loops
+//!   share, with a `mailbox` for each
 //! - `trims`: when the log is trimmed, and `trimming` it; `ticks`: when the manager is told the time, and `ticking`;
 //!   `visiting`: by a session of the loop's own; `visited`: what became of it
-//! - `laws`: `ticks_are_due`, `trims_are_due`, `visits_are_told`, worked rows
+//! - `laws`: `places_are_kept`, `ticks_are_due`, `trims_are_due`, `visits_are_told`, worked rows
 #![tactic(auto)]
 
 mod acceptor;
+mod admission;
 mod ask;
 mod beside;
 mod cause;
@@ -47,9 +48,10 @@ mod visited;
 mod visiting;
 mod watch;
 
+pub use admission::{KEPT_OPEN, MOST_OPEN};
 pub use ask::Ask;
-pub use common::{MOST_OPEN, Settings};
-pub use laws::{ticks_are_due, trims_are_due, visits_are_told};
+pub use common::Settings;
+pub use laws::{places_are_kept, ticks_are_due, trims_are_due, visits_are_told};
 pub use listener::Listener;
 pub use loops::{Ended, LoopFault, run_loops};
 pub use reception::Reception;

@@ -14,6 +14,7 @@ use crate::watch::Watch;
 use mio::{Poll, Waker};
 use std::alloc::AllocError;
 use std::io;
+use std::io::Print;
 use std::net::Net;
 use std::rt::Clock;
 use std::sync::Wait;
@@ -28,6 +29,9 @@ pub enum LoopFault {
     /// The system gives nothing to wait for connections by.
     #[error("cannot wait for connections")]
     Wait,
+    /// It can't be told that all is ready.
+    #[error("cannot write")]
+    Write,
 }
 
 impl From<AllocError> for LoopFault {
@@ -65,7 +69,8 @@ pub struct Ended<D> {
 }
 
 /// Serves the connections of a listener by a loop for each door, each in a thread of its own, or not at all where no
-/// thread can be made: the first one that begins accepts, and hands connections to those that have begun, in turn. They
+/// thread can be made. Once each has what it waits by, `ready` is printed, twice where the listener is a port's and a Unix
+/// socket's. Then the first one that begins accepts, and hands connections to those that have begun, in turn. They
 /// end behind so many connections, when the manager is down, or when one of them can't wait for events; if none of these
 /// is asked or comes, never.
 ///
@@ -73,7 +78,7 @@ pub struct Ended<D> {
 /// its calls. Where nothing that was posted was left to be answered when it began, nothing is when it ends.
 pub fn run_loops<
     D: Reception + Send + Drop,
-    R: AllocGlobal + Clock + Eprint + Net + Threads + Wait + Sync,
+    R: AllocGlobal + Clock + Print + Eprint + Net + Threads + Wait + Sync,
 >(
     rt: &R,
     listener: Listener,
@@ -87,6 +92,9 @@ pub fn run_loops<
     ensures asked { IfOk result (λ ended. HaveObeyed settings ended.items) }
 {
     let (seeds, boxes) = prepare(rt, doors)?;
+    if rt.println(listener.ready_lines()).is_err() {
+        return Err(LoopFault::Write);
+    }
     let common = Common::new(settings, boxes, watch, listener);
     Ok(run_all(rt, &common, seeds)?)
 }

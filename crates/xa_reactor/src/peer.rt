@@ -1,4 +1,4 @@
-ghost use Rattle.std.specs.Prelude.{◌≡◌, ◌-◌, ◌↔◌, IsTrue, if◌then◌else◌};
+ghost use Rattle.std.specs.Prelude.{◌≡◌, ◌-◌, ◌↔◌, IsTrue, not, true, if◌then◌else◌};
 ghost use Rattle.xa_connection.specs.Calls.{Asks, IsAsked, Turns, new_connection};
 ghost use Rattle.xa_connection.specs.declared.answering.Answering.{Answering};
 ghost use Rattle.xa_reactor.specs.{Asking.IsAnswered, Opening.Opens, Timing.IsRead, Timing.after_wait};
@@ -81,6 +81,7 @@ impl Peer {
     pub(crate) fn notice(&mut self, event: &Event) -> bool
         ensures same { (self.new.session ≡ self.old.session) × (self.new.connection ≡ self.old.connection) }
         ensures since { self.new.since ≡ self.old.since }
+        ensures queued { (result ≡ not self.old.is_queued) × (self.new.is_queued ≡ true) }
     {
         if event.is_read_closed() || event.is_error() {
             self.is_ending = true;
@@ -295,7 +296,9 @@ impl Peer {
     }
 
     /// The socket.
-    pub(crate) fn into_socket(self) -> Socket {
+    pub(crate) fn into_socket(self) -> Socket
+        ensures { result ≡ self.socket }
+    {
         let Peer { socket, .. } = self;
         socket
     }

@@ -1,6 +1,9 @@
-ghost use Rattle.std.specs.Prelude.{◌≡◌, ◌+◌, ℕ, None, IsTrue, false, is_some, length};
-ghost use Rattle.slab.specs.Slab.{get};
-ghost use Rattle.xa_reactor.specs.{Asking.IsAnswered, Opening.OpensAt, Peers.HasRoom};
+ghost use Rattle.std.specs.Prelude.{◌≡◌, ◌+◌, ◌++◌, ℕ, None, IsTrue, false, is_some, length, if◌then◌else◌, option_to_list};
+ghost use Rattle.std.specs.VecDeque.{deque_len};
+ghost use Rattle.mio.specs.Event.{event_token};
+ghost use Rattle.slab.specs.Slab.{get, slab_len};
+ghost use Rattle.xa_reactor.specs.{Asking.IsAnswered, Opening.OpensAt};
+ghost use Rattle.xa_reactor.specs.Peers.{GoesOn, HasRoom, IsNews, IsNoticed, turns_of};
 ghost use Rattle.xa_reactor.specs.Believed.Tending.{Tends, nobody, sessions_of};
 ghost use Rattle.xa_reactor.specs.{Since.Looks, Timing.IsToEnd, Timing.after_wait};
 
@@ -41,12 +44,16 @@ impl Peers {
         }
     }
 
-    pub(crate) fn len(&self) -> usize {
+    pub(crate) fn len(&self) -> usize
+        ensures { result ≡ slab_len self.now.all }
+    {
         self.all.len()
     }
 
     /// How many of them have a turn next.
-    pub(crate) fn queued(&self) -> usize {
+    pub(crate) fn queued(&self) -> usize
+        ensures { result ≡ deque_len self.now.queue }
+    {
         self.queue.len()
     }
 
@@ -60,7 +67,8 @@ impl Peers {
         door: &mut D,
         socket: Socket,
     ) -> bool
-        ensures { Tends D.connected D.called D.left (sessions_of self.old.all) door.old (sessions_of self.new.all) door.new }
+        ensures tends { Tends D.connected D.called D.left (sessions_of self.old.all) door.old (sessions_of self.new.all) door.new }
+        ensures count { slab_len self.new.all ≡ (if result then slab_len self.old.all + 1 else slab_len self.old.all) }
     {
         if self.queue.reserve(1).is_err() || self.all.reserve(1).is_err() {
             return false;
@@ -81,7 +89,8 @@ impl Peers {
 
     /// An event told of a connection, which has a turn.
     pub(crate) fn notice<D: Reception>(&mut self, door: &mut D, event: &Event)
-        ensures { Tends D.connected D.called D.left (sessions_of self.old.all) door.old (sessions_of self.new.all) door.new }
+        ensures turn { IsNoticed self.old (event_token event.now).0 self.new }
+        ensures tends { Tends D.connected D.called D.left (sessions_of self.old.all) door.old (sessions_of self.new.all) door.new }
     {
         let key = event.token().0;
         if notice_in(&mut self.all, event, key) {
@@ -93,6 +102,7 @@ impl Peers {
     pub(crate) fn note(&mut self, event: &Event)
         requires { HasRoom self.old 1 }
         ensures same { sessions_of self.new.all ≡ sessions_of self.old.all }
+        ensures turn { IsNoticed self.old (event_token event.now).0 self.new }
         ensures room { (turns : ℕ) → HasRoom self.old (turns + 1) → HasRoom self.new turns }
     {
         let key = event.token().0;
@@ -111,7 +121,9 @@ impl Peers {
 
     /// The key of the next connection that has a turn.
     pub(crate) fn next(&mut self) -> Option<usize>
-        ensures { self.new.all ≡ self.old.all }
+        ensures same { self.new.all ≡ self.old.all }
+        ensures turns { turns_of self.old ≡ option_to_list result ++ turns_of self.new }
+        ensures count { deque_len self.new.queue + length (option_to_list result) ≡ deque_len self.old.queue }
     {
         self.queue.pop_front()
     }
@@ -127,6 +139,7 @@ impl Peers {
         key: usize,
     ) -> Opened
         ensures same { sessions_of self.new.all ≡ sessions_of self.old.all }
+        ensures turns { self.new.queue ≡ self.old.queue }
         ensures opens { OpensAt D.connected D.called D.left (sessions_of self.old.all) door.old result door.new }
     {
         match self.all.get_mut(key) {
@@ -144,7 +157,8 @@ impl Peers {
         ask: Ask,
     ) -> Step
         requires { IsAnswered ask }
-        ensures { sessions_of self.new.all ≡ sessions_of self.old.all }
+        ensures same { sessions_of self.new.all ≡ sessions_of self.old.all }
+        ensures turns { self.new.queue ≡ self.old.queue }
     {
         match self.all.get_mut(ask.key) {
             Some(peer) => peer.close_turn(rt, round, clock, ask),
@@ -172,19 +186,18 @@ impl Peers {
 
     /// Has a turn next, or ends, also where there is no memory for that.
     pub(crate) fn go_on<D: Reception>(&mut self, door: &mut D, key: usize, step: Step)
-        ensures { Tends D.connected D.called D.left (sessions_of self.old.all) door.old (sessions_of self.new.all) door.new }
+        ensures goes { GoesOn self.old key step self.new }
+        ensures tends { Tends D.connected D.called D.left (sessions_of self.old.all) door.old (sessions_of self.new.all) door.new }
     {
-        let ends = match step {
-            Step::Waits => false,
-            Step::Goes => self.queue.push_back(key).is_err(),
-            Step::Ends => true,
-            Step::Stops => {
-                self.stopper = Some(key);
-                false
+        match step {
+            Step::Waits => {}
+            Step::Goes => {
+                if self.queue.push_back(key).is_err() {
+                    end_in(&mut self.all, door, key);
+                }
             }
-        };
-        if ends {
-            end_in(&mut self.all, door, key);
+            Step::Ends => end_in(&mut self.all, door, key),
+            Step::Stops => self.stopper = Some(key),
         }
     }
 
@@ -233,7 +246,8 @@ fn connect<D: Reception>(clock: &mut LoopClock, door: &mut D) -> Result<u64, Con
 
 // Whether the connection under this key is to be put into the queue.
 fn notice_in(all: &mut Slab<Peer>, event: &Event, key: usize) -> bool
-    ensures { (other : ℕ) → sessions_of all.new other ≡ sessions_of all.old other }
+    ensures same { (other : ℕ) → sessions_of all.new other ≡ sessions_of all.old other }
+    ensures news { IsNews all.old key result }
 {
     match all.get_mut(key) {
         Some(peer) => peer.notice(event),

@@ -25,6 +25,12 @@ pub trait Reception: Door {
     /// It was this call.
     ghost posts: { ℕ → Request → Self → Self → Type 0 };
 
+    /// Whether the answer to a request may wait for a device.
+    ghost waits: { Request → Bool };
+
+    /// How many calls there were that may have moved the log's end.
+    ghost logs: { Self → ℕ };
+
     /// Nothing that was posted is left to be answered.
     ghost is_settled: { Self → Type 0 };
 
@@ -46,7 +52,8 @@ pub trait Reception: Door {
 
     /// Whether the answer to a request may wait for a device. A hint: those of a round that don't are answered before the
     /// others, by `call_quick`, and aren't posted.
-    fn may_wait(&self, request: &Request) -> bool;
+    fn may_wait(&self, request: &Request) -> bool
+        ensures { result ≡ waits request.now };
 
     /// This ask will be at this place among those of the next `call_all`. From now on its request may be answered together
     /// with those of other doors, by whichever door comes first; its reply is given by that `call_all`. It may post
@@ -74,7 +81,8 @@ pub trait Reception: Door {
         ensures { ends self.now result };
 
     /// How many calls at this door may have moved the log's end; after the greatest number 0 comes.
-    fn logged(&self) -> u64;
+    fn logged(&self) -> u64
+        ensures { result ≡ logs self.now };
 
     /// Law: a call that was posted is one of its session.
     ghost is_posted: { IsPosted posts posted };

@@ -1,3 +1,5 @@
+ghost use Rattle.std.specs.Prelude.{◌≡◌};
+
 use mio::{Poll, Registry};
 use std::alloc::Global;
 
@@ -9,7 +11,9 @@ pub(crate) struct Round<'a> {
 }
 
 impl<'a> Round<'a> {
-    pub(crate) fn new(poll: &'a Poll, alloc: Global) -> Round<'a> {
+    pub(crate) fn new(poll: &'a Poll, alloc: Global) -> Round<'a>
+        ensures { result.alloc ≡ alloc }
+    {
         Round {
             alloc,
             registry: poll.registry(),

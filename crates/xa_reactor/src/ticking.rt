@@ -1,6 +1,6 @@
 //! The loops tell the manager the time, by a session of its own.
 ghost use Rattle.std.specs.Prelude.{◌≡◌, ◌<◌};
-ghost use Rattle.xa_reactor.specs.Ticks.{IsTimed};
+ghost use Rattle.xa_reactor.specs.{Ticks.IsTimed, Ticks.after_visit, Visited.visited_by};
 
 use crate::common::Common;
 use crate::reception::Reception;
@@ -71,7 +71,9 @@ fn tell<D: Reception, R: AllocGlobal + Clock + Eprint>(
 }
 
 // Notes what came of a tick, and tells it: which branches it marked, or why it was refused, once.
-fn note<R: Eprint>(rt: &R, ticks: &mut Ticks, moment: u64, answered: &Result<Reply, ConnectFault>) {
+fn note<R: Eprint>(rt: &R, ticks: &mut Ticks, moment: u64, answered: &Result<Reply, ConnectFault>)
+    ensures { ticks.new ≡ after_visit ticks.old moment (visited_by answered.now) }
+{
     match visited_by(answered) {
         Visited::Done(marked) => {
             ticks.finish(moment);

@@ -1,6 +1,7 @@
 //! The times of a loop, in milliseconds.
 ghost use Rattle.std.specs.Prelude.{◌≡◌};
-ghost use Rattle.xa_reactor.specs.Timing.{is_overdue, is_too_quiet, looks_of, wait_of};
+ghost use Rattle.std.specs.Duration.{as_nanos};
+ghost use Rattle.xa_reactor.specs.Timing.{gather_nanos, is_overdue, is_too_quiet, looks_of, wait_of};
 
 use std::time::Duration;
 
@@ -35,7 +36,9 @@ pub(crate) fn looks_of(connections: usize) -> usize
 }
 
 /// For how long it waits for events when it has looked so often: not at all, later a millisecond.
-pub(crate) fn gather_wait(looks: u32) -> Duration {
+pub(crate) fn gather_wait(looks: u32) -> Duration
+    ensures { as_nanos result ≡ gather_nanos looks }
+{
     Duration::from_millis(u64::from(looks >= QUICK_GATHERS))
 }
 

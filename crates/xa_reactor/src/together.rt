@@ -1,9 +1,10 @@
 //! The turns of a round, with one call at the door for the requests that wait for no device, and another for the rest.
-ghost use Rattle.std.specs.Prelude.{ℕ, ◌≡◌, ◌+◌, ◌≤◌, [], All};
+ghost use Rattle.std.specs.Prelude.{ℕ, ◌≡◌, ◌+◌, ◌≤◌, [], All, IfSome};
 ghost use Rattle.std.specs.Vec.{vec_capacity, vec_len};
 ghost use Rattle.xa_reactor.specs.Asking.{IsAnswered, IsLent, IsOpen, IsTold, PutsAll, TurnedAll};
 ghost use Rattle.xa_reactor.specs.Believed.Tending.{Table, Tends, TendsPosting, sessions_of};
 ghost use Rattle.xa_reactor.specs.{Timing.after_wait, Together.HasLent, Together.IsOver, Together.may_gather, Together.may_grow};
+ghost use Rattle.xa_reactor.specs.Together.{GoesOnAll, KeepsTurns, turns_in};
 
 use crate::ask::Ask;
 use crate::clock::LoopClock;
@@ -56,7 +57,8 @@ impl Together {
 
     // Makes room for so many turns more, and for what comes after all of them. Whether there was memory for it.
     fn reserve(&mut self, turns: usize) -> bool
-        ensures { (table : Table) → HasLent table self.old → HasLent table self.new }
+        ensures lent { (table : Table) → HasLent table self.old → HasLent table self.new }
+        ensures turns { turns_in self.new ≡ turns_in self.old }
     {
         let lent = self.quick.len() + self.waiting.len();
         self.quick.reserve(turns).is_ok()
@@ -96,6 +98,7 @@ impl Together {
         ensures tends { TendsPosting D.posted D.connected D.called D.left
             (sessions_of peers.old.all) door.old (sessions_of peers.new.all) door.new }
         ensures lent { HasLent (sessions_of peers.new.all) self.new }
+        ensures turns { KeepsTurns self.old peers.old self.new peers.new }
     {
         let turns = peers.queued();
         if !self.reserve(turns) {
@@ -120,6 +123,7 @@ impl Together {
         ensures tends { TendsPosting D.posted D.connected D.called D.left
             (sessions_of peers.old.all) door.old (sessions_of peers.new.all) door.new }
         ensures lent { HasLent (sessions_of peers.new.all) self.new }
+        ensures turns { KeepsTurns self.old peers.old self.new peers.new }
     {
         let turns = self.over.len() + self.quick.len() + self.waiting.len();
         if turns == self.over.capacity()
@@ -156,6 +160,7 @@ impl Together {
         requires { HasLent (sessions_of peers.old.all) self.old }
         ensures tends { Tends D.connected D.called D.left (sessions_of peers.old.all) door.old (sessions_of peers.new.all) door.new }
         ensures lent { HasLent (sessions_of peers.new.all) self.new }
+        ensures turns { KeepsTurns self.old peers.old self.new peers.new }
     {
         give_quick(
             rt,
@@ -207,7 +212,9 @@ impl Together {
 }
 
 // Whether the answer to an ask may wait for a device.
-fn may_wait<D: Reception>(door: &D, ask: &Ask) -> bool {
+fn may_wait<D: Reception>(door: &D, ask: &Ask) -> bool
+    ensures { IfSome ask.now.request (λ request. result ≡ D.waits request) }
+{
     match &ask.request {
         Some(request) => door.may_wait(request),
         None => false,
@@ -230,7 +237,8 @@ fn give_quick<D: Reception, R: Clock>(
     ensures tends { Tends D.connected D.called D.left (sessions_of peers.old.all) door.old (sessions_of peers.new.all) door.new }
     ensures same { sessions_of peers.new.all ≡ sessions_of peers.old.all }
     ensures none { asks.new.items ≡ [] }
-    ensures room { (vec_len over.new ≤ vec_len over.old + vec_len asks.old) × (vec_capacity over.new ≡ vec_capacity over.old) }
+    ensures turns { (vec_len over.new ≡ vec_len over.old + vec_len asks.old) × (peers.new.queue ≡ peers.old.queue) }
+    ensures room { vec_capacity over.new ≡ vec_capacity over.old }
 {
     answer_quick(asks, clock, door);
     send_all(rt, asks, over, peers, round, clock);
@@ -251,7 +259,8 @@ fn give_waiting<D: Reception, R: Clock>(
     ensures tends { Tends D.connected D.called D.left (sessions_of peers.old.all) door.old (sessions_of peers.new.all) door.new }
     ensures same { sessions_of peers.new.all ≡ sessions_of peers.old.all }
     ensures none { asks.new.items ≡ [] }
-    ensures room { (vec_len over.new ≤ vec_len over.old + vec_len asks.old) × (vec_capacity over.new ≡ vec_capacity over.old) }
+    ensures turns { (vec_len over.new ≡ vec_len over.old + vec_len asks.old) × (peers.new.queue ≡ peers.old.queue) }
+    ensures room { vec_capacity over.new ≡ vec_capacity over.old }
     ensures settled { D.is_settled door.new }
 {
     answer_all(asks, clock, door);
@@ -271,7 +280,8 @@ fn send_all<R: Clock>(
     requires room { vec_len over.old + vec_len asks.old ≤ vec_capacity over.old }
     ensures same { sessions_of peers.new.all ≡ sessions_of peers.old.all }
     ensures none { asks.new.items ≡ [] }
-    ensures room { (vec_len over.new ≤ vec_len over.old + vec_len asks.old) × (vec_capacity over.new ≡ vec_capacity over.old) }
+    ensures turns { (vec_len over.new ≡ vec_len over.old + vec_len asks.old) × (peers.new.queue ≡ peers.old.queue) }
+    ensures room { vec_capacity over.new ≡ vec_capacity over.old }
 {
     for ask in asks.drain(..) {
         let key = ask.key;
@@ -282,6 +292,7 @@ fn send_all<R: Clock>(
 
 // What comes after turns.
 fn go_on_all<D: Reception>(over: &mut Vec<(usize, Step)>, peers: &mut Peers, door: &mut D)
+    ensures goes { GoesOnAll peers.old over.old.items peers.new }
     ensures tends { Tends D.connected D.called D.left (sessions_of peers.old.all) door.old (sessions_of peers.new.all) door.new }
     ensures none { over.new.items ≡ [] }
 {

@@ -1,5 +1,8 @@
 //! What a loop's turns use.
+ghost use Rattle.std.specs.Prelude.{◌≡◌, IfOk, vec_len};
+ghost use Rattle.xa_connection.specs.declared.connection.TheConstants.{MOST_INPUT};
 ghost use Rattle.xa_reactor.specs.Believed.Tending.{Tends, sessions_of};
+ghost use Rattle.xa_reactor.specs.Patience.{new_patience};
 
 use crate::clock::LoopClock;
 use crate::common::Common;
@@ -26,7 +29,9 @@ pub(crate) struct Tools {
 }
 
 impl Tools {
-    pub(crate) fn new(alloc: Global) -> Result<Tools, AllocError> {
+    pub(crate) fn new(alloc: Global) -> Result<Tools, AllocError>
+        ensures { IfOk result (λ tools. (vec_len tools.scratch ≡ MOST_INPUT) × (tools.patience ≡ new_patience) × (tools.seen ≡ 0)) }
+    {
         Ok(Tools {
             scratch: Vec::from_elem(alloc, 0u8, MOST_INPUT)?,
             together: Together::new(alloc),

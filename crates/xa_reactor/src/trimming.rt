@@ -1,6 +1,7 @@
 //! A trim of the log, by an operator's session of its own.
-ghost use Rattle.std.specs.Prelude.{◌≡◌, true};
+ghost use Rattle.std.specs.Prelude.{◌≡◌, ◌<◌, ◌≤◌, IsTrue, true};
 ghost use Rattle.xa_reactor.specs.Aside.{IsAside};
+ghost use Rattle.xa_reactor.specs.Trims.{IsTrimmedAt, bound_of, is_quick};
 
 use crate::clock::LoopClock;
 use crate::common::Common;
@@ -39,6 +40,8 @@ pub(crate) fn keep_short<D: Reception, R: AllocGlobal + Clock + Eprint + Wait>(
     seen: &mut u64,
 )
     ensures aside { IsAside D.connected D.called D.left TRIM door.old door.new }
+    ensures above { IsTrimmedAt D.ends (λ end. bound_of common.now.settings.trim_bytes common.now.settings.log_bytes < end) door.old
+        door.new }
     ensures never { common.now.settings.trim_bytes ≡ 0 → door.new ≡ door.old }
     ensures waited { clock.new.is_past ≡ true }
 {
@@ -63,9 +66,6 @@ pub(crate) fn keep_short<D: Reception, R: AllocGlobal + Clock + Eprint + Wait>(
     }
 }
 
-/// The most bytes of a log that is trimmed as the server ends: it takes less than a second.
-const QUICK: u64 = 67_108_864;
-
 /// Trims the log as the server ends, where that is quick and makes it shorter: so the next start reads less.
 pub(crate) fn trim_last<D: Reception, R: AllocGlobal + Clock + Eprint + Wait>(
     rt: &R,
@@ -73,7 +73,9 @@ pub(crate) fn trim_last<D: Reception, R: AllocGlobal + Clock + Eprint + Wait>(
     door: &mut D,
     now: u64,
 )
-    ensures { IsAside D.connected D.called D.left TRIM door.old door.new }
+    ensures aside { IsAside D.connected D.called D.left TRIM door.old door.new }
+    ensures quick { IsTrimmedAt D.ends (λ end. is_quick end ≡ true) door.old door.new }
+    ensures never { common.now.settings.trim_bytes ≡ 0 → door.new ≡ door.old }
 {
     if common.settings.trim_bytes == 0 || common.watch.is_down() {
         return;
@@ -82,13 +84,16 @@ pub(crate) fn trim_last<D: Reception, R: AllocGlobal + Clock + Eprint + Wait>(
         return;
     };
     let end = door.log_end();
-    if end <= QUICK && trims.has_grown(end) {
+    if trims.is_to_trim_last(end) {
         trim(rt, door, &mut trims, now, end);
     }
 }
 
 // Whether to ask for the log's end, so many calls after it was asked for.
-fn is_to_look<D: Reception>(door: &D, calls: u64) -> bool {
+fn is_to_look<D: Reception>(door: &D, calls: u64) -> bool
+    ensures seldom { IsTrue result → 4 ≤ calls }
+    ensures often { 16 ≤ calls → result ≡ true }
+{
     calls >= SLOW_PACE || calls >= PACE && door.is_free()
 }
 

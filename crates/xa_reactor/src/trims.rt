@@ -1,6 +1,7 @@
 //! When the log is trimmed, by where it ends. Times are in milliseconds, as a loop's clock has them.
-ghost use Rattle.std.specs.Prelude.{◌≡◌};
-ghost use Rattle.xa_reactor.specs.Trims.{after_look, after_trim, bound_of, has_grown, is_due, is_news, is_to_trim, may_try, new_trims, refused_by};
+ghost use Rattle.std.specs.Prelude.{◌≡◌, ◌&&◌};
+ghost use Rattle.xa_reactor.specs.Trims.{after_look, after_trim, bound_of, has_grown, is_due, is_news, is_quick, is_to_trim, may_try, new_trims};
+ghost use Rattle.xa_reactor.specs.Trims.{refused_by};
 
 use crate::common::Settings;
 
@@ -9,6 +10,9 @@ pub(crate) const REST: u64 = 60_000;
 
 /// By how much a log has grown that is trimmed as the server ends.
 const GROWN: u64 = 1_048_576;
+
+/// The most bytes of a log that is trimmed as the server ends: it takes less than a second.
+const QUICK: u64 = 67_108_864;
 
 /// Above which end a log may be trimmed: what was asked for, if that is at most half of its greatest size, so that much
 /// comes before the log is full; else a quarter of that.
@@ -29,6 +33,13 @@ pub(crate) fn is_due(end: u64, base: u64, bound: u64, log_bytes: u64) -> bool
 {
     bound < end
         && (base <= end / 4 || log_bytes.saturating_sub(base) / 2 <= end.saturating_sub(base))
+}
+
+// Whether a trim of a log that ends there is quick.
+fn is_quick(end: u64) -> bool
+    ensures { result ≡ is_quick end }
+{
+    end <= QUICK
 }
 
 /// A trim that was refused: when, and where the log ended.
@@ -101,9 +112,16 @@ impl Trims {
             && may_try(self.refused, now, end)
     }
 
-    /// Whether the log, which ends there, has grown by so much since the last snapshot that a start is shorter behind another
-    /// one; not where a trim was refused since.
-    pub(crate) fn has_grown(&self, end: u64) -> bool
+    /// Whether the log, which ends there, is to be trimmed as the server ends.
+    pub(crate) fn is_to_trim_last(&self, end: u64) -> bool
+        ensures { result ≡ (is_quick end && has_grown self.now end) }
+    {
+        is_quick(end) && self.has_grown(end)
+    }
+
+    // Whether the log, which ends there, has grown by so much since the last snapshot that a start is shorter behind another
+    // one; not where a trim was refused since.
+    fn has_grown(&self, end: u64) -> bool
         ensures { result ≡ has_grown self.now end }
     {
         self.refused.is_none() && GROWN <= end.saturating_sub(self.base)

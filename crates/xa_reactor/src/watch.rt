@@ -16,6 +16,8 @@ pub struct Watch {
     is_untold: AtomicBool,
     /// Why it went down last, by the cause's number.
     cause: AtomicU64,
+    /// Whether the loops end since it is down.
+    has_ended: AtomicBool,
 }
 
 impl Watch {
@@ -26,6 +28,7 @@ impl Watch {
             is_down: AtomicBool::new(false),
             is_untold: AtomicBool::new(false),
             cause: AtomicU64::new(0),
+            has_ended: AtomicBool::new(false),
         }
     }
 
@@ -59,6 +62,16 @@ impl Watch {
     /// Whether it went down last.
     pub(crate) fn is_down(&self) -> bool {
         self.is_down.load(Ordering::SeqCst)
+    }
+
+    /// The loops end since it is down.
+    pub(crate) fn end(&self) {
+        self.has_ended.store(true, Ordering::SeqCst);
+    }
+
+    /// Whether the loops ended since it was down, also where a Restart that was asked for by then has helped.
+    pub fn has_ended(&self) -> bool {
+        self.has_ended.load(Ordering::SeqCst)
     }
 
     /// Why it went down, where nobody was told, also where it is up again.

@@ -1,4 +1,4 @@
-// The limits, as docs/PROTOCOL.md states them: what is asked at them doesn't go by the crates' own constants.
+// The limits, as docs/PROTOCOL.md states them: what is asked at them doesn't use the crates' own constants.
 
 /// The bytes of an Open's text, of each part of an XID, of a key and of a value.
 pub const INFO_BYTES: u8 = 255;

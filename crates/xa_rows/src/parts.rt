@@ -1,7 +1,7 @@
-/// A line of a script, and the reply that it shows: none where that is empty.
+/// A line of a script, and the reply that it shows: none if that is empty.
 pub type Line = (&'static str, &'static str);
 
-/// What is played: parts of a script, one behind the other.
+/// What is played: parts of a script, one after another.
 pub type Play = &'static [&'static [Line]];
 
 pub const OK: &str = "0 Nothing";

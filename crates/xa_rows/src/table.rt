@@ -3,7 +3,7 @@ ghost use Rattle.std.specs.List.{AllWithin, HoldsAt};
 ghost use Rattle.std.specs.Option.{MatchOption};
 ghost use Rattle.std.specs.Prelude.{◌<◌, false, length, true};
 
-/// The index of the first row that isn't right, by a check of one row: none where all are.
+/// The index of the first row that isn't right, by a check of one row: none if all are.
 pub fn first_wrong<T, F: Fn(&T) -> bool>(rows: &[T], is_right: F) -> Option<usize>
     requires { F.IsAlwaysCallable is_right }
     ensures { MatchOption result (AllWithin (λ row. FnReturnsAt F.Fn is_right row true) rows.now 0 (length rows.now))

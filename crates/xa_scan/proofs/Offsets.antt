@@ -4,6 +4,7 @@ use Rattle.xa_log.specs.declared.format.Format.TheVariants.{One, Two}
 use Rattle.xa_log.specs.Believed.Chain.{digest, magic, record_of, records, start}
 use Rattle.xa_log.proofs.Records.{length-record_of}
 use Rattle.xa_scan.specs.Lines.{behind, line_at, lines_from}
+use Rattle.xa_scan.specs.declared.format.Format.{Format}
 use Rattle.xa_limits.specs.declared.TheConstants.{FIRST_OFFSET}
 use Rattle.xa_scan.specs.Worked.{OffsetsInTheFile}
 
@@ -11,18 +12,18 @@ pub behind_both : (offset : ℕ) (xs ys : List (List ℕ)) → behind offset (xs
 behind_both offset [] ys = refl
 behind_both offset (x ∷ xs) ys = behind_both (offset + (36 + length x)) xs ys
 
-pub lines_both : (offset : ℕ) (xs ys : List (List ℕ)) → lines_from offset (xs ++ ys) ≡ lines_from offset xs ++ lines_from (behind offset xs) ys
-lines_both offset [] ys = refl
-lines_both offset (x ∷ xs) ys =
-    ap (λ (l : List ℕ). line_at offset x ++ l) (lines_both (offset + (36 + length x)) xs ys)
-    ∙ sym (append_assoc (line_at offset x) (lines_from (offset + (36 + length x)) xs) (lines_from (behind (offset + (36 + length x)) xs) ys))
+pub lines_both : (format : Format) (offset : ℕ) (xs ys : List (List ℕ)) → lines_from format offset (xs ++ ys) ≡ lines_from format offset xs ++ lines_from format (behind offset xs) ys
+lines_both format offset [] ys = refl
+lines_both format offset (x ∷ xs) ys =
+    ap (λ (l : List ℕ). line_at format offset x ++ l) (lines_both format (offset + (36 + length x)) xs ys)
+    ∙ sym (append_assoc (line_at format offset x) (lines_from format (offset + (36 + length x)) xs) (lines_from format (behind (offset + (36 + length x)) xs) ys))
 
 pub behind_grows : (offset : ℕ) (bodies : List (List ℕ)) → offset ≤ behind offset bodies
 behind_grows offset [] = omega arith
 behind_grows offset (body ∷ bodies) = omega (arith, behind_grows (offset + (36 + length body)) bodies)
 
-pub lines_one : (offset : ℕ) (body : List ℕ) → lines_from offset (body ∷ []) ≡ line_at offset body
-lines_one offset body = append-nil (line_at offset body)
+pub lines_one : (format : Format) (offset : ℕ) (body : List ℕ) → lines_from format offset (body ∷ []) ≡ line_at format offset body
+lines_one format offset body = append-nil (line_at format offset body)
 
 behind_records : (offset : ℕ) (prev : List ℕ) (bodies : List (List ℕ)) → behind offset bodies ≡ offset + length (records prev bodies)
 behind_records offset prev [] = omega arith

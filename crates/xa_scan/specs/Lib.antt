@@ -1,4 +1,5 @@
 pub mod Records
+pub mod Objects
 pub mod Lines
 pub mod Faults
 pub mod Scans

@@ -1,9 +1,9 @@
 //! What can be said of the lines apart from the code.
-ghost use Rattle.xa_scan.specs.Worked.{Based, Empty, Held, Known, Others, OffsetsInTheFile, Prepared};
+ghost use Rattle.xa_scan.specs.Worked.{Based, BasedObjects, Empty, Held, HeldObjects, Known, Others, OtherObjects, OffsetsInTheFile, Prepared, PreparedObjects};
 
 /// Worked rows, computed on the definitions alone: a first boot with a prepared branch; snapshots with a branch that is
 /// held, with what was committed, and with what the operator completed; the other kinds of records; a log without
-/// records.
+/// records. Likewise as JSON objects.
 pub fn worked_scans()
     ensures prepared { Prepared }
     ensures held { Held }
@@ -11,6 +11,10 @@ pub fn worked_scans()
     ensures known { Known }
     ensures others { Others }
     ensures empty { Empty }
+    ensures prepared_objects { PreparedObjects }
+    ensures held_objects { HeldObjects }
+    ensures based_objects { BasedObjects }
+    ensures other_objects { OtherObjects }
 {}
 
 /// The offset that is printed of a record is where it begins in the file, and the end is where the next one would

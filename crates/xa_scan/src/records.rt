@@ -107,7 +107,7 @@ fn push_directed(line: &mut Vec<u8>, xid: &Xid, direction: Direction) -> Result<
     line.extend_from_slice(direction_name(direction).as_bytes())
 }
 
-fn direction_name(direction: Direction) -> &'static str
+pub fn direction_name(direction: Direction) -> &'static str
     ensures { result.now ≡ direction_text direction }
 {
     match direction {

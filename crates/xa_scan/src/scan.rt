@@ -7,6 +7,7 @@ ghost use Rattle.xa_limits.specs.declared.TheConstants.{FIRST_OFFSET, MOST_LOG};
 ghost use Rattle.xa_scan.specs.Scans.{AddsLine, AddsLines, OnlyLooks, Scans};
 
 use crate::fault::ScanFault;
+use crate::format::Format;
 use crate::lines::{body_line, last_line};
 use std::alloc::Global;
 use std::io::{self, Write};
@@ -15,8 +16,8 @@ use xa_limits::{AROUND_BODY, FIRST_OFFSET, MOST_LOG};
 use xa_log::{OpenFault, read_log_damage};
 use xa_output::write_text;
 
-/// Reads the log that a disk is, of `MOST_LOG` bytes at most, and writes a line for each of its records, in order: its
-/// offset and its text. Behind them stands the line of the log's end. A log that is damaged there is told as
+/// Reads the log that a disk is, of `MOST_LOG` bytes at most, and writes a line for each of its records, in order and in a
+/// format: its offset and its text, or an object. Behind them stands the line of the log's end. A log that is damaged there is told as
 /// `ScanFault::Damaged`.
 ///
 /// The log is read before anything is printed. The disk is only looked at, by the calls of `read_log_damage`.
@@ -24,14 +25,15 @@ pub fn scan_run<D: Disk, W: Write>(
     alloc: Global,
     disk: &mut D,
     writer: &mut W,
+    format: Format,
 ) -> Result<(), ScanFault>
-    ensures scans { Scans D.honest result (D.seen disk.old) (W.contents writer.old) (W.contents writer.new) }
+    ensures scans { Scans format D.honest result (D.seen disk.old) (W.contents writer.old) (W.contents writer.new) }
     ensures looks { OnlyLooks D.Disk disk.old disk.new }
 {
     let (bodies, damaged) = read_log_damage(alloc, disk, MOST_LOG)?;
     let end = end_of(bodies.as_slice())?;
     let damage = damage_behind(damaged, bodies.as_slice(), end);
-    let written = write_lines(alloc, writer, bodies.as_slice(), end);
+    let written = write_lines(alloc, writer, format, bodies.as_slice(), end);
     let flushed = writer.flush();
     ended(written, flushed, damage)
 }
@@ -98,41 +100,48 @@ fn next_offset(offset: u64, length: usize) -> Option<u64>
 fn write_lines<W: Write>(
     alloc: Global,
     writer: &mut W,
+    format: Format,
     bodies: &[Vec<u8>],
     end: u64,
 ) -> Result<(), ScanFault>
     requires { end ≡ behind FIRST_OFFSET (bodies_of bodies.now) }
-    ensures { AddsLines result (bodies_of bodies.now) (W.contents writer.old) (W.contents writer.new) }
+    ensures { AddsLines format result (bodies_of bodies.now) (W.contents writer.old) (W.contents writer.new) }
 {
     let mut offset = FIRST_OFFSET;
     let mut rest = bodies;
     while let Some((body, others)) = rest.split_first() {
         let body = body.as_slice();
-        write_body(alloc, writer, offset, body)?;
+        write_body(alloc, writer, format, offset, body)?;
         offset += AROUND_BODY as u64 + body.len() as u64;
         rest = others;
     }
-    write_end(alloc, writer, end)
+    write_end(alloc, writer, format, end)
 }
 
 /// Writes the line of a body's record.
 fn write_body<W: Write>(
     alloc: Global,
     writer: &mut W,
+    format: Format,
     offset: u64,
     body: &[u8],
 ) -> Result<(), ScanFault>
-    ensures { AddsLine result (line_at offset body.now) (W.contents writer.old) (W.contents writer.new) }
+    ensures { AddsLine result (line_at format offset body.now) (W.contents writer.old) (W.contents writer.new) }
 {
-    let line = body_line(alloc, offset, body)?;
+    let line = body_line(alloc, format, offset, body)?;
     write_line(writer, line.as_slice())
 }
 
 /// Writes the line of the end.
-fn write_end<W: Write>(alloc: Global, writer: &mut W, offset: u64) -> Result<(), ScanFault>
-    ensures { AddsLine result (end_line offset) (W.contents writer.old) (W.contents writer.new) }
+fn write_end<W: Write>(
+    alloc: Global,
+    writer: &mut W,
+    format: Format,
+    offset: u64,
+) -> Result<(), ScanFault>
+    ensures { AddsLine result (end_line format offset) (W.contents writer.old) (W.contents writer.new) }
 {
-    let line = last_line(alloc, offset)?;
+    let line = last_line(alloc, format, offset)?;
     write_line(writer, line.as_slice())
 }
 

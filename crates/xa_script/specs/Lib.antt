@@ -1,6 +1,8 @@
 pub mod Parts
+pub mod Words
 pub mod Numbers
 pub mod Hexadecimal
+pub mod Texts
 pub mod Flags
 pub mod Requests
 pub mod Lines

@@ -1,8 +1,9 @@
 -- What a line of a script says.
 use Rattle.std.specs.Prelude.{ℕ, ◌==◌, Bool, true, if◌then◌else◌, bytes_eq, codes}
 use Rattle.std.specs.Prelude.{List, [], ◌∷◌, Option, Some, None, option_and_then, unwrap_or}
+use Rattle.std.specs.Io.BufRead.{strip_last}
 use Rattle.std.specs.Option.{option_map}
-use Rattle.xa_script.specs.Parts.{alone, by_one, by_two, words}
+use Rattle.xa_script.specs.Words.{alone, by_one, by_two, words}
 use Rattle.xa_script.specs.Numbers.{byte_count_of, call_number_of, number_of}
 use Rattle.xa_script.specs.Requests.{verb_of, request_of}
 use Rattle.xa_script.specs.declared.call_effect.CallEffect.{CallEffect}
@@ -91,5 +92,9 @@ module _ (xid_of : List ℕ → Option Triple) where
   by_words (word ∷ []) = sole_of word
   by_words (first ∷ second ∷ others) = unwrap_or (asked_by first (second ∷ others)) Unknown
 
+  abbrev pub said_of : List ℕ → Line
+  said_of text = if is_silent text then Silent else by_words (words text)
+
+  -- a carriage return at the end isn't read
   abbrev pub line_of : List ℕ → Line
-  line_of line = if is_silent line then Silent else by_words (words line)
+  line_of line = said_of (strip_last 13 line)

@@ -1,5 +1,5 @@
 -- The line that shows a reply.
-use Rattle.std.specs.Prelude.{ℕ, ℤ, List, [], ◌∷◌, ◌++◌, codes, flat_map}
+use Rattle.std.specs.Prelude.{ℕ, ℤ, Bool, true, false, List, [], ◌∷◌, ◌++◌, codes, flat_map}
 use Rattle.std.specs.Fmt.{decimal, signed_decimal}
 use Rattle.xa_codes.specs.Names as names
 use Rattle.xa_codes.specs.declared.detail.Detail.{Detail}
@@ -13,7 +13,7 @@ use Rattle.xa_frame.specs.declared.known_branch.KnownBranch.{KnownBranch}
 use Rattle.xa_frame.specs.declared.reply.Reply.{Reply}
 use Rattle.xa_frame.specs.declared.status.Status.{Status}
 use Rattle.xa_script.specs.declared.style.Style.{Style}
-use Rattle.xa_script.specs.declared.style.Style.TheVariants.{Codes, Names}
+use Rattle.xa_script.specs.Texts.{quoted}
 use Rattle.xa_xid.specs.Triple.{Triple}
 use Rattle.xa_xid.specs.Spelling.{hex, text_of}
 
@@ -75,15 +75,21 @@ body_text (Xids xids) = codes " xids" ++ xids_text xids
 body_text (Branches branches) = codes " branches" ++ branches_text branches
 body_text (Doing status) = codes " status" ++ status_text status
 
--- the code, and behind it C193's name of it where the style has names
-abbrev pub code_text : Style → ℤ → List ℕ
-code_text Codes code = signed_decimal code
-code_text Names code = signed_decimal code ++ 32 ∷ names.name_of code
+-- the code, and behind it C193's name of it where there are names
+abbrev pub code_text : Bool → ℤ → List ℕ
+code_text false code = signed_decimal code
+code_text true code = signed_decimal code ++ 32 ∷ names.name_of code
+
+-- the body, with a value as text in quotes where there are texts
+abbrev pub body_in : Bool → Body → List ℕ
+body_in true (Value value) = codes " value " ++ quoted value
+body_in _ body = body_text body
 
 -- the code's text, a blank, the detail's name, the body and the line's end
 abbrev pub line_in : Style → Reply → List ℕ
-line_in style reply = code_text style reply.code ++ (32 ∷ name_of reply.detail) ++ body_text reply.body ++ 10 ∷ []
+line_in style reply =
+    code_text style.has_names reply.code ++ (32 ∷ name_of reply.detail) ++ body_in style.has_texts reply.body ++ 10 ∷ []
 
--- the same with the code's number alone
+-- the same with the code's number alone, and a value in hexadecimal
 abbrev pub line_of : Reply → List ℕ
 line_of reply = signed_decimal reply.code ++ (32 ∷ name_of reply.detail) ++ body_text reply.body ++ 10 ∷ []

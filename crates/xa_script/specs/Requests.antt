@@ -6,7 +6,8 @@ use Rattle.std.specs.List.{list_all}
 use Rattle.xa_script.specs.Flags.{flags_of}
 use Rattle.xa_script.specs.Hexadecimal.{bytes_of}
 use Rattle.xa_script.specs.Numbers.{count_of, moment_of}
-use Rattle.xa_script.specs.Parts.{alone, by_one, two_of, by_two}
+use Rattle.xa_script.specs.Texts.{is_quoted, text_of as bytes_of_text}
+use Rattle.xa_script.specs.Words.{alone, by_one, two_of, by_two}
 use Rattle.xa_codes.specs.declared.call.Call.{Call}
 use Rattle.xa_codes.specs.declared.call.Call.TheVariants as call
 use Rattle.xa_codes.specs.declared.direction.Direction.{Direction}
@@ -52,14 +53,22 @@ is_graphic word = list_all (λ c. nat_le 33 c && nat_le c 126) word
 abbrev pub is_name : List ℕ → Bool
 is_name word = nat_le 1 (length word) && nat_le (length word) MOST_INFO && is_graphic word
 
--- 1 to MOST_KEY bytes, of two digits each
-abbrev pub key_of : List ℕ → Option (List ℕ)
-key_of word = if nat_le 1 (length word) && nat_le (length word) (2 * MOST_KEY) then bytes_of word else None
+-- so many bytes at the least, and at the most
+abbrev pub between : ℕ → ℕ → List ℕ → Option (List ℕ)
+between least most bytes = if nat_le least (length bytes) && nat_le (length bytes) most then Some bytes else None
 
--- at most MOST_VALUE bytes, of two digits each; the empty value is a dash
+-- 1 to MOST_KEY bytes, of two digits each, or as text in quotes
+abbrev pub key_of : List ℕ → Option (List ℕ)
+key_of word =
+    if is_quoted word then option_and_then (between 1 MOST_KEY) (bytes_of_text word)
+    else if nat_le 1 (length word) && nat_le (length word) (2 * MOST_KEY) then bytes_of word
+    else None
+
+-- at most MOST_VALUE bytes, likewise; the empty value is also a dash
 abbrev pub value_of : List ℕ → Option (List ℕ)
 value_of word =
-    if bytes_eq word (codes "-") then Some []
+    if is_quoted word then option_and_then (between 0 MOST_VALUE) (bytes_of_text word)
+    else if bytes_eq word (codes "-") then Some []
     else if nat_le 1 (length word) && nat_le (length word) (2 * MOST_VALUE) then bytes_of word
     else None
 

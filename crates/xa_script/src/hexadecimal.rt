@@ -26,7 +26,8 @@ pub fn read_bytes(alloc: Global, digits: &[u8]) -> Result<Option<Bytes>, AllocEr
     }
 }
 
-fn read_byte(high: u8, low: u8) -> Option<u8>
+/// The byte of two lower case hexadecimal digits.
+pub fn read_byte(high: u8, low: u8) -> Option<u8>
     ensures { result ≡ byte_of high low }
 {
     let high = read_digit(high)?;

@@ -6,11 +6,14 @@
 //!
 //! - `line`: `Line` and `read_line`
 //! - `verb`: the call that a word names; `request`: the request of a call and the words behind it
-//! - words: `parts`, where a text is cut, with `first_part`; `numbers`; `flags`; `hexadecimal`, bytes by their digits
+//! - `parts`: where a text is cut, with `first_part`; `words`: the words of a line, of which text in quotes is one
+//! - what words say: `numbers`; `flags`; `hexadecimal`, bytes by their digits; `text`, bytes as text in quotes
 //! - `log_file`: `LogFile`, which file such a line speaks of; `call_effect`: `CallEffect`, what a device call that is to
 //!   fail does all the same
+//! - `mistake`: `mistake_text`, what is told of a line that asks nothing; `teller`: `Teller`, who is told
 //! - `reply`: `reply_line`; `styled_line`, the same in a `Style`
-//! - `laws`: `reader_exists`, the texts of XIDs can be read, so that the contract of `read_line` says something
+//! - `laws`: `reader_exists`, the texts of XIDs can be read, so that the contract of `read_line` says something; `texts_are_read`,
+//!   text in quotes is read as the bytes that it was made of
 //!
 //! Nothing here calls a manager, so whoever sends requests by other ways can read the same lines. docs/SCRIPT.md has
 //! the format.
@@ -22,17 +25,25 @@ mod hexadecimal;
 mod laws;
 mod line;
 mod log_file;
+mod mistake;
 mod numbers;
 mod parts;
 mod reply;
 mod request;
 mod style;
+mod teller;
+mod text;
 mod verb;
+mod words;
 
 pub use call_effect::CallEffect;
-pub use laws::reader_exists;
+pub use laws::{reader_exists, texts_are_read};
 pub use line::{Line, read_line};
 pub use log_file::LogFile;
+pub use mistake::mistake_text;
 pub use parts::first_part;
 pub use reply::{reply_line, styled_line};
 pub use style::Style;
+pub use teller::Teller;
+pub use text::{Stage, push_quoted, read_text};
+pub use words::Place;

@@ -1,17 +1,18 @@
+ghost use Rattle.std.specs.Io.BufRead.{strip_last};
 ghost use Rattle.std.specs.Option.{option_copied};
 ghost use Rattle.std.specs.Prelude.{◌≡◌, ◌≢◌, ◌∷◌, [], ℕ, IfOk, IfSome, List, Option, false, unwrap_or};
 ghost use Rattle.xa_xid.specs.Triple.{Triple};
 ghost use Rattle.xa_script.specs.Lines.{IsWithinLimits, asked_of, by_file, by_words, call_of, crash_of, fail_of, file_of, line_of, sole_of};
-ghost use Rattle.xa_script.specs.Lines.{stop_of};
-ghost use Rattle.xa_script.specs.Parts.{alone, words, words_behind};
+ghost use Rattle.xa_script.specs.Lines.{said_of, stop_of};
 ghost use Rattle.xa_script.specs.Requests.{ReadsTexts};
+ghost use Rattle.xa_script.specs.Words.{alone, words, words_behind};
 
 use crate::call_effect::{CallEffect, read_effect};
 use crate::log_file::LogFile;
 use crate::numbers::{read_byte_count, read_call_number, read_number};
-use crate::parts::{first_part, only_word, two_words};
 use crate::request::read_request;
 use crate::verb::read_verb;
+use crate::words::{first_word, only_word, two_words};
 use std::alloc::{AllocError, Global};
 use xa_frame::Request;
 
@@ -61,10 +62,31 @@ pub fn read_line(alloc: Global, line: &[u8]) -> Result<Line, AllocError>
         IfOk result (λ said. said ≡ line_of xid_of line.now) }
     ensures limits { IfOk result IsWithinLimits }
 {
+    read_text_of(alloc, without_return(line))
+}
+
+/// A line without the carriage return that ends it, where one does.
+pub fn without_return(line: &[u8]) -> &[u8]
+    ensures { result.now ≡ strip_last 13 line.now }
+{
+    let length = line.len();
+    if length > 0 && line[length - 1] == b'\r' {
+        &line[..length - 1]
+    } else {
+        line
+    }
+}
+
+/// What a line says that has no carriage return at its end.
+fn read_text_of(alloc: Global, line: &[u8]) -> Result<Line, AllocError>
+    ensures value { (xid_of : List ℕ → Option Triple) → ReadsTexts xid_of →
+        IfOk result (λ said. said ≡ said_of xid_of line.now) }
+    ensures limits { IfOk result IsWithinLimits }
+{
     if line.is_empty() || line[0] == b'#' {
         return Ok(Line::Silent);
     }
-    match first_part(line, b' ') {
+    match first_word(line) {
         (word, None) => Ok(read_sole(word)),
         (first, Some(others)) => read_words(alloc, first, others),
     }
@@ -90,7 +112,7 @@ fn read_sole(word: &[u8]) -> Line
 }
 
 /// What a line says that has more than one word.
-#[tactic(auto, using(crate::proofs::Cuts::more_words))]
+#[tactic(auto, using(crate::proofs::Places::more_words))]
 fn read_words(alloc: Global, first: &[u8], others: &[u8]) -> Result<Line, AllocError>
     ensures value { (xid_of : List ℕ → Option Triple) → ReadsTexts xid_of →
         IfOk result (λ said. said ≡ by_words xid_of (first.now ∷ words others.now)) }
@@ -111,7 +133,7 @@ fn read_words(alloc: Global, first: &[u8], others: &[u8]) -> Result<Line, AllocE
 fn read_file(asked: &[u8]) -> (LogFile, Option<&[u8]>)
     ensures { (result.0, words_behind (option_copied result.1)) ≡ file_of (words asked.now) }
 {
-    match first_part(asked, b' ') {
+    match first_word(asked) {
         (word, others) if word == b"other".as_slice() => (LogFile::Other, others),
         _ => (LogFile::Current, Some(asked)),
     }
@@ -157,7 +179,7 @@ fn read_call(alloc: Global, session: &[u8], call: &[u8]) -> Result<Line, AllocEr
         IfOk result (λ said. said ≡ unwrap_or (asked_of xid_of session.now (words call.now)) Line.Unknown) }
     ensures limits { IfOk result IsWithinLimits }
 {
-    let (verb, words) = first_part(call, b' ');
+    let (verb, words) = first_word(call);
     let Some(session) = read_number(session) else {
         return Ok(Line::Unknown);
     };

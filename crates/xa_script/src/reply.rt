@@ -1,10 +1,11 @@
-ghost use Rattle.std.specs.Prelude.{◌≡◌, ◌∷◌, ◌++◌, IfOk, OnOk, codes};
+ghost use Rattle.std.specs.Prelude.{◌≡◌, ◌∷◌, ◌++◌, IfOk, OnOk, codes, true};
 ghost use Rattle.std.specs.Fmt.{decimal, signed_decimal};
-ghost use Rattle.xa_script.specs.Replies.{body_text, branch_text, branches_text, code_text, counts_text, line_in, line_of};
+ghost use Rattle.xa_script.specs.Replies.{body_in, body_text, branch_text, branches_text, code_text, counts_text, line_in, line_of};
 ghost use Rattle.xa_script.specs.Replies.{name_of, named_text, state_name, status_text, value_text, xids_text};
 
 use crate::hexadecimal::push_digits;
 use crate::style::Style;
+use crate::text::push_quoted;
 use arrayvec::ArrayVec;
 use std::alloc::{AllocError, Global};
 use xa_codes::{Code, Detail, code_name};
@@ -15,15 +16,19 @@ use xa_xid::{MOST_TEXT, Xid};
 pub fn reply_line(alloc: Global, reply: &Reply) -> Result<Vec<u8>, AllocError>
     ensures { IfOk result (λ line. line.items ≡ line_of reply.now) }
 {
-    styled_line(alloc, reply, Style::Codes)
+    let style = Style {
+        has_names: false,
+        has_texts: false,
+    };
+    styled_line(alloc, reply, style)
 }
 
-/// The same with the code in a style.
+/// The same in a style.
 pub fn styled_line(alloc: Global, reply: &Reply, style: Style) -> Result<Vec<u8>, AllocError>
     ensures { IfOk result (λ line. line.items ≡ line_in style reply.now) }
 {
-    let mut line = line_front(alloc, reply.code, reply.detail, style)?;
-    push_body(alloc, &mut line, &reply.body)?;
+    let mut line = line_front(alloc, reply.code, reply.detail, style.has_names)?;
+    push_styled(alloc, &mut line, &reply.body, style.has_texts)?;
     line.push(b'\n')?;
     Ok(line)
 }
@@ -32,17 +37,15 @@ fn line_front(
     alloc: Global,
     code: Code,
     detail: Detail,
-    style: Style,
+    has_names: bool,
 ) -> Result<Vec<u8>, AllocError>
-    ensures { IfOk result (λ front. front.items ≡ code_text style code ++ 32 ∷ name_of detail) }
+    ensures { IfOk result (λ front. front.items ≡ code_text has_names code ++ 32 ∷ name_of detail) }
 {
-    match style {
-        Style::Codes => {
-            let detail = detail_name(detail);
-            Ok(format!(in alloc; "{code} {detail}")?.into_bytes())
-        }
-        Style::Names => named_front(alloc, code, code_name(code), detail_name(detail)),
+    if has_names {
+        return named_front(alloc, code, code_name(code), detail_name(detail));
     }
+    let detail = detail_name(detail);
+    Ok(format!(in alloc; "{code} {detail}")?.into_bytes())
 }
 
 fn named_front(alloc: Global, code: Code, name: &str, detail: &str) -> Result<Vec<u8>, AllocError>
@@ -50,6 +53,34 @@ fn named_front(alloc: Global, code: Code, name: &str, detail: &str) -> Result<Ve
         (λ front. front.items ≡ (signed_decimal code ++ 32 ∷ name.now) ++ 32 ∷ detail.now) }
 {
     Ok(format!(in alloc; "{code} {name} {detail}")?.into_bytes())
+}
+
+/// Adds the body, with a value as text where there are texts.
+fn push_styled(
+    alloc: Global,
+    line: &mut Vec<u8>,
+    body: &Body,
+    has_texts: bool,
+) -> Result<(), AllocError>
+    ensures { OnOk result (line.new.items ≡ line.old.items ++ body_in has_texts body.now) }
+{
+    if has_texts {
+        push_with_text(alloc, line, body)
+    } else {
+        push_body(alloc, line, body)
+    }
+}
+
+fn push_with_text(alloc: Global, line: &mut Vec<u8>, body: &Body) -> Result<(), AllocError>
+    ensures { OnOk result (line.new.items ≡ line.old.items ++ body_in true body.now) }
+{
+    match body {
+        Body::Value(value) => {
+            line.extend_from_slice(b" value ")?;
+            push_quoted(line, value.as_slice())
+        }
+        _ => push_body(alloc, line, body),
+    }
 }
 
 fn push_body(alloc: Global, line: &mut Vec<u8>, body: &Body) -> Result<(), AllocError>

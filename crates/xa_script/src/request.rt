@@ -4,14 +4,16 @@ ghost use Rattle.xa_frame.specs.declared.request.Request.{Request};
 ghost use Rattle.xa_frame.specs.Limits.{IsKey, IsRequest, IsValue};
 ghost use Rattle.xa_xid.specs.Triple.{Triple};
 ghost use Rattle.xa_script.specs.{Flags.flags_of, Numbers.count_of, Numbers.moment_of};
-ghost use Rattle.xa_script.specs.Parts.{alone, by_one, by_two, one_of, words_behind};
 ghost use Rattle.xa_script.specs.Requests.{ReadsTexts, branch_pair, branches_by, cursor_of, direction_of, is_graphic};
-ghost use Rattle.xa_script.specs.Requests.{is_name, key_of, open_by, put_by, request_of, value_of};
+ghost use Rattle.xa_script.specs.Requests.{between, is_name, key_of, open_by, put_by, request_of, value_of};
+ghost use Rattle.xa_script.specs.Texts.{is_quoted, text_of};
+ghost use Rattle.xa_script.specs.Words.{alone, by_one, by_two, one_of, words_behind};
 
 use crate::flags::read_flags;
 use crate::hexadecimal::read_bytes;
 use crate::numbers::{read_count, read_moment};
-use crate::parts::{first_part, only_word, two_words};
+use crate::text::read_text;
+use crate::words::{first_word, only_word, two_words};
 use std::alloc::{AllocError, Global};
 use xa_codes::{Bytes, Call, Direction};
 use xa_fields::Key;
@@ -92,7 +94,7 @@ fn read_decide(words: Option<&[u8]>) -> Option<Request>
     })
 }
 
-fn read_direction(word: &[u8]) -> Option<Direction>
+pub fn read_direction(word: &[u8]) -> Option<Direction>
     ensures { result ≡ direction_of word.now }
 {
     if word == b"commit".as_slice() {
@@ -138,7 +140,7 @@ fn read_branches(words: Option<&[u8]>) -> Option<Request>
         result ≡ branches_by xid_of (words_behind (option_copied words.entry)) }
     ensures limits { IfSome result IsRequest }
 {
-    let (count, rest) = first_part(words?, b' ');
+    let (count, rest) = first_word(words?);
     let count = read_count(count)?;
     let after = read_cursor(rest)?;
     Some(Request::Branches { count, after })
@@ -191,7 +193,7 @@ fn read_open(alloc: Global, words: Option<&[u8]>) -> Result<Option<Request>, All
 }
 
 /// Whether a word is a name: 1 to `MOST_INFO` bytes from `!` to `~`.
-fn is_name(word: &[u8]) -> bool
+pub fn is_name(word: &[u8]) -> bool
     ensures { result ≡ is_name word.now }
 {
     !word.is_empty() && word.len() <= MOST_INFO && is_graphic(word)
@@ -229,15 +231,58 @@ fn read_put(alloc: Global, words: Option<&[u8]>) -> Result<Option<Request>, Allo
 }
 
 /// A key of 1 to `MOST_KEY` bytes.
-fn read_key(alloc: Global, word: &[u8]) -> Result<Option<Key>, AllocError>
+pub fn read_key(alloc: Global, word: &[u8]) -> Result<Option<Key>, AllocError>
     ensures value { IfOk result (λ key. key ≡ key_of word.now) }
     ensures limits { IfOk result (λ key. IfSome key IsKey) }
 {
+    if is_quoted(word) {
+        return read_key_text(alloc, word);
+    }
     if word.is_empty() || word.len() > 2 * MOST_KEY {
         return Ok(None);
     }
     match read_bytes(alloc, word)? {
         Some(bytes) => Ok(made_key(bytes.as_slice())),
+        None => Ok(None),
+    }
+}
+
+/// A key as text in quotes.
+fn read_key_text(alloc: Global, word: &[u8]) -> Result<Option<Key>, AllocError>
+    ensures value { IfOk result (λ key. key ≡ option_and_then (between 1 MOST_KEY) (text_of word.now)) }
+    ensures limits { IfOk result (λ key. IfSome key IsKey) }
+{
+    match read_quoted(alloc, word)? {
+        Some(bytes) => Ok(limited_key(bytes.as_slice())),
+        None => Ok(None),
+    }
+}
+
+/// The key with these bytes, if they are as many as a key has.
+fn limited_key(bytes: &[u8]) -> Option<Key>
+    ensures value { result ≡ between 1 MOST_KEY bytes.now }
+    ensures limits { IfSome result IsKey }
+{
+    if bytes.is_empty() || bytes.len() > MOST_KEY {
+        None
+    } else {
+        made_key(bytes)
+    }
+}
+
+/// Whether a word is text in quotes.
+fn is_quoted(word: &[u8]) -> bool
+    ensures { result ≡ is_quoted word.now }
+{
+    !word.is_empty() && word[0] == b'"'
+}
+
+/// The bytes of text in quotes, behind the quote that begins it.
+fn read_quoted(alloc: Global, word: &[u8]) -> Result<Option<Bytes>, AllocError>
+    ensures { IfOk result (λ bytes. bytes ≡ text_of word.now) }
+{
+    match word.split_first() {
+        Some((_, text)) => read_text(alloc, text),
         None => Ok(None),
     }
 }
@@ -252,10 +297,13 @@ fn made_key(bytes: &[u8]) -> Option<Key>
 }
 
 /// A value of at most `MOST_VALUE` bytes. The empty one is `-`.
-fn read_value(alloc: Global, word: &[u8]) -> Result<Option<Bytes>, AllocError>
+pub fn read_value(alloc: Global, word: &[u8]) -> Result<Option<Bytes>, AllocError>
     ensures value { IfOk result (λ value. value ≡ value_of word.now) }
     ensures limits { IfOk result (λ value. IfSome value IsValue) }
 {
+    if is_quoted(word) {
+        return read_value_text(alloc, word);
+    }
     if word == b"-".as_slice() {
         return Ok(Some(Bytes::new(Vec::new(alloc))));
     }
@@ -263,4 +311,27 @@ fn read_value(alloc: Global, word: &[u8]) -> Result<Option<Bytes>, AllocError>
         return Ok(None);
     }
     read_bytes(alloc, word)
+}
+
+/// A value as text in quotes.
+fn read_value_text(alloc: Global, word: &[u8]) -> Result<Option<Bytes>, AllocError>
+    ensures value { IfOk result (λ value. value ≡ option_and_then (between 0 MOST_VALUE) (text_of word.now)) }
+    ensures limits { IfOk result (λ value. IfSome value IsValue) }
+{
+    match read_quoted(alloc, word)? {
+        Some(bytes) => Ok(limited_value(bytes)),
+        None => Ok(None),
+    }
+}
+
+/// A value, if it isn't too long.
+fn limited_value(bytes: Bytes) -> Option<Bytes>
+    ensures value { result ≡ between 0 MOST_VALUE bytes }
+    ensures limits { IfSome result IsValue }
+{
+    if bytes.as_slice().len() > MOST_VALUE {
+        None
+    } else {
+        Some(bytes)
+    }
 }

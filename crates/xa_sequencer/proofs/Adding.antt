@@ -1,18 +1,16 @@
 -- An entry more, or none.
 use Rattle.std.proofs.Common.{◌≡◌, ℕ, ◌+◌, ◌≤◌, ◌∙◌, inl, Bool, true, false, List, [], ◌∷◌, ◌++◌, length, refl, sym, ap, subst, arith, length-append, append_assoc, append-nil}
-use Rattle.std.specs.Prelude.{MatchBool, MatchResult, Result, Ok, Err, pos}
+use Rattle.std.specs.Prelude.{MatchBool, MatchResult, Result, Ok, Err}
 use Rattle.xa_assoc.specs.declared.fault.ConnectFault.{ConnectFault}
 use Rattle.xa_assoc.specs.Refusals.{is_memory}
 use Rattle.xa_frame.specs.declared.reply.Reply.{Reply}
 use Rattle.xa_manager.specs.Believed.Answered.{connect_reply}
 use Rattle.xa_manager.specs.Believed.Counted.{RiseBy}
 use Rattle.xa_manager.specs.Believed.Promises.{IsReached, ReachedPromises}
-use Rattle.xa_model.specs.Answer.{plain}
 use Rattle.xa_model.specs.State.{State}
 use Rattle.xa_model.specs.Events.{IsEvent}
 use Rattle.xa_model.specs.declared.event.Event.{Event}
-use Rattle.xa_model.specs.declared.event.Event.TheVariants.{Connect, Hangup}
-use Rattle.xa_history.proofs.Longer.{connect_place, kept_noted, not_memory, one_more}
+use Rattle.xa_history.proofs.Longer.{kept_noted, not_memory}
 use Rattle.xa_history.specs.Believed.Book.{entry_of, placed, plain_entries, unplaced}
 use Rattle.xa_history.specs.Believed.Manages.{Stays, StepsTo}
 use Rattle.xa_history.specs.Believed.Upholds.{Upholds}
@@ -60,24 +58,6 @@ added m start base old new event said reply acts served zero is_event is more ro
       crash = acts.crash served;
       counted = not_memory _ _ _ served acts.counted;
     }
-
--- a connect that found its memory
-pub connected : {M : Type 0} (m : Ghosts M) (start : State → Type 0) (base : ℕ × ℕ) (now new : M) (count : ℕ) (result : Result ℕ ConnectFault)
-    → ActsAs m now Connect (connect_reply result) new → is_memory (connect_reply result).detail ≡ false
-    → MatchResult result (λ _. m.sessions new ≡ m.sessions now + 1) (λ _. m.sessions new ≡ m.sessions now)
-    → count + m.sessions now + 2 ≤ most_numbers
-    → Adds m start base (record { now = now; count = count }) Connect (placed (count + 1) (connect_reply result)) (record { now = new; count = count + 1 })
-connected m start base now new count result acts found sessions left =
-    added m start base (record { now = now; count = count }) (record { now = new; count = count + 1 }) Connect (connect_reply result) (placed (count + 1) (connect_reply result))
-    acts found (connect_place result) tt refl refl (omega (arith, left, one_more result (m.sessions now) (m.sessions new) sessions))
-
--- a hang-up of a connected session
-pub hung_up : {M : Type 0} (m : Ghosts M) (start : State → Type 0) (base : ℕ × ℕ) (now new : M) (count session : ℕ)
-    → ActsAs m now (Hangup session) (plain (pos 0)) new → m.sessions new + 1 ≡ m.sessions now → HasHistory m start base (record { now = now; count = count })
-    → Adds m start base (record { now = now; count = count }) (Hangup session) (placed (count + 1) (plain (pos 0))) (record { now = new; count = count + 1 })
-hung_up m start base now new count session acts sessions h =
-    added m start base (record { now = now; count = count }) (record { now = new; count = count + 1 }) (Hangup session) (plain (pos 0)) (placed (count + 1) (plain (pos 0)))
-    acts refl refl tt refl refl (omega (arith, h.1.upholds.reserved, h.1.count_is, sessions))
 
 rises_no_more : (n : ℕ) (a b c : ℕ × ℕ) → RiseBy n a b → RiseBy 0 b c → RiseBy n a c
 rises_no_more n a b c p q = λ first second.

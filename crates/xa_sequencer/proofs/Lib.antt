@@ -1,4 +1,5 @@
 pub mod Adding
+pub mod Alone
 pub mod Grouping
 pub mod Few
 pub mod Placing

@@ -1,6 +1,6 @@
--- A manager with the group that it has pending does what a sequencer asks.
-use Rattle.std.proofs.Common.{◌≡◌, ◌∙◌, ℕ, ◌+◌, ◌≤◌, ◌<◌, ◌⊎◌, inl, inr, Bool, true, false, List, [], ◌∷◌, Option, None, Some, Result, Ok, Err, IsSomeAnd, refl, sym, ap, subst, arith}
-use Rattle.std.specs.Prelude.{if◌then◌else◌, MatchBool}
+-- A manager over a log does what a sequencer asks of one that commits groups.
+use Rattle.std.proofs.Common.{◌≡◌, ◌∙◌, ℕ, ◌+◌, ◌≤◌, ◌<◌, ◌⊎◌, inl, inr, Bool, true, false, List, [], ◌∷◌, Option, None, Some, Result, Ok, Err, IsSomeAnd, IfOk, Vec, Global, refl, sym, subst, arith}
+use Rattle.std.specs.Prelude.{if◌then◌else◌, MatchBool, OnErr}
 use Rattle.std.proofs.lemmas.Bool.Decides.{nat_tests}
 use Rattle.xa_assoc.specs.Refusals.{is_memory}
 use Rattle.xa_disk.specs.Counts.{plus, top}
@@ -10,12 +10,13 @@ use Rattle.xa_disk.specs.declared.disk.DiskFault.{DiskFault}
 use Rattle.xa_frame.specs.declared.reply.Reply.{Reply}
 use Rattle.xa_log.specs.Calls.{SettlesBy, WritesAhead}
 use Rattle.xa_log.specs.Believed.LogView.{LogView}
-use Rattle.xa_manager.specs.Believed.Answered.{FullyAnswered, HasCalled, as_appended}
+use Rattle.xa_manager.specs.Believed.Answered.{HasCalled, StaysFor, as_appended}
 use Rattle.xa_manager.specs.Believed.Counted.{RiseBy, counted_by, failures_in, failures_of_append}
 use Rattle.xa_manager.specs.Believed.LogStands.{Trusts}
 use Rattle.xa_manager.specs.Managed.{ManagerStandsFor}
 use Rattle.xa_manager.specs.Believed.Parts.{log_of}
 use Rattle.xa_manager.specs.Believed.Pending.{HasFinished, IsPending, IsPendingFrom, WorksBeside, WritesGroup, calls_of, write_of}
+use Rattle.xa_manager.specs.Reserving.{HasReserved}
 use Rattle.xa_manager.specs.declared.manager.Manager.{Manager}
 use Rattle.xa_manager.specs.declared.pending.PendingGroup.{PendingGroup}
 use Rattle.xa_manager.specs.declared.together.Asked.{Asked}
@@ -31,24 +32,9 @@ use Rattle.xa_model.specs.declared.event.Event.{Event}
 use Rattle.xa_model.specs.declared.outcome.Appending.{Appending}
 use Rattle.xa_model.specs.declared.outcome.Appending.TheVariants.{Kept, Refused, Lost}
 use Rattle.xa_model.specs.declared.outcome.Outcome.TheVariants.{Appended, Quiet}
-use Rattle.xa_history.proofs.Managing.{acted}
 use Rattle.xa_history.proofs.Together.{all_told, all_unplaced, group_lost, group_told}
 use Rattle.xa_sequencer.specs.GroupCommits.{ActsAs, AnswersAs, RestsAs}
-use Rattle.xa_sequencer.specs.declared.group_manager.GroupManager.{GroupManager}
-use Rattle.xa_sequencer.specs.Believed.GroupManager.{before_write, calls_in, counted_before, manages_of}
-
--- ---- which group is pending
-
-pub none_of : (p : Option PendingGroup) → calls_in p ≡ None → p ≡ None
-none_of None e = refl
-none_of (Some f) e = absurd (cc e)
-
--- what holds with these groups pending, before and afterwards
-at : (p q p' q' : Option PendingGroup) (P : Option PendingGroup → Option PendingGroup → Type 0) → p ≡ q → p' ≡ q' → P q q' → P p p'
-at p q p' q' P e e' h = subst (λ (x : Option PendingGroup). P x p') (sym e) (subst (λ (x : Option PendingGroup). P q x) (sym e') h)
-
-abbrev gr : {D : Type 0} → Manager D → Option PendingGroup → GroupManager D
-gr m p = record { manager = m; pending = p }
+use Rattle.xa_sequencer.specs.Believed.GroupManager.{alone, before_write, beside, counted_before, manages_of}
 
 -- ---- counts of failures
 
@@ -124,22 +110,22 @@ module _ {D : Type 0} (disks : disk.Ghosts D) where
       = sides (log_of m') ∙ (λ i. (if side i then F (log_of m').disk else F (other i), if side i then F (other i) else F (log_of m').disk)) in
       subst (λ (y : ℕ × ℕ). RiseBy (failures_of_append a) (counted_before F f (log_of m)) y) (sym same) there
 
-  -- ---- events, with no group pending
-
-  pub acted_alone : (old new : GroupManager D) (event : Event) (reply : Reply) → calls_in old.pending ≡ None → calls_in new.pending ≡ None
-      → FullyAnswered disks old.manager event reply new.manager → ActsAs (manages_of disks) old event reply new
-  acted_alone old new event reply e e' full =
-      let a = acted disks old.manager event reply new.manager full in
-      at old.pending None new.pending None (λ p p'. ActsAs (manages_of disks) (gr old.manager p) event reply (gr new.manager p')) (none_of old.pending e) (none_of new.pending e')
-      (record { answered = a.answered; pinned = a.pinned; called = a.called; crash = a.crash; counted = a.counted })
-
   -- ---- a group begins
 
-  pub begun : (m m' : Manager D) (p : Option PendingGroup) (f : PendingGroup) → calls_in p ≡ None → ((s : State) → ManagerStandsFor disks m s → IsPending disks m' f s) → WritesGroup disks m f m'
-      → RestsAs (manages_of disks) (gr m p) (gr m' (Some f))
-  begun m m' p f e stays w =
-      at p None (Some f) (Some f) (λ x y. RestsAs (manages_of disks) (gr m x) (gr m' y)) (none_of p e) refl
-      (record { stays = stays; counted = wrote_rises m m' f w })
+  begun : (m m' : Manager D) (f : PendingGroup) → ((s : State) → ManagerStandsFor disks m s → IsPending disks m' f s) → WritesGroup disks m f m'
+      → RestsAs (manages_of disks) (alone m) (beside m' f)
+  begun m m' f stays w = record { stays = stays; counted = wrote_rises m m' f w }
+
+  pub begun_so : (m m' : Manager D) (r : Result PendingGroup (Vec Asked Global)) → IfOk r (λ f. (s : State) → ManagerStandsFor disks m s → IsPending disks m' f s)
+      → IfOk r (λ f. WritesGroup disks m f m') → IfOk r (λ f. RestsAs (manages_of disks) (alone m) (beside m' f))
+  begun_so m m' (Ok f) stays w = begun m m' f stays w
+  begun_so m m' (Err given) stays w = tt
+
+  pub left_alone : (m m' : Manager D) (r : Result PendingGroup (Vec Asked Global)) → OnErr r (StaysFor disks m m') → OnErr r (HasReserved disks (log_of m) (log_of m'))
+      → OnErr r (RestsAs (manages_of disks) (alone m) (alone m'))
+  left_alone m m' (Ok f) stays reserved = tt
+  left_alone m m' (Err given) stays reserved =
+      record { stays = stays; counted = none_by disks (log_of m) (log_of m') (none_rises disks (log_of m) (log_of m') reserved (log_of m) (refl, refl)) }
 
   -- ---- work beside it
 
@@ -165,7 +151,7 @@ module _ {D : Type 0} (disks : disk.Ghosts D) where
     counts_by true = λ s st. same_counts
     counts_by false = λ s st premise. (refl, same_counts)
 
-    pub acted_beside : ActsAs (manages_of disks) (gr m (Some f)) event reply (gr m' (Some f))
+    pub acted_beside : ActsAs (manages_of disks) (beside m f) event reply (beside m' f)
     acted_beside = record {
       answered = stays_by (is_memory reply.detail) w.answered;
       pinned = w.pinned;
@@ -177,7 +163,7 @@ module _ {D : Type 0} (disks : disk.Ghosts D) where
   -- ---- it is finished
 
   pub answered_group : (m m' : Manager D) (f : PendingGroup) (replies : List (ℕ × Reply)) → HasFinished disks m f replies m'
-      → AnswersAs (manages_of disks) (gr m (Some f)) (calls_of f).items replies (gr m' None)
+      → AnswersAs (manages_of disks) (beside m f) (calls_of f).items replies (alone m')
   answered_group m m' f [] h = absurd h
   answered_group m m' f (r ∷ rs) h =
       let first = h.0 in
@@ -199,16 +185,3 @@ module _ {D : Type 0} (disks : disk.Ghosts D) where
           counted = λ s st. finished_rises m m' f a st.0 s st.1 (per st.0 s st.1).called h.4;
         },
       )
-
-  -- ---- the same, of a manager that has it pending
-
-  pub worked : (g : GroupManager D) (m' : Manager D) (f : PendingGroup) (event : Event) (reply : Reply) → g.pending ≡ Some f → WorksBeside disks g.manager f event reply m'
-      → ActsAs (manages_of disks) g event reply (gr m' (Some f))
-  worked g m' f event reply is w =
-      at g.pending (Some f) (Some f) (Some f) (λ x y. ActsAs (manages_of disks) (gr g.manager x) event reply (gr m' y)) is refl (acted_beside g.manager m' f event reply w)
-
-  pub finished : (g : GroupManager D) (m' : Manager D) (p' : Option PendingGroup) (f : PendingGroup) (calls : List Asked) (replies : List (ℕ × Reply)) → g.pending ≡ Some f → p' ≡ None → calls ≡ (calls_of f).items → HasFinished disks g.manager f replies m'
-      → AnswersAs (manages_of disks) g calls replies (gr m' p')
-  finished g m' p' f calls replies is none same h =
-      at g.pending (Some f) p' None (λ x y. AnswersAs (manages_of disks) (gr g.manager x) calls replies (gr m' y)) is none
-      (subst (λ (l : List Asked). AnswersAs (manages_of disks) (gr g.manager (Some f)) l replies (gr m' None)) (sym same) (answered_group g.manager m' f replies h))

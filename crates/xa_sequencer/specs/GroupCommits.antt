@@ -1,13 +1,15 @@
 -- What a sequencer asks of a manager.
-use Rattle.std.specs.Prelude.{ℕ, ◌+◌, ◌≤◌, List, length, Option, None, Some}
+use Rattle.std.specs.Prelude.{ℕ, ◌≡◌, ◌+◌, ◌≤◌, List, length, Option, None, Some}
 use Rattle.std.specs.List.{AllByRecursion}
 use Rattle.xa_frame.specs.declared.reply.Reply.{Reply}
 use Rattle.xa_manager.specs.declared.together.Asked.{Asked}
 use Rattle.xa_model.specs.Events.{IsAsked}
+use Rattle.xa_model.specs.State.{State}
 use Rattle.xa_model.specs.declared.event.Event.{Event}
 use Rattle.xa_history.specs.Believed.Manages.{Acts}
 use Rattle.xa_history.specs.Believed.Together as manager
 use Rattle.xa_history.specs.declared.manages.Manages.{Ghosts}
+use Rattle.xa_sequencer.specs.Believed.GroupManager.{GroupManager, alone}
 use Rattle.xa_sequencer.specs.Believed.Stands.{most_numbers}
 
 -- an event, as a room's manager does it
@@ -23,6 +25,15 @@ AnswersAs m old calls replies new =
 abbrev pub RestsAs : {M : Type 0} → Ghosts M → M → M → Type 0
 RestsAs m old new = manager.Rests m.stands m.failures old new
 
+-- With no group pending it is what it is alone; and it has the same sessions with one.
+pub record IsAlone {M : Type 0} (itself : Ghosts M) (m : Ghosts (GroupManager M)) : Type 0 where
+  pub acts : (old : M) (event : Event) (reply : Reply) (new : M) → ActsAs itself old event reply new
+      → ActsAs m (alone old) event reply (alone new)
+  pub stands : (x : M) (s : State) → m.stands (alone x) s → itself.stands x s
+  pub versions : (x : M) → m.versions (alone x) ≡ itself.versions x
+  pub has_session : (g : GroupManager M) (n : ℕ) → m.has_session g n ≡ itself.has_session g.manager n
+  pub sessions : (g : GroupManager M) → m.sessions g ≡ itself.sessions g.manager
+
 -- how many calls are pending
 abbrev pub pending_count : Option (List Asked) → ℕ
 pending_count None = 0
@@ -33,7 +44,7 @@ ArePending None = Unit {0}
 ArePending (Some calls) = AllByRecursion (λ c. IsAsked c.request) calls
 
 -- It has what it needs to finish the pending group: each of its calls may happen, and there are numbers left for all of
--- them, beside those for the hang-ups.
+-- them, besides those for the hang-ups.
 pub record KeepsPending {M : Type 0} (m : Ghosts M) (has_its_group : M → Type 0) (pending : Option (List Asked))
     (now : M) (count : ℕ) : Type 0 where
   pub group : has_its_group now

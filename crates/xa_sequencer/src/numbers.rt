@@ -1,7 +1,7 @@
 ghost use Rattle.std.specs.Prelude.{◌≡◌, ℕ, ◌+◌, ◌≤◌, ◌<◌, true, false};
 ghost use Rattle.xa_sequencer.specs.Believed.Stands.{most_numbers};
 
-/// Whether so many numbers are left, behind a count and beside those for the hang-ups of the sessions.
+/// Whether `more` numbers are left, after a count and besides those for the hang-ups of the sessions.
 pub(crate) fn are_left(count: u64, sessions: u64, more: u64) -> bool
     ensures left { result ≡ true → count + sessions + more ≤ most_numbers }
     ensures full { result ≡ false → most_numbers < count + sessions + more }

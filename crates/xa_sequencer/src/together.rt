@@ -18,7 +18,7 @@ pub(crate) fn hold_all(calls: &[Asked])
     }
 }
 
-/// Gives replies the places behind a count.
+/// Gives replies the places after a count.
 pub(crate) fn number_all(replies: &mut [(usize, Reply)], count: u64)
     requires { count + length replies.old ≤ most_numbers }
     ensures { replies.new ≡ placed_from count replies.old }

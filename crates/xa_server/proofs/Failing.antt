@@ -76,10 +76,11 @@ pub loops_failed : {D R : Type 0} (disks : disk.Ghosts D) (opened : D → List �
     (refused : List ℕ → FileFault → Type 0) (net : listens.Ghosts R) (log_bytes : ℕ) (place : Place) (asked loops : ℕ)
     (why : ServerFault)
     → WasReady disks opened net log_bytes place → AreLoops asked loops
-    → (why ≡ serving.Memory) ⊎ ((why ≡ serving.Wait) ⊎ (why ≡ serving.Loops loops))
+    → (why ≡ serving.Memory) ⊎ ((why ≡ serving.Wait) ⊎ ((why ≡ serving.Write) ⊎ (why ≡ serving.Loops loops)))
     → (why ≡ serving.Loops loops → (loops ≡ 0) ⊎ (MOST_LOOPS < loops))
     → HasFailedBy disks opened refused net log_bytes place (NoLoops asked) (serving_fault why)
 loops_failed disks opened refused net log_bytes place asked loops why ready are (inl memory) none = rw memory tt
 loops_failed disks opened refused net log_bytes place asked loops why ready are (inr (inl wait)) none = rw wait (ready, tt)
-loops_failed disks opened refused net log_bytes place asked loops why ready are (inr (inr is)) none =
+loops_failed disks opened refused net log_bytes place asked loops why ready are (inr (inr (inl write))) none = rw write ready
+loops_failed disks opened refused net log_bytes place asked loops why ready are (inr (inr (inr is))) none =
     rw is (ready, too_many asked loops are (none is))

@@ -1,8 +1,9 @@
-ghost use Rattle.std.specs.Prelude.{◌≡◌, ◌↔◌, ◌+◌, ◌<◌, ◌≤◌, ◌⊎◌, ℕ, List, None, IfErr, IfOk, IsErrOf, length, map, sum_by};
+ghost use Rattle.std.specs.Prelude.{◌≡◌, ◌↔◌, ◌+◌, ◌<◌, ◌≤◌, ◌⊎◌, ℕ, List, IfErr, IfOk, IsErrOf, length, map, sum_by};
 ghost use Rattle.xa_model.specs.State.{State};
 ghost use Rattle.std.specs.List.{AllByRecursion};
 ghost use Rattle.xa_server.specs.Believed.Loops.{AllLoop, IsFresh, ServesByLoops, told_by};
 ghost use Rattle.xa_server.specs.Believed.Watching.{IsSeenLast};
+ghost use Rattle.xa_sequencer.specs.Believed.GroupManager.{alone};
 ghost use Rattle.xa_service.specs.declared.loop_service.TheConstants.{MOST_LOOPS};
 ghost use Rattle.xa_tokens.specs.Believed.Account.{Account, Owes};
 ghost use Rattle.xa_tokens.specs.Believed.Receipts.{AreSame};
@@ -10,6 +11,7 @@ ghost use Rattle.xa_tokens.specs.Believed.Receipts.{AreSame};
 use crate::fault::ServerFault;
 use crate::post::Post;
 use std::alloc::AllocError;
+use std::io::Print;
 use std::marker::Brand;
 use std::net::Net;
 use std::rt::Clock;
@@ -31,12 +33,14 @@ pub struct Looped {
     pub is_whole: bool,
     /// Whether the manager was down when they ended, by the replies.
     pub is_down: bool,
+    /// Whether they ended since it was down, also where a Restart that was asked for by then has helped.
+    pub ended_down: bool,
     /// What was asked of them.
     pub settings: Settings,
 }
 
-/// Serves the sessions of a manager by so many event loops, 1 to `MOST_LOOPS`, each in a thread of its own; it ends when
-/// the loops do.
+/// Serves the sessions of a manager by so many event loops, 1 to `MOST_LOOPS`, each in a thread of its own; it prints `ready`
+/// before, and ends when the loops do.
 ///
 /// From whichever state the manager stood for, what was served is a legal history of as many entries as it tells of; its
 /// committed branches are one copy; and what was answered as prepared is listed until its completion is asked for. Each
@@ -44,7 +48,7 @@ pub struct Looped {
 /// was told anything else.
 pub fn loop_manager<
     M: GroupCommits + Send + Drop,
-    R: AllocGlobal + Clock + Eprint + Net + Threads + Wait + Sync,
+    R: AllocGlobal + Clock + Print + Eprint + Net + Threads + Wait + Sync,
 >(
     rt: &R,
     listener: Listener,
@@ -52,12 +56,12 @@ pub fn loop_manager<
     loops: u64,
     settings: Settings,
 ) -> Result<Looped, ServerFault>
-    requires { M.pending manager ≡ None }
-    ensures served { IfOk result (λ told. ServesByLoops M.manages (M.manages.stands manager) (M.manages.failures manager) loops told) }
+    ensures served { IfOk result (λ told. ServesByLoops M.manages (M.manages.stands (alone manager))
+        (M.manages.failures (alone manager)) loops told) }
     ensures settings { IfOk result (λ told. told.settings ≡ settings) }
     ensures loops { IsErrOf result (ServerFault.Loops loops) ↔ ((loops ≡ 0) ⊎ (MOST_LOOPS < loops)) }
     ensures fault { IfErr result (λ fault. (fault ≡ ServerFault.Memory) ⊎ ((fault ≡ ServerFault.Wait)
-        ⊎ (fault ≡ ServerFault.Loops loops))) }
+        ⊎ ((fault ≡ ServerFault.Write) ⊎ (fault ≡ ServerFault.Loops loops)))) }
 {
     if loops == 0 || loops > MOST_LOOPS {
         return Err(ServerFault::Loops(loops));
@@ -71,7 +75,7 @@ fn loop_by<
     M: GroupCommits + Send + Drop,
     S: Start + Send + Sync,
     B: Book + Send + Sync,
-    R: AllocGlobal + Clock + Eprint + Net + Threads + Wait + Sync,
+    R: AllocGlobal + Clock + Print + Eprint + Net + Threads + Wait + Sync,
 >(
     rt: &R,
     listener: Listener,
@@ -80,14 +84,14 @@ fn loop_by<
     loops: u64,
     settings: Settings,
 ) -> Result<Looped, ServerFault>
-    requires settled { M.pending manager ≡ None }
-    requires start { (s : State) → S.start s → M.manages.stands manager s }
-    requires base { M.manages.failures manager ≡ S.base }
+    requires start { (s : State) → S.start s → M.manages.stands (alone manager) s }
+    requires base { M.manages.failures (alone manager) ≡ S.base }
     requires name { opened ≡ B.table }
     requires loops { (0 < loops) × (loops ≤ MOST_LOOPS) }
     ensures served { IfOk result (λ told. ServesByLoops M.manages S.start S.base loops told) }
     ensures settings { IfOk result (λ told. told.settings ≡ settings) }
-    ensures fault { IfErr result (λ fault. (fault ≡ ServerFault.Memory) ⊎ (fault ≡ ServerFault.Wait)) }
+    ensures fault { IfErr result (λ fault. (fault ≡ ServerFault.Memory) ⊎ ((fault ≡ ServerFault.Wait)
+        ⊎ (fault ≡ ServerFault.Write))) }
 {
     let sequencer: Sequencer<M, S> = Sequencer::new(manager);
     let (shared, share) = SharedSequencer::<M, S, B>::new(rt.alloc(), sequencer, opened);
@@ -105,6 +109,7 @@ fn loop_by<
         calls: sequencer.count(),
         is_whole,
         is_down: seen.is_down(),
+        ended_down: watch.has_ended(),
         settings,
     })
 }
@@ -147,7 +152,7 @@ fn run_posts<
     M: GroupCommits + Send,
     S: Start + Send + Sync,
     B: Book + Send + Sync,
-    R: AllocGlobal + Clock + Eprint + Net + Threads + Wait + Sync,
+    R: AllocGlobal + Clock + Print + Eprint + Net + Threads + Wait + Sync,
 >(
     rt: &R,
     listener: Listener,

@@ -23,6 +23,9 @@ pub enum ServerFault {
     /// The system gives the loops nothing to wait for connections by. Nobody was served.
     #[error("cannot wait for connections")]
     Wait,
+    /// It couldn't be told that the loops are ready. Nobody was served.
+    #[error("cannot write")]
+    Write,
 }
 
 impl From<AllocError> for ServerFault {
@@ -50,6 +53,7 @@ impl From<LoopFault> for ServerFault {
         match fault {
             LoopFault::Memory => ServerFault::Memory,
             LoopFault::Wait => ServerFault::Wait,
+            LoopFault::Write => ServerFault::Write,
         }
     }
 }

@@ -12,8 +12,10 @@ use xa_service::At;
 pub(crate) enum Listening {
     Tcp(TcpListener),
     Unix(UnixListener),
+    Both(TcpListener, UnixListener),
 }
 
+/// Listens on the port first: a Unix socket that was made stays.
 pub(crate) fn listen<R: Listens>(rt: &R, at: At<'_>) -> io::Result<Listening>
     ensures listens { IfOk result (λ listener. IsListening R.Listens listener (where_of at.entry)) }
     ensures refused { OnErr result (IsRefusedAt R.Listens (where_of at.entry)) }
@@ -27,5 +29,19 @@ pub(crate) fn listen<R: Listens>(rt: &R, at: At<'_>) -> io::Result<Listening>
             Ok(listener) => Ok(Listening::Unix(listener)),
             Err(error) => Err(error),
         },
+        At::Both {
+            address,
+            port,
+            path,
+        } => {
+            let tcp = match rt.listen(address, port) {
+                Ok(listener) => listener,
+                Err(error) => return Err(error),
+            };
+            match rt.listen_at(path) {
+                Ok(unix) => Ok(Listening::Both(tcp, unix)),
+                Err(error) => Err(error),
+            }
+        }
     }
 }

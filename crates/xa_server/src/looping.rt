@@ -1,5 +1,5 @@
-//! A manager over two files, whose sessions are the connections of a port, by event loops.
-ghost use Rattle.std.specs.Prelude.{◌≡◌, ◌&&◌, IfErr, IfOk, not};
+//! A manager over two files, whose sessions are the connections of a port, a Unix socket or both, by event loops.
+ghost use Rattle.std.specs.Prelude.{◌≡◌, ◌&&◌, ◌||◌, IfErr, IfOk, not};
 ghost use Rattle.xa_server.specs.Believed.Served.{AreLoops, HasLooped, LoopsHaveFailed};
 
 use crate::engine::loop_manager;
@@ -15,13 +15,12 @@ use std::sync::Wait;
 use std::thread::{Threads, available_parallelism};
 use xa_disk::{Disk, Opens};
 use xa_reactor::{Listener, Settings};
-use xa_sequencer::GroupManager;
 use xa_service::{At, LoopService};
 
-/// Opens the log's two files, listens, and opens the manager; then it serves by loops, until they end. Whether the manager
-/// is up then, or a server that is down was not to end.
+/// Opens the log's two files, listens, and opens the manager; then it serves by loops, until they end. False where a server
+/// that is down was to end, and the manager is down then, or the loops ended since it was.
 ///
-/// Nobody is answered before the manager is open. Where the port can't be had, or a file of the log is missing or is none,
+/// Nobody is answered before the manager is open. Where the port or the path can't be had, or a file of the log is missing or is none,
 /// the manager isn't opened, so that nothing is written to either file.
 pub fn serve_loops<
     'a,
@@ -46,9 +45,6 @@ pub fn serve_loops<
     let Ok(listener) = unblocked(listening) else {
         return Err(ServeFault::Wait);
     };
-    if rt.println("ready").is_err() {
-        return Err(ServeFault::Write);
-    }
     let loops = loops_of(rt, service.loops);
     let settings = Settings {
         connections: service.connections,
@@ -60,22 +56,22 @@ pub fn serve_loops<
         log_bytes: service.log_bytes,
         tick_seconds: service.tick_seconds,
     };
-    let told = loop_manager(rt, listener, GroupManager::new(manager), loops, settings)?;
+    let told = loop_manager(rt, listener, manager, loops, settings)?;
     if !told.is_whole {
         return Err(ServeFault::Wait);
     }
     let calls = told.calls;
     match println!(rt; "calls {calls}") {
-        Ok(()) => Ok(is_well(service.ends_when_down, told.is_down)),
+        Ok(()) => Ok(is_well(service.ends_when_down, told.is_down, told.ended_down)),
         Err(_) => Err(ServeFault::Write),
     }
 }
 
-// Unless the manager is down, and a server that is down was to end.
-fn is_well(ends_when_down: bool, is_down: bool) -> bool
-    ensures { result ≡ not (ends_when_down && is_down) }
+// Unless a server that is down was to end, and the manager is down, or the loops ended since it was.
+fn is_well(ends_when_down: bool, is_down: bool, ended_down: bool) -> bool
+    ensures { result ≡ not (ends_when_down && (is_down || ended_down)) }
 {
-    !(ends_when_down && is_down)
+    !(ends_when_down && (is_down || ended_down))
 }
 
 // The same listener, whose accepts don't wait.
@@ -88,6 +84,14 @@ fn unblocked(listening: Listening) -> io::Result<Listener> {
         Listening::Unix(listener) => {
             listener.set_nonblocking(true)?;
             Ok(Listener::Unix(mio::net::UnixListener::from_std(listener)))
+        }
+        Listening::Both(tcp, unix) => {
+            tcp.set_nonblocking(true)?;
+            unix.set_nonblocking(true)?;
+            Ok(Listener::Both(
+                mio::net::TcpListener::from_std(tcp),
+                mio::net::UnixListener::from_std(unix),
+            ))
         }
     }
 }
@@ -107,8 +111,9 @@ fn loops_of<R: Threads>(rt: &R, asked: u64) -> u64
 
 // Tells that whoever can connect may do anything, where others than this machine can.
 fn warn<R: Eprint>(rt: &R, at: At<'_>) {
-    let At::Port { address, port: _ } = at else {
-        return;
+    let address = match at {
+        At::Port { address, .. } | At::Both { address, .. } => address,
+        At::Socket(_) => return,
     };
     let is_own = match address.parse::<IpAddr>() {
         Ok(address) => address.is_loopback(),

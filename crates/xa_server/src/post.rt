@@ -1,4 +1,5 @@
 ghost use Rattle.std.specs.Prelude.{ℕ, ◌≡◌, ◌+◌, IfSome};
+ghost use Rattle.xa_sequencer.specs.Believed.GroupManager.{pending_of};
 ghost use Rattle.xa_server.specs.Believed.Watching.{is_restart, seen_of};
 
 use crate::logging::{appends, may_log};
@@ -36,7 +37,7 @@ pub(crate) struct Post<'a, M: GroupCommits, S: Start, B: Book, R> {
 }
 
 impl<'a, M: GroupCommits, S: Start, B: Book, R: Clock + Wait> Post<'a, M, S, B, R> {
-    ghost use Rattle.std.specs.Prelude.{◌≡◌, ◌<◌, [], All, IfOk};
+    ghost use Rattle.std.specs.Prelude.{◌≡◌, ◌<◌, ◌≤◌, [], All, IfOk, IsTrue, None, is_none};
     ghost use Rattle.xa_reactor.specs.Asking.{IsAnswered, TellsSome};
     ghost use Rattle.xa_server.specs.{Believed.Loops.Called, Rounds.IsWithin, Rounds.TakesBack, Rounds.TellsAtMost};
     ghost use Rattle.xa_server.specs.Believed.Watching.{IsSeenLast};
@@ -107,7 +108,10 @@ impl<'a, M: GroupCommits, S: Start, B: Book, R: Clock + Wait> Post<'a, M, S, B, 
     }
 
     // Whether it may begin a group, after it let others have the lock so often.
-    fn has_turn(&self, held: &Held<'a, M, S, B>, lets: u32) -> bool {
+    fn has_turn(&self, held: &Held<'a, M, S, B>, lets: u32) -> bool
+        ensures settled { IsTrue result → pending_of held.now.at.now ≡ None }
+        ensures ends { 4 ≤ lets → result ≡ is_none (pending_of held.now.at.now) }
+    {
         self.handle.is_settled(held) && (lets >= LETS || !self.handle.is_wanted())
     }
 
@@ -185,8 +189,8 @@ impl<'a, M: GroupCommits, S: Start, B: Book, R: Clock + Wait> Post<'a, M, S, B, 
         held
     }
 
-    // Answers those that are left, one by one.
-    fn answer_left(&mut self, asks: &mut [Ask])
+    // Answers those that are left, one by one; whether they may wait for the device.
+    fn answer_left(&mut self, asks: &mut [Ask], lets_go: bool)
         requires { All IsWithin asks.old }
         ensures some { TellsSome (Called M.manages S.start S.base) self.old.handle.asker asks.old asks.new
             self.new.handle.asker }
@@ -196,13 +200,13 @@ impl<'a, M: GroupCommits, S: Start, B: Book, R: Clock + Wait> Post<'a, M, S, B, 
     {
         let mut held = None;
         for ask in asks.iter_mut() {
-            self.answer(&mut held, ask);
+            self.answer(&mut held, ask, lets_go);
         }
     }
 
     // Answers an ask that is left. The next one goes on by the same lock, but not after a call that may have waited for the
     // device: others have their turn first. One that a pending group holds up waits until that is finished.
-    fn answer(&mut self, held: &mut Option<Held<'a, M, S, B>>, ask: &mut Ask)
+    fn answer(&mut self, held: &mut Option<Held<'a, M, S, B>>, ask: &mut Ask, lets_go: bool)
         requires { IsWithin ask.old }
         ensures told { TellsAtMost (Called M.manages S.start S.base) self.old.handle.asker ask.old ask.new
             self.new.handle.asker }
@@ -210,8 +214,7 @@ impl<'a, M: GroupCommits, S: Start, B: Book, R: Clock + Wait> Post<'a, M, S, B, 
         ensures settled { Owes self.old.handle.asker 0 → Owes self.new.handle.asker 0 }
     {
         if let Some(request) = ask.request.take() {
-            let lets_go = may_log(&request);
-            let is_restart = self.count(&request);
+            let is_restart = self.count(&request, lets_go);
             let lock = self.lock(held);
             let (reply, lock) = self.handle.call_held(lock, ask.session, request);
             self.watch.see(self.rt, &mut self.seen, is_restart, &reply);
@@ -233,12 +236,12 @@ impl<'a, M: GroupCommits, S: Start, B: Book, R: Clock + Wait> Post<'a, M, S, B, 
         }
     }
 
-    // A request is to be answered. Whether it is a Restart.
-    fn count(&mut self, request: &Request) -> bool
+    // A request is to be answered that may log, or not. Whether it is a Restart.
+    fn count(&mut self, request: &Request, may_log: bool) -> bool
         ensures handle { self.new.handle ≡ self.old.handle }
         ensures restart { result ≡ is_restart request.now }
     {
-        self.logged = self.logged.wrapping_add(u64::from(may_log(request)));
+        self.logged = self.logged.wrapping_add(u64::from(may_log));
         is_restart(request)
     }
 
@@ -261,7 +264,7 @@ impl<M: GroupCommits, S: Start, B: Book, R: Clock + Wait> Door for Post<'_, M, S
     ghost left = { λ session a b. Left M.manages S.start S.base session a.handle.asker b.handle.asker };
 
     fn call(&mut self, session: u64, request: Request) -> Reply {
-        let is_restart = self.count(&request);
+        let is_restart = self.count(&request, may_log(&request));
         let reply = self.handle.call(session, request);
         self.watch.see(self.rt, &mut self.seen, is_restart, &reply);
         reply
@@ -283,7 +286,7 @@ impl<M: GroupCommits, S: Start, B: Book, R: Clock + Wait> Reception for Post<'_,
     ghost use Rattle.xa_handles.specs.Believed.Accounts.{Posts};
     ghost use Rattle.xa_model.specs.declared.event.Event.TheVariants as Event;
     ghost use Rattle.xa_sequencer.specs.Associates.{AssociatedBy, EndedBy};
-    ghost use Rattle.xa_server.specs.{Believed.Loops.Connected, Believed.Loops.Posted, Settled.keeps_settled};
+    ghost use Rattle.xa_server.specs.{Believed.Loops.Connected, Believed.Loops.Posted, Logging.may_log, Settled.keeps_settled};
     ghost use Rattle.xa_tokens.specs.Believed.Account.{Owes};
 
     ghost connected = { λ a result b. Connected M.manages S.start S.base a.handle.asker result b.handle.asker };
@@ -293,6 +296,10 @@ impl<M: GroupCommits, S: Start, B: Book, R: Clock + Wait> Reception for Post<'_,
     ghost posts = { λ session request a b. Posts a.handle.asker (Event.Call session request) b.handle.asker };
 
     ghost is_posted = { λ session request a b posts. (request, posts) };
+
+    ghost waits = { may_log };
+
+    ghost logs = { λ a. a.logged };
 
     ghost is_settled = { λ a. Owes a.handle.asker 0 };
 
@@ -308,11 +315,11 @@ impl<M: GroupCommits, S: Start, B: Book, R: Clock + Wait> Reception for Post<'_,
 
     fn call_all(&mut self, asks: &mut [Ask]) {
         self.take_back(asks);
-        self.answer_left(asks);
+        self.answer_left(asks, true);
     }
 
     fn call_quick(&mut self, asks: &mut [Ask]) {
-        self.answer_left(asks);
+        self.answer_left(asks, false);
     }
 
     fn may_wait(&self, request: &Request) -> bool {

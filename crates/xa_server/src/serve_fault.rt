@@ -5,53 +5,82 @@ ghost use Rattle.xa_server.specs.Faults.{opening_fault, serving_fault};
 use crate::fault::ServerFault;
 use crate::log_file::LogFile;
 use std::alloc::AllocError;
-use thiserror::Error;
-use xa_disk::FileFault;
+use std::error::Error;
+use std::fmt;
+use xa_disk::{FileCall, FileFault};
 use xa_manager::ManagerFault;
 
 /// Why nothing was served, or not to the end. Its text is what `xarm` prints behind its name.
-#[derive(Clone, Copy, Debug, Drop, Error)]
+#[derive(Clone, Copy, Debug, Drop)]
 pub enum ServeFault<'a> {
-    #[error("no memory")]
     Memory,
-    #[error("cannot write")]
     Write,
-    #[error("cannot listen")]
     Listen,
-    #[error("cannot start workers")]
     Start,
-    #[error("cannot wait for connections")]
     Wait,
     /// A server has the log, or a scan reads it.
-    #[error("log in use")]
     InUse,
     /// A file of the log couldn't be opened.
-    #[error("device fault: {file}: {fault}")]
     File {
         file: LogFile<'a>,
         fault: FileFault,
     },
     /// It isn't there, beside the other one's log. None was made in its place.
-    #[error("log file missing or empty: {0}")]
     Absent(LogFile<'a>),
     /// It was there once, as the other one's log shows.
-    #[error("log file missing or empty: {0}")]
     Missing(LogFile<'a>),
     /// Something stands there over which a log would be written.
-    #[error("{0}: not a log, and not empty")]
     Stray(LogFile<'a>),
     /// The log breaks off where it didn't end: the file, the record that isn't as it was written, from 1, and the byte at
     /// which it begins.
-    #[error("log damaged: {file}: record {number} at byte {at}")]
     Damaged {
         file: LogFile<'a>,
         number: usize,
         at: u64,
     },
     /// The manager couldn't be opened on its log.
-    #[error("{0}")]
     Manager(ManagerFault),
 }
+
+impl fmt::Display for ServeFault<'_> {
+    fn fmt<W: fmt::Write>(&self, f: &mut fmt::Formatter<W>) -> fmt::Result {
+        match self {
+            ServeFault::Memory => f.write_str("no memory"),
+            ServeFault::Write => f.write_str("cannot write"),
+            ServeFault::Listen => f.write_str("cannot listen"),
+            ServeFault::Start => f.write_str("cannot start workers"),
+            ServeFault::Wait => f.write_str("cannot wait for connections"),
+            ServeFault::InUse => f.write_str("log in use"),
+            ServeFault::File { file, fault } => write_unopened(f, file, fault),
+            ServeFault::Absent(file) | ServeFault::Missing(file) => {
+                write!(f, "log file missing or empty: {file}")
+            }
+            ServeFault::Stray(file) => write!(f, "{file}: not a log, and not empty"),
+            ServeFault::Damaged { file, number, at } => {
+                write!(f, "log damaged: {file}: record {number} at byte {at}")
+            }
+            ServeFault::Manager(fault) => write!(f, "{fault}"),
+        }
+    }
+}
+
+/// Writes why a file wasn't opened: a path that can't be opened is no fault of a device.
+fn write_unopened<W: fmt::Write>(
+    f: &mut fmt::Formatter<W>,
+    file: &LogFile<'_>,
+    fault: &FileFault,
+) -> fmt::Result {
+    match fault {
+        FileFault::Call {
+            call: FileCall::Open,
+            error,
+        } => write!(f, "cannot open {file}: {error}"),
+        FileFault::Irregular => write!(f, "cannot open {file}: {fault}"),
+        _ => write!(f, "device fault: {file}: {fault}"),
+    }
+}
+
+impl Error for ServeFault<'_> {}
 
 impl From<AllocError> for ServeFault<'_> {
     ghost from_gives = { λ _ fault. fault ≡ Memory };
@@ -81,6 +110,7 @@ impl From<ServerFault> for ServeFault<'_> {
             // the command line takes no such number
             ServerFault::Workers(_) | ServerFault::Loops(_) => ServeFault::Start,
             ServerFault::Wait => ServeFault::Wait,
+            ServerFault::Write => ServeFault::Write,
         }
     }
 }

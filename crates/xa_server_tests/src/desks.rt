@@ -23,7 +23,7 @@ const NAME: &[u8] = b"xarm";
 /// The parts of a desk's ledger.
 pub const PARTS: u64 = 8;
 
-/// A manager on two empty disks, with the longest log. None where memory was wanted.
+/// A manager on two empty disks, with the longest log. None if memory ran out.
 pub fn opened(alloc: Global) -> Option<Manager<MemDisk>> {
     let settings = Settings {
         name: Bytes::from_slice(alloc, NAME).ok()?,
@@ -43,7 +43,7 @@ pub fn open_request(alloc: Global) -> Option<Request>
     })
 }
 
-/// The desk of a new room over a manager, and the whole share of it. None where memory was wanted.
+/// The desk of a new room over a manager, and the whole share of it. None if memory ran out.
 pub fn desk_over<M: Manages + Drop, S: Start, L: Ledger>(
     alloc: Global,
     manager: M,
@@ -66,7 +66,7 @@ pub trait Visit<R> {
     /// What comes of it.
     type Found;
 
-    /// None where memory was wanted.
+    /// None if memory ran out.
     fn visit<M: Manages + Drop, S: Start, L: Ledger>(
         self,
         rt: &R,
@@ -98,7 +98,7 @@ fn at_desk<M: Manages + Drop, S: Start, L: Ledger, R: AllocGlobal, V: Visit<R> +
     visit.visit(rt, desk, share)
 }
 
-/// What an audit finds. Where it finds no memory it answers that, and no other fault, and is asked again.
+/// What an audit finds. If it finds no memory it returns that, and no other fault, and is asked again.
 pub fn found_by<M: Manages, S: Start, L: Ledger>(
     alloc: Global,
     room: &Room<M, S>,
@@ -111,7 +111,7 @@ pub fn found_by<M: Manages, S: Start, L: Ledger>(
     }
 }
 
-/// The receipts of a report, if an audit finds that it tells of all that a room recorded, which is so many events.
+/// The receipts of a report, if an audit finds that it tells of all that a room recorded, which is `events` events.
 pub fn audited<M: Manages, S: Start, L: Ledger>(
     alloc: Global,
     room: &Room<M, S>,

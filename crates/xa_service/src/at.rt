@@ -2,7 +2,16 @@
 #[derive(Clone, Copy, Debug, Drop)]
 pub enum At<'a> {
     /// At an address on a port.
-    Port { address: &'a str, port: u16 },
+    Port {
+        address: &'a str,
+        port: u16,
+    },
     /// At a path, by a Unix socket of its owner's alone.
     Socket(&'a str),
+    /// At both.
+    Both {
+        address: &'a str,
+        port: u16,
+        path: &'a str,
+    },
 }

@@ -2,8 +2,8 @@
 use Rattle.std.proofs.Common.{◌≡◌, ℕ, List, [], ◌∷◌, ◌++◌, Option, Some, None, Result, Ok, refl, sym, ap, subst, ◌∙◌, append_assoc, append-nil}
 use Rattle.std.specs.Io.BufRead.{DropsThrough, drop_through, strip_last}
 use Rattle.std.specs.Io.KnownBytes.{Appends, Consumes, IsAtEnd, Keeps}
-use Rattle.xa_script.specs.declared.style.Style.{Style}
 use Rattle.xa_talk.specs.declared.fault.TalkFault.{TalkFault}
+use Rattle.xa_talk.specs.declared.manner.Manner.{Manner}
 use Rattle.xa_talk.specs.Talks.{LineTalked, LinesTalked, NextEnds, ReadsLine, Talks}
 
 -- at the end nothing is taken
@@ -20,21 +20,21 @@ nothing_consumed None = tt
 nothing_consumed (Some xs) = refl
 
 -- one line more is talked
-pub line_more : {C : Type 0} (style : Style) (sent left : C → Option (List ℕ)) (input behind input' : Option (List ℕ)) (numbered next numbered' : List (Option C)) (lines : List (List ℕ)) (line text first : List ℕ)
-    → LinesTalked style sent left input numbered lines text behind next → ReadsLine behind line input'
-    → LineTalked {X = Unit {0}} style sent left (strip_last 10 line) (Ok tt) first next numbered'
-    → LinesTalked style sent left input numbered (lines ++ line ∷ []) (text ++ first) input' numbered'
-line_more {C} style sent left input behind input' numbered next numbered' [] line text first (none, same, stay) reads talks = (
+pub line_more : {C : Type 0} (manner : Manner) (sent left : C → Option (List ℕ)) (input behind input' : Option (List ℕ)) (numbered next numbered' : List (Option C)) (lines : List (List ℕ)) (line text first : List ℕ)
+    → LinesTalked manner sent left input numbered lines text behind next → ReadsLine behind line input'
+    → LineTalked {X = Unit {0}} manner sent left (strip_last 10 line) (Ok tt) first next numbered'
+    → LinesTalked manner sent left input numbered (lines ++ line ∷ []) (text ++ first) input' numbered'
+line_more {C} manner sent left input behind input' numbered next numbered' [] line text first (none, same, stay) reads talks = (
   input',
   first,
   [],
   numbered',
   subst (λ (i : Option (List ℕ)). ReadsLine i line input') same reads,
-  subst (λ (p : List (Option C)). LineTalked {X = Unit {0}} style sent left (strip_last 10 line) (Ok tt) first p numbered') stay talks,
+  subst (λ (p : List (Option C)). LineTalked {X = Unit {0}} manner sent left (strip_last 10 line) (Ok tt) first p numbered') stay talks,
   ap (λ (l : List ℕ). l ++ first) none ∙ sym (append-nil first),
   (refl, refl, refl),
 )
-line_more style sent left input behind input' numbered next numbered' (l ∷ ls) line text first (mid, one, others, between, read, talked, is, rest) reads talks = (
+line_more manner sent left input behind input' numbered next numbered' (l ∷ ls) line text first (mid, one, others, between, read, talked, is, rest) reads talks = (
   mid,
   one,
   others ++ first,
@@ -42,14 +42,14 @@ line_more style sent left input behind input' numbered next numbered' (l ∷ ls)
   read,
   talked,
   ap (λ (t : List ℕ). t ++ first) is ∙ append_assoc one others first,
-  line_more style sent left mid behind input' between next numbered' ls line others first rest reads talks,
+  line_more manner sent left mid behind input' between next numbered' ls line others first rest reads talks,
 )
 
 -- the script ends behind these lines, and nothing more was written
-pub stopped : {C X : Type 0} (style : Style) (sent left : C → Option (List ℕ)) (end : Result X TalkFault) (input behind input' output output' : Option (List ℕ)) (numbered : List (Option C)) (lines : List (List ℕ)) (text : List ℕ)
-    → LinesTalked style sent left input [] lines text behind numbered → NextEnds style sent left end behind numbered [] input' → Appends output output' text
-    → Talks style sent left end input input' output output'
-stopped style sent left end input behind input' output output' numbered lines text talked ended written = record {
+pub stopped : {C X : Type 0} (manner : Manner) (sent left : C → Option (List ℕ)) (end : Result X TalkFault) (input behind input' output output' : Option (List ℕ)) (numbered : List (Option C)) (lines : List (List ℕ)) (text : List ℕ)
+    → LinesTalked manner sent left input [] lines text behind numbered → NextEnds manner sent left end behind numbered [] input' → Appends output output' text
+    → Talks manner sent left end input input' output output'
+stopped manner sent left end input behind input' output output' numbered lines text talked ended written = record {
   lines = lines;
   text = text;
   behind = behind;

@@ -2,39 +2,59 @@
 use Rattle.std.specs.Io.{StopsAt}
 use Rattle.std.specs.Io.BufRead.{strip_last, take_through}
 use Rattle.std.specs.Io.KnownBytes.{Appends, Consumes, IsAtEnd, Keeps}
-use Rattle.std.specs.Prelude.{ℕ, ◌≡◌, ◌<◌, ◌⊎◌, Bool, true, false, List, [], ◌∷◌, ◌++◌, length, Option, Some, None, IfSome, Result, Ok, Err, IsErrOf}
+use Rattle.std.specs.Ordering.{int_eq}
+use Rattle.std.specs.Prelude.{ℕ, ◌≡◌, ◌<◌, ◌⊎◌, pos, Bool, true, false, not, ◌&&◌, List, [], ◌∷◌, ◌++◌, length, Option, Some, None, IfSome, Result, Ok, Err, IsErrOf}
+use Rattle.xa_codes.specs.declared.codes.TheConstants.{XA_RDONLY}
+use Rattle.xa_frame.specs.declared.body.Body.{Body}
+use Rattle.xa_frame.specs.declared.body.Body.TheVariants.{Xids}
 use Rattle.xa_frame.specs.declared.reply.Reply.{Reply}
 use Rattle.xa_output.specs.Output.{IsFront}
 use Rattle.xa_script.specs.Lines as lines
 use Rattle.xa_script.specs.Replies as replies
 use Rattle.xa_script.specs.Requests.{ReadsTexts}
-use Rattle.xa_script.specs.declared.style.Style.{Style}
 use Rattle.xa_xid.specs.Triple.{Triple}
 use Rattle.xa_talk.specs.declared.fault.TalkFault.{TalkFault}
-use Rattle.xa_talk.specs.declared.fault.TalkFault.TheVariants.{Memory, Read, Write}
+use Rattle.xa_talk.specs.declared.fault.TalkFault.TheVariants.{Memory, Read, Refused, Write}
+use Rattle.xa_talk.specs.declared.manner.Manner.{Manner}
 use Rattle.xa_talk.specs.Answers.{LineAnswered}
 
--- The line of a reply is written. Where it failed, nothing, without memory, or some first bytes.
-abbrev pub Shows : {X : Type 0} → Style → Reply → Result X TalkFault → List ℕ → Type 0
-Shows style reply (Ok x) text = text ≡ replies.line_in style reply
-Shows style reply (Err Memory) text = text ≡ []
-Shows style reply (Err Write) text = IsFront text (replies.line_in style reply)
-Shows style reply (Err fault) text = ⊥
+abbrev pub is_listing : Body → Bool
+is_listing (Xids xids) = true
+is_listing _ = false
+
+-- A reply is an error: its code is neither 0 nor that of a branch that has nothing to commit, nor how many XIDs are listed.
+abbrev pub is_error : Reply → Bool
+is_error reply = (not (int_eq reply.code (pos 0)) && not (int_eq reply.code XA_RDONLY)) && not (is_listing reply.body)
+
+-- a script that is talked strictly ends at an error
+abbrev pub ends_at : Bool → Reply → Bool
+ends_at strict reply = strict && is_error reply
+
+-- The line of a reply is written, and the script ends there if it is an error and the script is talked strictly. Where it
+-- failed, nothing, without memory, or some first bytes.
+abbrev pub Shows : {X : Type 0} → Manner → Reply → Result X TalkFault → List ℕ → Type 0
+Shows manner reply (Ok x) text =
+    (text ≡ replies.line_in manner.style reply) × (ends_at manner.is_strict reply ≡ false)
+Shows manner reply (Err Refused) text =
+    (text ≡ replies.line_in manner.style reply) × (ends_at manner.is_strict reply ≡ true)
+Shows manner reply (Err Memory) text = text ≡ []
+Shows manner reply (Err Write) text = IsFront text (replies.line_in manner.style reply)
+Shows manner reply (Err fault) text = ⊥
 
 -- what is written behind an answer: nothing where there is no reply, and a fault is told on
-abbrev pub ShowsAnswer : {X : Type 0} → Style → Result (Option Reply) TalkFault → Result X TalkFault → List ℕ → Type 0
-ShowsAnswer style (Ok None) (Ok x) text = text ≡ []
-ShowsAnswer style (Ok None) (Err fault) text = ⊥
-ShowsAnswer style (Ok (Some reply)) end text = Shows style reply end text
-ShowsAnswer style (Err fault) (Ok x) text = ⊥
-ShowsAnswer style (Err fault) (Err told) text = (told ≡ fault) × (text ≡ [])
+abbrev pub ShowsAnswer : {X : Type 0} → Manner → Result (Option Reply) TalkFault → Result X TalkFault → List ℕ → Type 0
+ShowsAnswer manner (Ok None) (Ok x) text = text ≡ []
+ShowsAnswer manner (Ok None) (Err fault) text = ⊥
+ShowsAnswer manner (Ok (Some reply)) end text = Shows manner reply end text
+ShowsAnswer manner (Err fault) (Ok x) text = ⊥
+ShowsAnswer manner (Err fault) (Err told) text = (told ≡ fault) × (text ≡ [])
 
 -- A line is answered as its definition says, and the answer is shown; or there was no memory to read it.
-abbrev pub LineTalked : {C X : Type 0} → Style → (C → Option (List ℕ)) → (C → Option (List ℕ)) → List ℕ → Result X TalkFault
+abbrev pub LineTalked : {C X : Type 0} → Manner → (C → Option (List ℕ)) → (C → Option (List ℕ)) → List ℕ → Result X TalkFault
     → List ℕ → List (Option C) → List (Option C) → Type 0
-LineTalked style sent left line end text numbered numbered' =
+LineTalked manner sent left line end text numbered numbered' =
     (IsErrOf end Memory × (text ≡ []) × (numbered' ≡ numbered))
-    ⊎ ((answer : Result (Option Reply) TalkFault) × ShowsAnswer style answer end text
+    ⊎ ((answer : Result (Option Reply) TalkFault) × ShowsAnswer manner answer end text
     × ((xid_of : List ℕ → Option Triple) → ReadsTexts xid_of
     → LineAnswered sent left (lines.line_of xid_of line) answer numbered numbered'))
 
@@ -62,8 +82,8 @@ NextRead (Ok true) input line input' = ReadsLine input line input'
 NextRead (Ok false) input line input' = IsAtEnd input × Keeps input input'
 NextRead (Err fault) input line input' = IsReadFault fault × ReadsPart input input'
 
--- in a style of replies, over connections, with what was sent over one, and what can still be read from it
-module _ {C : Type 0} (style : Style) (sent left : C → Option (List ℕ)) where
+-- in a manner, over connections, with what was sent over one, and what can still be read from it
+module _ {C : Type 0} (manner : Manner) (sent left : C → Option (List ℕ)) where
   -- Lines are read and talked, one behind the other: each is talked to its end before the next one is read.
   abbrev pub LinesTalked : Option (List ℕ) → List (Option C) → List (List ℕ) → List ℕ → Option (List ℕ)
       → List (Option C) → Type 0
@@ -71,7 +91,7 @@ module _ {C : Type 0} (style : Style) (sent left : C → Option (List ℕ)) wher
   LinesTalked input numbered (line ∷ lines) text input' numbered' =
       (behind : Option (List ℕ)) × (first : List ℕ) × (others : List ℕ) × (next : List (Option C))
       × ReadsLine input line behind
-      × LineTalked {X = Unit {0}} style sent left (strip_last 10 line) (Ok tt) first numbered next
+      × LineTalked {X = Unit {0}} manner sent left (strip_last 10 line) (Ok tt) first numbered next
       × (text ≡ first ++ others) × LinesTalked behind next lines others input' numbered'
 
   -- By the end of a script, what became of the next line. Ok: there is none. A fault: it couldn't be read, or it was
@@ -82,7 +102,7 @@ module _ {C : Type 0} (style : Style) (sent left : C → Option (List ℕ)) wher
   NextEnds (Err fault) input numbered text input' =
       ((text ≡ []) × IsReadFault fault × ReadsPart input input')
       ⊎ ((line : List ℕ) × (numbered' : List (Option C)) × ReadsLine input line input'
-      × LineTalked {X = Unit {0}} style sent left (strip_last 10 line) (Err fault) text numbered numbered')
+      × LineTalked {X = Unit {0}} manner sent left (strip_last 10 line) (Err fault) text numbered numbered')
 
   -- A script is talked, from no connections on: so many lines to their ends, and then the next one as the end says.
   -- What is written is the text of each, in their order.

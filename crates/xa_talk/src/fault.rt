@@ -22,6 +22,9 @@ pub enum TalkFault {
     /// What came isn't the frame of a reply.
     #[error("no reply")]
     NoReply,
+    /// A reply is an error, which ends a script that is talked strictly.
+    #[error("refused")]
+    Refused,
 }
 
 impl From<AllocError> for TalkFault {

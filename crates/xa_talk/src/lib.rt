@@ -2,6 +2,7 @@
 //!
 //! - `talk`: `talk_run`, which reads a script line by line, sends each line's question over a connection, and writes the
 //!   line of its reply as soon as it is there
+//! - `manner`: `Manner`, how a script is talked
 //! - `answer`: what one line is answered; `MOST_CONNECTIONS`
 //! - `connections`: the script's connections by their numbers
 //! - `exchanging`: `exchange`, a question that goes over a connection, and its reply that comes back; `ask_end`, what asks
@@ -21,6 +22,7 @@ mod connections;
 mod dial;
 mod exchanging;
 mod fault;
+mod manner;
 mod refusal;
 mod shutdown;
 mod shutdown_fault;
@@ -33,6 +35,7 @@ pub use answer::MOST_CONNECTIONS;
 pub use dial::{Connection, Dial};
 pub use exchanging::{ask_end, exchange};
 pub use fault::TalkFault;
+pub use manner::Manner;
 pub use refusal::refusal_text;
 pub use shutdown::shutdown_run;
 pub use shutdown_fault::ShutdownFault;

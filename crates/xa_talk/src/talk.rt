@@ -4,47 +4,60 @@ ghost use Rattle.std.specs.Io.KnownBytes.{Appends};
 ghost use Rattle.std.specs.IoError.{error_kind};
 ghost use Rattle.std.specs.Prelude.{◌≡◌, ◌≢◌, List, ℕ};
 ghost use Rattle.xa_talk.specs.declared.dial.Connection.{Connection};
-ghost use Rattle.xa_talk.specs.Talks.{LineTalked, NextRead, Shows, Talks};
+ghost use Rattle.xa_talk.specs.Talks.{LineTalked, NextRead, Shows, Talks, ends_at, is_error, is_listing};
 
 use crate::answer::answer;
 use crate::connections::Connections;
 use crate::dial::Dial;
 use crate::fault::TalkFault;
+use crate::manner::Manner;
 use std::alloc::Global;
 use std::io::{BufRead, Error, ErrorKind, Read, Write};
-use xa_frame::Reply;
+use xa_codes::{XA_OK, XA_RDONLY};
+use xa_frame::{Body, Reply};
 use xa_output::write_text;
-use xa_script::{Style, read_line, styled_line};
+use xa_script::{Line, Teller, read_line, styled_line};
 
 /// Reads a script line by line. Each line is answered, and its reply written in a style and flushed, before the next one
 /// is read.
 ///
 /// It ends with the input, or with the first fault: a line that couldn't be read, or beyond which none can be counted
 /// (`Read`); no memory; no connection where the line asks for one (`Connect`); one that broke (`Broken`), or brought
-/// what is no reply (`NoReply`), where the line's request goes over it; a reply that couldn't be written (`Write`).
-pub fn talk_run<I: BufRead + Drop, O: Write, R: Read + Drop, W: Write + Drop, D: Dial<R, W>>(
+/// what is no reply (`NoReply`), where the line's request goes over it; a reply that couldn't be written (`Write`), or that
+/// is an error where the script is talked strictly (`Refused`).
+pub fn talk_run<
+    I: BufRead + Drop,
+    O: Write,
+    R: Read + Drop,
+    W: Write + Drop,
+    D: Dial<R, W>,
+    T: Teller,
+>(
     alloc: Global,
     input: &mut I,
     output: &mut O,
     dial: &mut D,
-    style: Style,
+    teller: &mut T,
+    manner: Manner,
 ) -> Result<(), TalkFault>
-    ensures { Talks {C = Connection R W} style (λ c. W.contents c.writer) (λ c. R.remaining c.reader) result
+    ensures { Talks {C = Connection R W} manner (λ c. W.contents c.writer) (λ c. R.remaining c.reader) result
         (I.remaining input.old) (I.remaining input.new) (O.contents output.old) (O.contents output.new) }
 {
     let mut connections = Connections::new(alloc);
     let mut line = Vec::new(alloc);
-    for _ in 0..u64::MAX {
+    for index in 0..u64::MAX {
         if !read_next(input, &mut line)? {
             return Ok(());
         }
         talk_line(
             alloc,
             dial,
+            teller,
             &mut connections,
             output,
+            index,
             without_end(line.as_slice()),
-            style,
+            manner,
         )?;
     }
     Err(TalkFault::Read)
@@ -62,24 +75,39 @@ fn read_next<I: BufRead>(input: &mut I, line: &mut Vec<u8>) -> Result<bool, Talk
     }
 }
 
-/// Answers one line: its reply is written and flushed.
-fn talk_line<O: Write, R: Read + Drop, W: Write + Drop, D: Dial<R, W>>(
+/// Answers one line, of which so many stand before it: its reply is written and flushed.
+fn talk_line<O: Write, R: Read + Drop, W: Write + Drop, D: Dial<R, W>, T: Teller>(
     alloc: Global,
     dial: &mut D,
+    teller: &mut T,
     connections: &mut Connections<R, W>,
     output: &mut O,
+    index: u64,
     line: &[u8],
-    style: Style,
+    manner: Manner,
 ) -> Result<(), TalkFault>
     ensures { (text : List ℕ) × Appends (O.contents output.old) (O.contents output.new) text
-        × LineTalked style (λ c. W.contents c.writer) (λ c. R.remaining c.reader) line.now result text
+        × LineTalked manner (λ c. W.contents c.writer) (λ c. R.remaining c.reader) line.now result text
         connections.old.numbered.items connections.new.numbered.items }
 {
     let said = read_line(alloc, line)?;
+    tell_unasked(teller, index, line, &said);
     let Some(reply) = answer(alloc, dial, connections, said)? else {
         return Ok(());
     };
-    write_reply(alloc, output, &reply, style)
+    write_reply(alloc, output, &reply, manner)
+}
+
+/// Tells of a line that asks nothing which a server could be asked.
+fn tell_unasked<T: Teller>(teller: &mut T, index: u64, line: &[u8], said: &Line) {
+    if let Line::Unknown
+    | Line::Fail { .. }
+    | Line::Stop { .. }
+    | Line::Reopen
+    | Line::Crash { .. } = said
+    {
+        teller.tell(index, line);
+    }
 }
 
 /// Writes the line of a reply, and flushes it.
@@ -87,18 +115,48 @@ fn write_reply<O: Write>(
     alloc: Global,
     output: &mut O,
     reply: &Reply,
-    style: Style,
+    manner: Manner,
 ) -> Result<(), TalkFault>
     ensures { (text : List ℕ) × Appends (O.contents output.old) (O.contents output.new) text
-        × Shows style reply.now result text }
+        × Shows manner reply.now result text }
 {
-    let text = styled_line(alloc, reply, style)?;
+    let text = styled_line(alloc, reply, manner.style)?;
     if !write_text(output, text.as_slice()) {
         return Err(TalkFault::Write);
     }
     match output.flush() {
-        Ok(()) => Ok(()),
+        Ok(()) => {
+            if ends_at(reply, manner.is_strict) {
+                Err(TalkFault::Refused)
+            } else {
+                Ok(())
+            }
+        }
         Err(_) => Err(TalkFault::Write),
+    }
+}
+
+/// Whether a script ends at a reply.
+fn ends_at(reply: &Reply, is_strict: bool) -> bool
+    ensures { result ≡ ends_at is_strict reply.now }
+{
+    is_strict && is_error(reply)
+}
+
+/// Whether a reply is an error: its code is neither 0 nor that of a branch that has nothing to commit, nor how many XIDs
+/// are listed.
+fn is_error(reply: &Reply) -> bool
+    ensures { result ≡ is_error reply.now }
+{
+    reply.code != XA_OK && reply.code != XA_RDONLY && !is_listing(&reply.body)
+}
+
+fn is_listing(body: &Body) -> bool
+    ensures { result ≡ is_listing body.now }
+{
+    match body {
+        Body::Xids(_) => true,
+        _ => false,
     }
 }
 

@@ -5,7 +5,7 @@ use Rattle.clap.specs.Simple.{App, Shape, new_app, with_rule, with_subcommand}
 use Rattle.clap.specs.Walk.{Rule}
 use Rattle.clap.specs.declared.builder.arg.Arg.{Arg}
 use Rattle.clap.specs.declared.builder.command.Command.{Command}
-use Rattle.xa_words.specs.Line.{HasRule, HasShape, IsApp, direction_rule, format_rule, play_name_rule, port_rule, print_script_rule, seconds_rule, socket_rule, verb_shape, with_given, xid_rule, yes_rule}
+use Rattle.xa_words.specs.Line.{HasRule, HasShape, IsApp, direction_rule, format_rule, host_rule, play_name_rule, port_rule, print_script_rule, seconds_rule, socket_rule, verb_shape, with_given, xid_rule, yes_rule}
 use Rattle.xa_words.specs.Verbs.{decides, lists, names_branch, names_direction, opens_session, verb_text}
 use Rattle.xa_words.specs.declared.verb.Verb.{Verb}
 use Rattle.xa_words.specs.declared.verb.Verb.TheVariants.{Status, Branches, Recover, Commit, Rollback, Forget, Decide, Doom, Trim, Restart, RollbackMarked}
@@ -65,8 +65,8 @@ shaped (Err e) app shape same builds = tt
 abbrev pub built_app : Verb → App
 built_app verb =
     with_given (decides verb) yes_rule (with_rule (with_given (lists verb) format_rule (with_rule (with_given (opens_session verb) play_name_rule
-    (with_rule (with_rule (with_given (names_branch verb) xid_rule (with_given (names_direction verb) direction_rule (new_app (verb_text verb))))
-    port_rule) socket_rule)) seconds_rule)) print_script_rule)
+    (with_rule (with_rule (with_rule (with_given (names_branch verb) xid_rule (with_given (names_direction verb) direction_rule (new_app (verb_text verb))))
+    port_rule) host_rule) socket_rule)) seconds_rule)) print_script_rule)
 
 pub built_shape : (verb : Verb) → (built_app verb).top ≡ verb_shape verb
 built_shape Status = refl

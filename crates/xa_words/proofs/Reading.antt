@@ -1,19 +1,20 @@
 -- What `clap` reads of an argument.
-use Rattle.std.proofs.Common.{◌≡◌, ◌<◌, ◌≤◌, ◌^◌, ℕ, Bool, true, false, refl, ap, subst, cond, arith, ◌∙◌, Option, Some, None, Result, Ok, Err, codes, option_map}
+use Rattle.std.proofs.Common.{◌≡◌, ◌<◌, ◌≤◌, ◌^◌, ℕ, Bool, true, false, refl, sym, ap, subst, arith, ◌∙◌, find, bytes_eq, option_and_then, Option, Some, None, Result, Ok, Err, codes, option_map}
 use Rattle.std.specs.Prelude.{unwrap_or}
 use Rattle.std.specs.Str.Parse.{ParsesUnsigned}
 use Rattle.std.specs.Borrow.{Bor}
 use Rattle.std.specs.Option.{option_map_or}
-use Rattle.clap.specs.Matches.{ReadsOne, first_value, one_text}
+use Rattle.clap.specs.Facts.{Entry}
+use Rattle.clap.specs.Matches.{ReadsOne, first_value, matched_of, one_text}
 use Rattle.clap.specs.ValueTests.{is_unsigned_in}
-use Rattle.clap.specs.Walk.{Text, one_of, rows_of}
+use Rattle.clap.specs.Walk.{Row, Text, one_of, row_of, rows_of}
 use Rattle.clap.specs.declared.parser.matches.Found.{Found}
+use Rattle.clap.specs.declared.parser.matches.MatchedArg.{MatchedArg}
 use Rattle.clap.specs.declared.builder.value_parser.ValueParser.TheVariants.{Unsigned}
 use Rattle.clap.proofs.ValueTestLemmas.{accepts-Accepts, Accepts-accepts}
-use Rattle.clap.proofs.WalkLemmas.{first_value-rows, one_text-rows}
-use Rattle.xa_script.specs.declared.style.Style.{Style}
-use Rattle.xa_script.specs.declared.style.Style.TheVariants.{Codes, Names}
-use Rattle.xa_words.specs.Asks.{IsFlag, IsSet, most_16, most_64, number_in, number_or, text_in}
+use Rattle.clap.proofs.WalkLemmas.{find_row, first_value-rows, one_text-rows}
+use Rattle.xa_words.specs.Conflicts.{source_in}
+use Rattle.xa_words.specs.Asks.{IsSet, most_16, most_64, number_in, number_or, text_in}
 
 -- a type of so many bits, whose greatest number is `most`
 pub record Holds (bits most : ℕ) : Type 0 where
@@ -75,17 +76,6 @@ text_read found id got absent e = go got ∙ ap (λ o. unwrap_or o absent.now) (
     go None = refl
     go (Some text) = refl
 
-pub flag_read : (found : Found) (id : Text) (flag : Bool) (style : Style) → style ≡ cond flag Names Codes
-    → (one_text found id ≡ None → flag ≡ false)
-    → (one_text found id ≡ Some (codes "true") → flag ≡ true)
-    → (one_text found id ≡ Some (codes "false") → flag ≡ false)
-    → IsFlag (one_of id (rows_of found)) style
-flag_read found id flag style is none value other = record {
-  absent = λ e. is ∙ ap (λ b. cond b Names Codes) (none (one_text-rows found id ∙ e));
-  set = λ e. is ∙ ap (λ b. cond b Names Codes) (value (one_text-rows found id ∙ e));
-  unset = λ e. is ∙ ap (λ b. cond b Names Codes) (other (one_text-rows found id ∙ e));
-}
-
 pub set_read : (found : Found) (id : Text) (flag : Bool)
     → (one_text found id ≡ None → flag ≡ false)
     → (one_text found id ≡ Some (codes "true") → flag ≡ true)
@@ -96,3 +86,11 @@ set_read found id flag none value other = record {
   set = λ e. value (one_text-rows found id ∙ e);
   unset = λ e. other (one_text-rows found id ∙ e);
 }
+
+pub source_read : (found : Found) (id : Text) → option_and_then (λ (a : MatchedArg). a.source) (matched_of found id) ≡ source_in id (rows_of found)
+source_read found id = go (find (λ e. bytes_eq e.0.now id) found.entries.items) ∙ ap (option_and_then (λ (r : Row). r.source)) (sym (find_row found.entries.items id))
+  where
+    go : (o : Option Entry) → option_and_then (λ (a : MatchedArg). a.source) (option_map (λ e. e.1) o)
+        ≡ option_and_then (λ (r : Row). r.source) (option_map row_of o)
+    go None = refl
+    go (Some e) = refl

@@ -5,8 +5,6 @@ use Rattle.std.specs.Str.Parse.{digits_value, without_leading_plus}
 use Rattle.clap.specs.ValueTests.{is_unsigned_in}
 use Rattle.clap.specs.Walk.{Row, Text, first_of, one_of}
 use Rattle.xa_limits.specs.declared.TheConstants.{MOST_LOG}
-use Rattle.xa_script.specs.declared.style.Style.{Style}
-use Rattle.xa_script.specs.declared.style.Style.TheVariants.{Codes, Names}
 use Rattle.xa_commands.specs.declared.server.Reach.{Reach}
 use Rattle.xa_commands.specs.declared.server.Reach.TheVariants as reach
 use Rattle.xa_service.specs.declared.at.At.{At}
@@ -15,11 +13,13 @@ use Rattle.xa_service.specs.declared.service.TheConstants.{MOST_SERVED}
 pub use Rattle.xa_words.specs.Rows.{text_in}
 use Rattle.xa_operate.specs.Tasks.{decides}
 use Rattle.xa_operate.specs.declared.task.Task.{Task}
+use Rattle.xa_words.specs.Conflicts.{conflict_in}
 use Rattle.xa_words.specs.Orders.{IsMalformedIn, IsNameIn, IsTaskIn, format_named}
 use Rattle.xa_words.specs.Verbs.{verb_of}
+use Rattle.xa_words.specs.declared.malformed.Malformed.TheVariants as malformed
 use Rattle.xa_words.specs.declared.verb.Verb.{Verb}
 use Rattle.xa_words.specs.declared.asked.Asked.{Asked}
-use Rattle.xa_words.specs.declared.asked.Asked.TheVariants.{Play, Scan, Check, Serve, Loop, Talk, Tick, Shutdown, Operate, Script, Unconfirmed, Malformed, Nowhere}
+use Rattle.xa_words.specs.declared.asked.Asked.TheVariants.{Play, Scan, Check, Serve, Loop, Talk, Tick, Shutdown, Operate, Script, Unconfirmed, Malformed, Conflict, Nowhere}
 
 -- the number that a text spells, where it is at most `most`, or the one that stands for none
 abbrev pub number_or : ℕ → ℕ → Text → ℕ
@@ -38,11 +38,6 @@ abbrev pub number_in : List Row → Text → ℕ → ℕ → ℕ
 number_in rows id most absent = option_map_or (number_or most absent) (one_of id rows) absent
 
 -- a flag is set
-pub record IsFlag (text : Option Text) (style : Style) : Type 0 where
-  pub absent : text ≡ None → style ≡ Codes
-  pub set : text ≡ Some (codes "true") → style ≡ Names
-  pub unset : text ≡ Some (codes "false") → style ≡ Codes
-
 pub record IsSet (text : Option Text) (flag : Bool) : Type 0 where
   pub absent : text ≡ None → flag ≡ false
   pub set : text ≡ Some (codes "true") → flag ≡ true
@@ -68,21 +63,26 @@ IsPort rows port = (first_of (codes "socket") rows ≡ None) × (port ≡ number
 -- how a server is to be reached: at the path, where one is given, else on the port; None where neither is
 abbrev pub IsReachIn : List Row → Option Reach → Type 0
 IsReachIn rows (Some (reach.Socket path)) = first_of (codes "socket") rows ≡ Some path.now
-IsReachIn rows (Some (reach.Port port)) = IsPort rows port × (port ≢ 0)
+IsReachIn rows (Some (reach.Port host port)) =
+    IsPort rows port × (port ≢ 0) × (host.now ≡ text_in rows (codes "host") (codes "127.0.0.1"))
 IsReachIn rows None = IsPort rows 0
 
--- where it is to listen, likewise
+-- where it is to listen: at the path and on the port, where both are given; at one of them, where it alone is
 abbrev pub IsAtIn : List Row → Option At → Type 0
-IsAtIn rows (Some (at.Socket path)) = first_of (codes "socket") rows ≡ Some path.now
+IsAtIn rows (Some (at.Socket path)) =
+    (first_of (codes "socket") rows ≡ Some path.now) × (number_in rows (codes "port") most_16 0 ≡ 0)
 IsAtIn rows (Some (at.Port address port)) =
     IsPort rows port × (port ≢ 0) × (address.now ≡ text_in rows (codes "listen") (codes "127.0.0.1"))
+IsAtIn rows (Some (at.Both address port path)) =
+    (first_of (codes "socket") rows ≡ Some path.now) × (port ≡ number_in rows (codes "port") most_16 0) × (port ≢ 0)
+    × (address.now ≡ text_in rows (codes "listen") (codes "127.0.0.1"))
 IsAtIn rows None = IsPort rows 0
 
--- a command that needs a port or a path was given neither; with workers there is a port alone
+-- a command that needs a port or a path was given neither; with workers there is a port alone, and no option of the loops
 abbrev pub IsNowhere : Text → List Row → Type 0
 IsNowhere command rows =
     ((command ≡ codes "serve") × (number_in rows (codes "workers") most_64 0 ≢ 0)
-    × (number_in rows (codes "port") most_16 0 ≡ 0))
+    × (conflict_in rows ≡ None) × (number_in rows (codes "port") most_16 0 ≡ 0))
     ⊎ ((((command ≡ codes "serve") × (number_in rows (codes "workers") most_64 0 ≡ 0))
     ⊎ ((command ≡ codes "shutdown") ⊎ ((command ≡ codes "talk") ⊎ ((command ≡ codes "tick") ⊎ IsSome (verb_of command)))))
     × IsPort rows 0)
@@ -104,21 +104,27 @@ abbrev pub AsksBy : Text → List Row → Asked → Type 0
 AsksBy command rows (Play name log_bytes) =
     (command ≡ codes "play") × (name.now ≡ text_in rows (codes "name") (codes "xarm"))
     × (log_bytes ≡ number_in rows (codes "log-bytes") most_64 MOST_LOG)
-AsksBy command rows (Scan path) = (command ≡ codes "scan") × (path.now ≡ text_in rows (codes "path") [])
+AsksBy command rows (Scan path format) =
+    (command ≡ codes "scan") × (path.now ≡ text_in rows (codes "path") [])
+    × (format_named (text_in rows (codes "format") (codes "text")) ≡ Some format)
 AsksBy command rows (Check path log_bytes) =
     (command ≡ codes "check") × (path.now ≡ text_in rows (codes "path") [])
     × (log_bytes ≡ number_in rows (codes "log-bytes") most_64 MOST_LOG)
-AsksBy command rows (Talk reach style) =
+AsksBy command rows (Talk reach seconds manner) =
     (command ≡ codes "talk") × IsReachIn rows (Some reach)
-    × IsFlag (one_of (codes "names") rows) style
+    × (seconds ≡ number_in rows (codes "seconds") most_64 0)
+    × IsSet (one_of (codes "names") rows) manner.style.has_names
+    × IsSet (one_of (codes "text") rows) manner.style.has_texts
+    × IsSet (one_of (codes "strict") rows) manner.is_strict
 AsksBy command rows (Tick reach every) =
     (command ≡ codes "tick") × IsReachIn rows (Some reach)
     × (every ≡ number_in rows (codes "every") most_64 1)
 AsksBy command rows (Shutdown reach) = (command ≡ codes "shutdown") × IsReachIn rows (Some reach)
--- by workers, where their number is given
+-- by workers, where their number is given, and no option that acts by loops alone
 AsksBy command rows (Serve service accepts) =
     (command ≡ codes "serve")
     × (number_in rows (codes "workers") most_64 0 ≢ 0)
+    × (conflict_in rows ≡ None)
     × (service.path.now ≡ text_in rows (codes "log") [])
     × (service.name.now ≡ text_in rows (codes "name") [])
     × (service.port ≡ number_in rows (codes "port") most_16 0)
@@ -157,7 +163,11 @@ AsksBy command rows (Operate reach seconds format name task) =
     × (seconds ≡ number_in rows (codes "seconds") most_64 10)
     × (format_named (text_in rows (codes "format") (codes "text")) ≡ Some format)
     × IsSet (one_of (codes "print-script") rows) false × IsConfirmed rows task
-AsksBy command rows (Malformed what) = IsSome (verb_of command) × IsMalformedIn rows what
+AsksBy command rows (Malformed what) =
+    (IsSome (verb_of command) ⊎ ((command ≡ codes "scan") × (what ≡ malformed.Format))) × IsMalformedIn rows what
+-- of options that act by loops alone, beside workers, the first one
+AsksBy command rows (Conflict option) =
+    (command ≡ codes "serve") × (number_in rows (codes "workers") most_64 0 ≢ 0) × (conflict_in rows ≡ Some option)
 AsksBy command rows Nowhere = IsNowhere command rows
 
 -- the same of the command that the words name, and its matches

@@ -2,5 +2,6 @@ pub mod Rows
 pub mod Verbs
 pub mod Line
 pub mod Orders
+pub mod Conflicts
 pub mod Asks
 pub mod Runs

@@ -62,6 +62,9 @@ name_rule = required (option (codes "name"))
 abbrev pub port_rule : Rule
 port_rule = number 1 65535 (option (codes "port"))
 
+abbrev pub host_rule : Rule
+host_rule = defaulting (codes "127.0.0.1") (option (codes "host"))
+
 abbrev pub socket_rule : Rule
 socket_rule = option (codes "socket")
 
@@ -107,6 +110,12 @@ every_rule = defaulting (codes "1") (number 1 MOST_EVERY (option (codes "every")
 abbrev pub names_rule : Rule
 names_rule = flag (codes "names")
 
+abbrev pub text_rule : Rule
+text_rule = flag (codes "text")
+
+abbrev pub strict_rule : Rule
+strict_rule = flag (codes "strict")
+
 abbrev pub direction_rule : Rule
 direction_rule = required (positional (codes "direction"))
 
@@ -115,6 +124,10 @@ xid_rule = required (positional (codes "xid"))
 
 abbrev pub seconds_rule : Rule
 seconds_rule = defaulting (codes "10") (number 1 3600 (option (codes "seconds")))
+
+-- the same, or without end
+abbrev pub talk_seconds_rule : Rule
+talk_seconds_rule = defaulting (codes "0") (number 0 3600 (option (codes "seconds")))
 
 abbrev pub format_rule : Rule
 format_rule = defaulting (codes "text") (option (codes "format"))
@@ -137,7 +150,7 @@ abbrev pub play_shape : Shape
 play_shape = command_of (codes "play") (play_name_rule ∷ log_bytes_rule ∷ [])
 
 abbrev pub scan_shape : Shape
-scan_shape = command_of (codes "scan") (path_rule ∷ [])
+scan_shape = command_of (codes "scan") (path_rule ∷ format_rule ∷ [])
 
 abbrev pub serve_shape : Shape
 serve_shape =
@@ -148,13 +161,15 @@ serve_shape =
     ∷ [])
 
 abbrev pub shutdown_shape : Shape
-shutdown_shape = command_of (codes "shutdown") (port_rule ∷ socket_rule ∷ [])
+shutdown_shape = command_of (codes "shutdown") (port_rule ∷ host_rule ∷ socket_rule ∷ [])
 
 abbrev pub talk_shape : Shape
-talk_shape = command_of (codes "talk") (port_rule ∷ socket_rule ∷ names_rule ∷ [])
+talk_shape =
+    command_of (codes "talk")
+    (port_rule ∷ host_rule ∷ socket_rule ∷ names_rule ∷ text_rule ∷ strict_rule ∷ talk_seconds_rule ∷ [])
 
 abbrev pub tick_shape : Shape
-tick_shape = command_of (codes "tick") (port_rule ∷ socket_rule ∷ every_rule ∷ [])
+tick_shape = command_of (codes "tick") (port_rule ∷ host_rule ∷ socket_rule ∷ every_rule ∷ [])
 
 -- an argument that a command has, or hasn't
 abbrev pub given : Bool → Rule → List Rule
@@ -170,7 +185,7 @@ abbrev pub verb_shape : Verb → Shape
 verb_shape verb =
     command_of (verb_text verb)
     (given (names_direction verb) direction_rule ++ given (names_branch verb) xid_rule
-    ++ (port_rule ∷ socket_rule ∷ []) ++ given (opens_session verb) play_name_rule ++ (seconds_rule ∷ [])
+    ++ (port_rule ∷ host_rule ∷ socket_rule ∷ []) ++ given (opens_session verb) play_name_rule ++ (seconds_rule ∷ [])
     ++ given (lists verb) format_rule ++ (print_script_rule ∷ []) ++ given (decides verb) yes_rule)
 
 -- the command line without its commands: its version

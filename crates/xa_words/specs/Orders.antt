@@ -1,6 +1,7 @@
 -- Which task the words behind an operator's command name.
 use Rattle.std.specs.Prelude.{◌≡◌, true, false, List, [], Option, Some, None, codes, bytes_eq, if◌then◌else◌}
 use Rattle.clap.specs.Walk.{Row, Text}
+use Rattle.xa_codes.specs.declared.direction.Direction.{Direction}
 use Rattle.xa_operate.specs.declared.format.Format.{Format}
 use Rattle.xa_operate.specs.declared.format.Format.TheVariants as format
 use Rattle.xa_operate.specs.declared.task.Task.{Task}
@@ -25,6 +26,10 @@ pub record IsXidIn (rows : List Row) (xid : Triple) : Type 0 where
   pub limits : IsWithinLimits xid
   pub spelled : text_in rows (codes "xid") [] ≡ text_of xid
 
+-- the direction that is given
+abbrev pub IsDirectionIn : List Row → Direction → Type 0
+IsDirectionIn rows direction = direction_of (text_in rows (codes "direction") []) ≡ Some direction
+
 -- the name under which the resource manager is opened: one that a script can have
 pub record IsNameIn (rows : List Row) (name : Text) : Type 0 where
   pub given : name ≡ text_in rows (codes "name") (codes "xarm")
@@ -39,7 +44,7 @@ IsTaskIn command rows (Commit xid) = (command ≡ verb.Commit) × IsXidIn rows x
 IsTaskIn command rows (Rollback xid) = (command ≡ verb.Rollback) × IsXidIn rows xid
 IsTaskIn command rows (Forget xid) = (command ≡ verb.Forget) × IsXidIn rows xid
 IsTaskIn command rows (Decide direction xid) =
-    (command ≡ verb.Decide) × (direction_of (text_in rows (codes "direction") []) ≡ Some direction) × IsXidIn rows xid
+    (command ≡ verb.Decide) × IsDirectionIn rows direction × IsXidIn rows xid
 IsTaskIn command rows (Doom xid) = (command ≡ verb.Doom) × IsXidIn rows xid
 IsTaskIn command rows Trim = command ≡ verb.Trim
 IsTaskIn command rows Restart = command ≡ verb.Restart

@@ -9,7 +9,7 @@ use Rattle.clap.specs.Simple.{subcommand_of}
 use Rattle.clap.specs.Walk.{Text}
 use Rattle.clap.specs.declared.error.kind.ErrorKind.{ErrorKind}
 use Rattle.clap.specs.declared.error.kind.ErrorKind.TheVariants.{OutOfMemory, DisplayHelp, DisplayVersion}
-use Rattle.xa_commands.specs.Done.{Checked, HasOperated, HasPlayed, HasShown, HasTalked, HasTicked, Scanned, checked_status}
+use Rattle.xa_commands.specs.Done.{Checked, HasOperated, HasPlayed, HasShown, HasTalked, HasTicked, Scanned, checked_status, scan_format}
 use Rattle.xa_commands.specs.declared.checking_fault.CheckingFault.{CheckingFault}
 use Rattle.xa_commands.specs.declared.scanning_fault.ScanningFault.{ScanningFault}
 use Rattle.xa_disk.specs.declared.file_fault.FileFault.{FileFault}
@@ -26,7 +26,7 @@ use Rattle.xa_talk.specs.declared.tick_fault.TickFault.{TickFault}
 use Rattle.xa_words.specs.Asks.{AsksOf}
 use Rattle.xa_words.specs.Line.{xarm}
 use Rattle.xa_words.specs.declared.asked.Asked.{Asked}
-use Rattle.xa_words.specs.declared.asked.Asked.TheVariants.{Play, Scan, Check, Serve, Loop, Talk, Tick, Shutdown, Operate, Script, Unconfirmed, Malformed, Nowhere}
+use Rattle.xa_words.specs.declared.asked.Asked.TheVariants.{Play, Scan, Check, Serve, Loop, Talk, Tick, Shutdown, Operate, Script, Unconfirmed, Malformed, Conflict, Nowhere}
 use Rattle.xa_words.specs.declared.ran.Ran.{Ran}
 use Rattle.xa_words.specs.declared.ran.Ran.TheVariants.{Ended, Serves, Loops}
 
@@ -63,14 +63,14 @@ module _ {I D C : Type 0} (T : Type 0) (remaining : I → Option Text) (honest :
   abbrev pub HasDone : Asked → Ran → Type 0
   HasDone (Play name log_bytes) (Ended code) =
       (end : Result (Unit {0}) PlayFault) × IsPlayed remaining name.now log_bytes end × (exit_status code ≡ status_of end)
-  HasDone (Scan path) (Ended code) =
-      (end : Result (Unit {0}) ScanningFault) × Scanned honest seen opened refused path.now end
+  HasDone (Scan path format) (Ended code) =
+      (end : Result (Unit {0}) ScanningFault) × Scanned (scan_format format) honest seen opened refused path.now end
       × (exit_status code ≡ status_of end)
   HasDone (Check path log_bytes) (Ended code) =
       (end : Result Bool CheckingFault) × Checked honest seen opened refused path.now log_bytes end
       × (exit_status code ≡ checked_status end)
-  HasDone (Talk reach style) (Ended code) =
-      (end : Result (Unit {0}) TalkFault) × HasTalked style remaining sent left end × (exit_status code ≡ status_of end)
+  HasDone (Talk reach seconds manner) (Ended code) =
+      (end : Result (Unit {0}) TalkFault) × HasTalked manner remaining sent left end × (exit_status code ≡ status_of end)
   HasDone (Tick reach every) (Ended code) =
       (end : Result (Unit {0}) TickFault) × HasTicked T sent left end × (exit_status code ≡ status_of end)
   HasDone (Shutdown reach) (Ended code) =
@@ -82,6 +82,7 @@ module _ {I D C : Type 0} (T : Type 0) (remaining : I → Option Text) (honest :
       (end : Result (Unit {0}) OperateFault) × HasShown name.now task end × (exit_status code ≡ operate.status_of end)
   HasDone (Unconfirmed task xid) (Ended code) = exit_status code ≡ 2
   HasDone (Malformed what) (Ended code) = exit_status code ≡ 2
+  HasDone (Conflict option) (Ended code) = exit_status code ≡ 2
   HasDone Nowhere (Ended code) = exit_status code ≡ 2
   HasDone (Serve service accepts) (Serves served) = served ≡ service
   HasDone (Serve service accepts) (Ended code) = (accepts ≡ true) × (exit_status code ≡ 1)

@@ -4,7 +4,8 @@ ghost use Rattle.xa_words.specs.Line.{HasRule, accept_damage_rule, branch_second
 ghost use Rattle.xa_words.specs.Line.{exit_when_down_rule};
 ghost use Rattle.xa_words.specs.Line.{frame_seconds_rule, idle_seconds_rule, listen_rule, log_bytes_rule};
 ghost use Rattle.xa_words.specs.Line.{first_path_rule, log_rule, loops_rule, name_rule, names_rule, path_rule, play_name_rule};
-ghost use Rattle.xa_words.specs.Line.{direction_rule, format_rule, print_script_rule, seconds_rule, xid_rule, yes_rule};
+ghost use Rattle.xa_words.specs.Line.{direction_rule, format_rule, host_rule, print_script_rule, seconds_rule, strict_rule};
+ghost use Rattle.xa_words.specs.Line.{talk_seconds_rule, text_rule, xid_rule, yes_rule};
 ghost use Rattle.xa_words.specs.Line.{port_rule, serve_log_bytes_rule, socket_rule, tick_rule, trim_rule, workers_rule};
 
 use clap::builder::ValueParser;
@@ -82,6 +83,28 @@ pub fn names<'a>(alloc: Global) -> Arg<'a>
         .action(ArgAction::SetTrue)
 }
 
+pub fn text<'a>(alloc: Global) -> Arg<'a>
+    ensures { HasRule text_rule result }
+{
+    Arg::new(alloc, "text")
+        .long("text")
+        .help(
+            "Prints values as text in quotes, as they may be written in the script, and not in hexadecimal",
+        )
+        .action(ArgAction::SetTrue)
+}
+
+pub fn strict<'a>(alloc: Global) -> Arg<'a>
+    ensures { HasRule strict_rule result }
+{
+    Arg::new(alloc, "strict")
+        .long("strict")
+        .help(
+            "Ends with status 1 behind the first reply that is an error: a code other than 0 and 3, but of a recover",
+        )
+        .action(ArgAction::SetTrue)
+}
+
 pub fn log<'a>(alloc: Global) -> Arg<'a>
     ensures { HasRule log_rule result }
 {
@@ -134,7 +157,7 @@ pub fn workers<'a>(alloc: Global) -> Arg<'a>
         .long("workers")
         .value_name("N")
         .help(
-            "Serves so many connections at a time by worker threads with an audit, instead of event loops: 1 to 64. The options after --connections are then ignored",
+            "Serves so many connections at a time by worker threads with an audit, instead of event loops: 1 to 64. Of the options after --connections only --accept-damage goes with it",
         )
         .value_parser(ValueParser::unsigned(1, MOST_WORKERS))
         .action(ArgAction::Set)
@@ -267,6 +290,17 @@ pub fn port<'a>(alloc: Global) -> Arg<'a>
         .action(ArgAction::Set)
 }
 
+pub fn host<'a>(alloc: Global) -> Arg<'a>
+    ensures { HasRule host_rule result }
+{
+    Arg::new(alloc, "host")
+        .long("host")
+        .value_name("ADDR")
+        .help("The server's address, or a name that has one")
+        .action(ArgAction::Set)
+        .default_value("127.0.0.1")
+}
+
 pub fn socket<'a>(alloc: Global) -> Arg<'a>
     ensures { HasRule socket_rule result }
 {
@@ -274,6 +308,18 @@ pub fn socket<'a>(alloc: Global) -> Arg<'a>
         .long("socket")
         .value_name("PATH")
         .help("A Unix socket to use instead of the port; only its owner and root can connect")
+        .action(ArgAction::Set)
+}
+
+pub fn serve_socket<'a>(alloc: Global) -> Arg<'a>
+    ensures { HasRule socket_rule result }
+{
+    Arg::new(alloc, "socket")
+        .long("socket")
+        .value_name("PATH")
+        .help(
+            "A Unix socket to use beside the port, or instead of it; only its owner and root can connect. The last 4 of 1023 connections are for it, or without it for loopback addresses",
+        )
         .action(ArgAction::Set)
 }
 
@@ -332,6 +378,18 @@ pub fn seconds<'a>(alloc: Global) -> Arg<'a>
         .value_parser(ValueParser::unsigned(1, MOST_SECONDS))
         .action(ArgAction::Set)
         .default_value("10")
+}
+
+pub fn talk_seconds<'a>(alloc: Global) -> Arg<'a>
+    ensures { HasRule talk_seconds_rule result }
+{
+    Arg::new(alloc, "seconds")
+        .long("seconds")
+        .value_name("S")
+        .help("How many seconds each answer is waited for: 0 (without end) to 3600")
+        .value_parser(ValueParser::unsigned(0, MOST_SECONDS))
+        .action(ArgAction::Set)
+        .default_value("0")
 }
 
 pub fn format<'a>(alloc: Global) -> Arg<'a>

@@ -1,8 +1,9 @@
+use crate::loop_option::LoopOption;
 use crate::malformed::Malformed;
 use xa_commands::Reach;
 use xa_operate::{Format, Task};
-use xa_script::Style;
 use xa_service::{LoopService, Service};
+use xa_talk::Manner;
 
 /// What a command line asks for.
 #[derive(Debug, Drop)]
@@ -14,6 +15,7 @@ pub enum Asked<'a> {
     },
     Scan {
         path: &'a str,
+        format: Format,
     },
     Check {
         /// Of the log's first file.
@@ -23,7 +25,9 @@ pub enum Asked<'a> {
     },
     Talk {
         reach: Reach<'a>,
-        style: Style,
+        /// How many seconds an answer may be waited for: 0 for no end.
+        seconds: u64,
+        manner: Manner,
     },
     Tick {
         reach: Reach<'a>,
@@ -66,6 +70,8 @@ pub enum Asked<'a> {
     },
     /// A word isn't as it has to be.
     Malformed(Malformed),
+    /// A server with workers was given an option that acts by loops alone.
+    Conflict(LoopOption),
     /// Neither a port nor a path was given, for a command that needs one.
     Nowhere,
 }

@@ -3,11 +3,13 @@ ghost use Rattle.std.specs.IoError.{error_kind};
 ghost use Rattle.std.specs.Prelude.{◌≡◌, IfErr, IfOk, IfSome, map, string_bytes, true};
 ghost use Rattle.std.specs.Process.{exit_status};
 ghost use Rattle.clap.specs.Values.{kind_of};
+ghost use Rattle.xa_operate.specs.Courses.{status_of};
 ghost use Rattle.xa_words.specs.Runs.{HasDone, HasRun, IsRefusal, IsUnread, NamesWell};
 ghost use Rattle.xa_commands.specs.declared.ticking.Watch.{Watch};
 ghost use Rattle.xa_talk.specs.declared.dial.Connection.{Connection};
 
 use crate::asked::Asked;
+use crate::loop_option::LoopOption;
 use crate::malformed::Malformed;
 use crate::ran::Ran;
 use crate::words::read_words;
@@ -21,11 +23,11 @@ use std::rt::{Clock, Env};
 use std::{env, io};
 use xa_codes::Direction;
 use xa_commands::{
-    Stream, accept_damage, check, checked, ended, operate, operated, play, scan, show_script,
-    shutdown, talk, tick, words_fault,
+    Server, Stream, accept_damage, check, checked, ended, ended_at, operate, operated, play, scan,
+    show_script, shutdown, talk, tick, words_fault,
 };
 use xa_disk::Opens;
-use xa_operate::Task;
+use xa_operate::{OperateFault, Task, operate_status};
 use xa_play::PlayFault;
 
 /// Does what the command line says, but that it serves. Status 0: done. 1: a fault, its line on standard error. 2: the
@@ -62,7 +64,7 @@ fn done<
 {
     Ran::Ended(match asked {
         Asked::Play { name, log_bytes } => ended(rt, &play(rt, name, log_bytes)),
-        Asked::Scan { path } => ended(rt, &scan(rt, path)),
+        Asked::Scan { path, format } => ended(rt, &scan(rt, path, format)),
         Asked::Check { path, log_bytes } => checked(rt, &check(rt, path, log_bytes)),
         Asked::Serve {
             service,
@@ -78,19 +80,40 @@ fn done<
             Some(status) => status,
             None => return Ran::Loops(service),
         },
-        Asked::Talk { reach, style } => ended(rt, &talk(rt, reach, style)),
-        Asked::Tick { reach, every } => ended(rt, &tick(rt, reach, every)),
-        Asked::Shutdown { reach } => ended(rt, &shutdown(rt, reach)),
+        Asked::Talk {
+            reach,
+            seconds,
+            manner,
+        } => {
+            let mut server = Server::new(rt, reach, seconds);
+            let end = talk(rt, &mut server, manner);
+            ended_at(rt, &end, &server)
+        }
+        Asked::Tick { reach, every } => {
+            let mut server = Server::new(rt, reach, 0);
+            let end = tick(rt, &mut server, every);
+            ended_at(rt, &end, &server)
+        }
+        Asked::Shutdown { reach } => {
+            let mut server = Server::new(rt, reach, 0);
+            let end = shutdown(rt, &mut server);
+            ended_at(rt, &end, &server)
+        }
         Asked::Operate {
             reach,
             seconds,
             format,
             name,
             task,
-        } => operated(rt, &operate(rt, reach, seconds, name, &task, format)),
-        Asked::Script { name, task } => operated(rt, &show_script(rt, name, &task)),
+        } => {
+            let mut server = Server::new(rt, reach, seconds);
+            let end = operate(rt, &mut server, name, &task, format);
+            operated(rt, &end, Some(&server))
+        }
+        Asked::Script { name, task } => shown(rt, &show_script(rt, name, &task)),
         Asked::Unconfirmed { task, xid } => unconfirmed(rt, &task, xid),
         Asked::Malformed(malformed) => told(rt, &malformed),
+        Asked::Conflict(option) => conflicting(rt, option),
         Asked::Nowhere => nowhere(rt),
     })
 }
@@ -141,6 +164,26 @@ fn told<R: Eprint>(rt: &R, malformed: &Malformed) -> ExitCode
     ensures { exit_status result ≡ 2 }
 {
     let _ = eprintln!(rt; "error: {malformed}\n\nFor more information, try '--help'.");
+    ExitCode::from(2)
+}
+
+// The status of a script that was to be printed, and its line on standard error where it wasn't.
+fn shown<R: Eprint>(rt: &R, end: &Result<(), OperateFault>) -> ExitCode
+    ensures { exit_status result ≡ status_of end.now }
+{
+    if let Err(fault) = end {
+        let _ = eprintln!(rt; "xarm: {fault}");
+    }
+    ExitCode::from(operate_status(end))
+}
+
+// A server with workers has no use for an option that it was given.
+fn conflicting<R: Eprint>(rt: &R, option: LoopOption) -> ExitCode
+    ensures { exit_status result ≡ 2 }
+{
+    let _ = eprintln!(rt;
+        "error: the argument '--workers <N>' cannot be used with '{option}'\n\nFor more information, try '--help'."
+    );
     ExitCode::from(2)
 }
 

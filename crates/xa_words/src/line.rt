@@ -7,9 +7,9 @@ ghost use Rattle.xa_words.specs.Line.{shutdown_shape, talk_shape, tick_shape, xa
 
 use crate::arguments::{
     accept_damage, branch_seconds, connections, direction, every, exit_when_down, first_path,
-    format, frame_seconds, idle_seconds, listen, log, log_bytes, loops, name, names, open_name,
-    path, play_name, port, print_script, seconds, serve_log_bytes, socket, tick, trim, workers,
-    xid, yes,
+    format, frame_seconds, host, idle_seconds, listen, log, log_bytes, loops, name, names,
+    open_name, path, play_name, port, print_script, seconds, serve_log_bytes, serve_socket, socket,
+    strict, talk_seconds, text, tick, trim, workers, xid, yes,
 };
 use crate::verb::Verb;
 use clap::{Arg, Command};
@@ -71,7 +71,10 @@ fn verb_command<'a>(alloc: Global, verb: Verb) -> Result<Command<'a>, AllocError
         .after_help(verb.after_help());
     let command = with_argument(command, direction(alloc), verb.names_direction())?;
     let command = with_argument(command, xid(alloc), verb.names_branch())?;
-    let command = command.arg(port(alloc))?.arg(socket(alloc))?;
+    let command = command
+        .arg(port(alloc))?
+        .arg(host(alloc))?
+        .arg(socket(alloc))?;
     let command = with_argument(command, open_name(alloc), verb.opens_session())?;
     let command = command.arg(seconds(alloc))?;
     let command = with_argument(command, format(alloc), verb.lists())?;
@@ -137,8 +140,11 @@ fn scan_command<'a>(alloc: Global) -> Result<Command<'a>, AllocError>
 {
     Command::new(alloc, "scan")
         .about("Prints the records of a log, one per line, and where the next one would begin")
-        .after_help("Example: xarm scan bank.log")
-        .arg(path(alloc))
+        .after_help(
+            "Example: xarm scan bank.log\nWith --format json each line is an object, which has the writes themselves.",
+        )
+        .arg(path(alloc))?
+        .arg(format(alloc))
 }
 
 fn shutdown_command<'a>(alloc: Global) -> Result<Command<'a>, AllocError>
@@ -153,6 +159,7 @@ fn shutdown_command<'a>(alloc: Global) -> Result<Command<'a>, AllocError>
              --workers, or can't be reached.",
         )
         .arg(port(alloc))?
+        .arg(host(alloc))?
         .arg(socket(alloc))
 }
 
@@ -166,8 +173,12 @@ fn talk_command<'a>(alloc: Global) -> Result<Command<'a>, AllocError>
              Each line is answered before the next one is read.",
         )
         .arg(port(alloc))?
+        .arg(host(alloc))?
         .arg(socket(alloc))?
-        .arg(names(alloc))
+        .arg(names(alloc))?
+        .arg(text(alloc))?
+        .arg(strict(alloc))?
+        .arg(talk_seconds(alloc))
 }
 
 fn tick_command<'a>(alloc: Global) -> Result<Command<'a>, AllocError>
@@ -180,6 +191,7 @@ fn tick_command<'a>(alloc: Global) -> Result<Command<'a>, AllocError>
              server is gone.",
         )
         .arg(port(alloc))?
+        .arg(host(alloc))?
         .arg(socket(alloc))?
         .arg(every(alloc))
 }
@@ -189,7 +201,7 @@ fn serve_command<'a>(alloc: Global) -> Result<Command<'a>, AllocError>
 {
     Command::new(alloc, "serve")
         .about(
-            "Serves a resource manager on a port or a Unix socket, and prints ready once it can be reached",
+            "Serves a resource manager on a port, a Unix socket or both, and prints ready for each once it can be reached",
         )
         .after_help("Example: xarm serve --log bank.log --name bank --port 4187")
         .arg(log(alloc))?
@@ -200,7 +212,7 @@ fn serve_command<'a>(alloc: Global) -> Result<Command<'a>, AllocError>
         .arg(connections(alloc))?
         .arg(loops(alloc))?
         .arg(listen(alloc))?
-        .arg(socket(alloc))?
+        .arg(serve_socket(alloc))?
         .arg(frame_seconds(alloc))?
         .arg(idle_seconds(alloc))?
         .arg(branch_seconds(alloc))?

@@ -1,10 +1,10 @@
 //! What the words of an operator's command ask for.
-ghost use Rattle.std.specs.Prelude.{◌≡◌, [], IfErr, IfOk, List, Some, codes, false, true, ℕ};
+ghost use Rattle.std.specs.Prelude.{◌≡◌, IfErr, IfOk, List, Some, codes, false, true, ℕ};
 ghost use Rattle.clap.specs.Matches.{found_of};
 ghost use Rattle.clap.specs.Walk.{rows_of};
 ghost use Rattle.xa_words.specs.Asks.{AsksBy, IsConfirmed, IsUnconfirmed, text_in};
 ghost use Rattle.xa_script.specs.Requests.{direction_of, is_name};
-ghost use Rattle.xa_words.specs.Orders.{IsMalformedIn, IsTaskIn, IsXidIn, format_named};
+ghost use Rattle.xa_words.specs.Orders.{IsDirectionIn, IsMalformedIn, IsTaskIn, IsXidIn, format_named};
 ghost use Rattle.xa_words.specs.Verbs.{verb_of};
 
 use crate::asked::Asked;
@@ -119,7 +119,7 @@ fn xid_of(matches: &ArgMatches<'_>) -> Result<Xid, Malformed>
 }
 
 fn direction_of(matches: &ArgMatches<'_>) -> Result<Direction, Malformed>
-    ensures direction { IfOk result (λ direction. direction_of (text_in (rows_of (found_of matches.now)) (codes "direction") []) ≡ Some direction) }
+    ensures direction { IfOk result (IsDirectionIn (rows_of (found_of matches.now))) }
     ensures malformed { IfErr result (IsMalformedIn (rows_of (found_of matches.now))) }
 {
     match read_direction(text_of(matches, "direction", "")) {
@@ -138,7 +138,7 @@ fn read_direction(word: &str) -> Option<Direction>
     }
 }
 
-fn read_format(word: &str) -> Option<Format>
+pub fn read_format(word: &str) -> Option<Format>
     ensures { result ≡ format_named word.now }
 {
     match word {

@@ -1,14 +1,15 @@
 //! What the words of a command line ask for.
-ghost use Rattle.std.specs.Prelude.{◌≡◌, Bool, IfOk, IsSomeAnd, Some, codes, if◌then◌else◌, map, option_map, string_bytes};
+ghost use Rattle.std.specs.Prelude.{◌≡◌, ◌≢◌, Bool, IfOk, IsSomeAnd, None, Some, codes, map, option_map, string_bytes};
 ghost use Rattle.clap.specs.{Faults.fault_of, Kinds.FailsBy, Matches.found_of, Simple.subcommand_of, Simple.subcommand_rows_of};
 ghost use Rattle.clap.specs.Walk.{first_of, one_of, rows_of};
 ghost use Rattle.xa_words.specs.Asks.{AsksBy, AsksOf, IsAtIn, IsCommand, IsOther, IsReachIn, IsSet, most_16, most_64, number_in, text_in};
-ghost use Rattle.xa_words.specs.{Line.xarm, declared.asked.Asked.TheVariants.Loop};
-ghost use Rattle.xa_script.specs.declared.style.Style.TheVariants.{Codes, Names};
+ghost use Rattle.xa_words.specs.{Conflicts.conflict_in, Line.xarm, declared.asked.Asked.TheVariants.Loop};
 
 use crate::asked::Asked;
+use crate::conflict::conflict_of;
 use crate::line::command_line;
-use crate::operator::operator_of;
+use crate::malformed::Malformed;
+use crate::operator::{operator_of, read_format};
 use crate::verb::read_verb;
 use clap::{ArgMatches, Error};
 use std::alloc::Global;
@@ -16,6 +17,7 @@ use xa_commands::Reach;
 use xa_limits::MOST_LOG;
 use xa_script::Style;
 use xa_service::{At, LoopService, MOST_SERVED, Service};
+use xa_talk::Manner;
 
 /// What the words of a command line ask for, the program's name first.
 pub fn read_words<'a>(alloc: Global, words: &'a [String]) -> Result<Asked<'a>, Error>
@@ -61,9 +63,7 @@ fn read_other<'a>(command: &str, matches: &ArgMatches<'a>) -> Asked<'a>
             path: text_of(matches, "path", ""),
             log_bytes: number_of(matches, "log-bytes", MOST_LOG),
         },
-        "scan" => Asked::Scan {
-            path: text_of(matches, "path", ""),
-        },
+        "scan" => scan_of(matches),
         "serve" => serve_of(matches),
         "shutdown" => shutdown_of(matches),
         "talk" => talk_of(matches),
@@ -81,6 +81,18 @@ fn play_of<'a>(matches: &ArgMatches<'a>) -> Asked<'a>
     }
 }
 
+fn scan_of<'a>(matches: &ArgMatches<'a>) -> Asked<'a>
+    ensures { AsksBy (codes "scan") (rows_of (found_of matches.now)) result }
+{
+    match read_format(text_of(matches, "format", "text")) {
+        Some(format) => Asked::Scan {
+            path: text_of(matches, "path", ""),
+            format,
+        },
+        None => Asked::Malformed(Malformed::Format),
+    }
+}
+
 fn serve_of<'a>(matches: &ArgMatches<'a>) -> Asked<'a>
     ensures { AsksBy (codes "serve") (rows_of (found_of matches.now)) result }
 {
@@ -94,6 +106,19 @@ fn serve_of<'a>(matches: &ArgMatches<'a>) -> Asked<'a>
             None => Asked::Nowhere,
         };
     }
+    match conflict_of(matches) {
+        Some(option) => Asked::Conflict(option),
+        None => workers_of(matches, workers),
+    }
+}
+
+// By workers, with none of the options that act by loops alone.
+fn workers_of<'a>(matches: &ArgMatches<'a>, workers: u64) -> Asked<'a>
+    requires workers { workers ≡ number_in (rows_of (found_of matches.now)) (codes "workers") most_64 0 }
+    requires some { workers ≢ 0 }
+    requires alone { conflict_in (rows_of (found_of matches.now)) ≡ None }
+    ensures { AsksBy (codes "serve") (rows_of (found_of matches.now)) result }
+{
     let port = port_of(matches);
     if port == 0 {
         return Asked::Nowhere;
@@ -136,10 +161,19 @@ fn loops_of<'a>(matches: &ArgMatches<'a>, at: At<'a>) -> LoopService<'a>
 fn talk_of<'a>(matches: &ArgMatches<'a>) -> Asked<'a>
     ensures { AsksBy (codes "talk") (rows_of (found_of matches.now)) result }
 {
-    let style = style_of(matches.get_flag("names"));
-    match reach_of(matches) {
-        Some(reach) => Asked::Talk { reach, style },
-        None => Asked::Nowhere,
+    let Some(reach) = reach_of(matches) else {
+        return Asked::Nowhere;
+    };
+    Asked::Talk {
+        reach,
+        seconds: number_of(matches, "seconds", 0),
+        manner: Manner {
+            style: Style {
+                has_names: flag_of(matches, "names"),
+                has_texts: flag_of(matches, "text"),
+            },
+            is_strict: flag_of(matches, "strict"),
+        },
     }
 }
 
@@ -162,23 +196,25 @@ fn shutdown_of<'a>(matches: &ArgMatches<'a>) -> Asked<'a>
     }
 }
 
-// Where a server is to listen: at the path, where one is given, else on the port.
+// Where a server is to listen: at the path and on the port, as they are given.
 fn at_of<'a>(matches: &ArgMatches<'a>) -> Option<At<'a>>
     ensures { IsAtIn (rows_of (found_of matches.now)) result }
 {
-    if let Some(path) = socket_of(matches) {
-        return Some(At::Socket(path));
-    }
     let port = port_of(matches);
     let address = text_of(matches, "listen", "127.0.0.1");
-    if port == 0 {
-        None
-    } else {
-        Some(At::Port { address, port })
+    match socket_of(matches) {
+        Some(path) if port == 0 => Some(At::Socket(path)),
+        Some(path) => Some(At::Both {
+            address,
+            port,
+            path,
+        }),
+        None if port == 0 => None,
+        None => Some(At::Port { address, port }),
     }
 }
 
-// How a server is to be reached, likewise.
+// How a server is to be reached: at the path, where one is given, else on the port.
 pub(crate) fn reach_of<'a>(matches: &ArgMatches<'a>) -> Option<Reach<'a>>
     ensures { IsReachIn (rows_of (found_of matches.now)) result }
 {
@@ -186,10 +222,11 @@ pub(crate) fn reach_of<'a>(matches: &ArgMatches<'a>) -> Option<Reach<'a>>
         return Some(Reach::Socket(path));
     }
     let port = port_of(matches);
+    let host = text_of(matches, "host", "127.0.0.1");
     if port == 0 {
         None
     } else {
-        Some(Reach::Port(port))
+        Some(Reach::Port { host, port })
     }
 }
 
@@ -203,12 +240,6 @@ pub(crate) fn flag_of(matches: &ArgMatches<'_>, id: &str) -> bool
     ensures { IsSet (one_of id.now (rows_of (found_of matches.now))) result }
 {
     matches.get_flag(id)
-}
-
-fn style_of(is_named: bool) -> Style
-    ensures { result ≡ (if is_named then Names else Codes) }
-{
-    if is_named { Style::Names } else { Style::Codes }
 }
 
 pub(crate) fn text_of<'a>(matches: &ArgMatches<'a>, id: &str, absent: &'a str) -> &'a str

@@ -7,23 +7,23 @@ use Rattle.xa_tokens.specs.declared.receipt.Receipt.{Receipt}
 use Rattle.xa_tokens.specs.Believed.Account.{Account, Owes}
 use Rattle.xa_tokens.specs.Believed.Receipts.{IsInOrder, ask_of, last_or, receipt_of}
 
--- an event, asked behind what the share was told last
+-- an event, asked after what the share was told last
 abbrev pub next_ask : Account → Event → Ask
 next_ask a event = ask_of event (last_or 0 a.told)
 
--- it asked for one thing more
+-- it asked for one more thing
 abbrev pub asking : Account → Ask → Account
 asking a ask = record a { asked = a.asked ++ ask ∷ [] }
 
--- it was told one entry more
+-- it was told one more entry
 abbrev pub told_of : Account → Receipt → Account
 told_of a r = record a { told = a.told ++ r ∷ [] }
 
--- it gave one thing up
+-- it gave up one thing
 abbrev pub without : Account → Ask → Account
 without a ask = record a { given_up = a.given_up ++ ask ∷ [] }
 
--- It was told the entry of what it asked, which stands behind what it had been told before it asked; or memory was wanted,
+-- It was told the entry of what it asked, which stands after what it had been told before it asked; or memory ran out,
 -- and it gave the ask up.
 abbrev pub Ends : Bool → Account → Ask → Reply → Account → Type 0
 Ends is_none old ask reply new =
@@ -35,7 +35,7 @@ IsToldAtOnce old event reply new =
     (new ≡ told_of (asking old (next_ask old event)) (receipt_of (next_ask old event) reply))
     × IsInOrder (receipt_of (next_ask old event) reply)
 
--- the same, where the event is an entry
+-- the same, if the event is an entry
 abbrev pub AsksAtOnce : Bool → Account → Event → Reply → Account → Type 0
 AsksAtOnce is_none old event reply new = MatchBool is_none (new ≡ old) (IsToldAtOnce old event reply new)
 

@@ -61,7 +61,7 @@ pub record ConnectedBy {M : Type 0} (m : Ghosts M) (start : State → Type 0) (b
       (λ a b. Connected m start base a result b × (reply ≡ placed (a.count + 1) (connect_reply result)))
   pub told : AsksAtOnce (is_memory (connect_reply result).detail) old Connect reply new
 
--- a call of a session was carried out by itself, or was one of a group
+-- a call of a session was carried out alone, or was one of a group
 abbrev pub DidCallOf : {M : Type 0} → Ghosts M → (State → Type 0) → ℕ × ℕ → ℕ → Request → Reply → Type 0
 DidCallOf m start base session request reply =
     Did m start base (λ a b. Called m start base session a request reply b) ⊎ DidAmong m start base session request reply
@@ -81,7 +81,7 @@ pub record CalledBy {M : Type 0} (m : Ghosts M) (start : State → Type 0) (base
   pub did : DidCallOf m start base session request reply
   pub ends : Ends (is_memory reply.detail) before ask reply new
 
--- There is a sequencer that stood for a history, and it is told of its manager and its count.
+-- There is a sequencer that stood for a history, and the status tells of its manager and its count.
 pub record IsTold {M : Type 0} (m : Ghosts M) (start : State → Type 0) (base : ℕ × ℕ) (status : Status) : Type 0 where
   pub asked : Numbered M
   pub history : HasHistory m start base asked
@@ -110,7 +110,7 @@ pub record IsWhole {M : Type 0} (m : Ghosts M) (start : State → Type 0) (base 
   pub whole : IsWholeOf receipts all
 
 -- At a moment when no thread has the lock: the sequencer stands for a history, with what that promises, and the entries that
--- a share was told are among it. So it is with each share, whatever others ask at that time.
+-- a share was told are in it. The same holds of each share, whatever others ask at that time.
 pub record HoldsAt {M : Type 0} (m : Ghosts M) (start : State → Type 0) (base : ℕ × ℕ) (c : Numbered M) (a : Account)
     : Type 0 where
   pub entries : List Entry

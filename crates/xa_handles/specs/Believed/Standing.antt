@@ -1,4 +1,4 @@
--- What lies under the lock.
+-- What the lock protects.
 use Rattle.std.specs.Prelude.{ℕ, ◌≡◌, ◌+◌, List, ◌++◌, map, Option, sum_by}
 use Rattle.xa_handles.specs.Mail.{Mailed, ask_weight, slot_weight, told_weight}
 use Rattle.xa_model.specs.State.{State}
@@ -43,7 +43,7 @@ pub record LeavesMail {M : Type 0} (old new : Standing M) : Type 0 where
   pub letters : new.letters ≡ old.letters
   pub trays : new.trays ≡ old.trays
 
--- The history has these entries more, each of which a letter tells, and no letter is lost or made.
+-- The history has these more entries, each of which a letter tells, and no letter is lost or made.
 pub record TellsMail {M : Type 0} (old new : Standing M) : Type 0 where
   pub more : List Receipt
   pub history : new.history ≡ old.history ++ more

@@ -15,27 +15,27 @@ use Rattle.xa_log.specs.Believed.Chain.{start, closing, preamble, record_of, rec
 use Rattle.xa_log.specs.Believed.Damage.{breaks_off, is_damaged}
 use Rattle.xa_log.specs.Believed.Pair.{has_log, IsCalm, Behind, AllOrNoBodies, CalmTears}
 
--- a record, and so many zeros
+-- a record, and this many zeros
 abbrev pub tailed : List ℕ → List ℕ → ℕ → List ℕ
 tailed prev body zeros = record_of prev body ++ replicate zeros 0
 
--- where the writing of a record at this offset begins: the preamble are left out
+-- where the writing of a record at this offset begins: the preamble is left out
 abbrev pub behind_preamble : ℕ → ℕ
 behind_preamble at = at + (PREAMBLE_BYTES - at)
 
--- how many bytes of a body's record are then written, with so many zeros
+-- how many bytes of a body's record are then written, with this many zeros
 abbrev pub bytes_behind : ℕ → List ℕ → ℕ → ℕ
 bytes_behind at body zeros = AROUND_BODY + length body + zeros - (PREAMBLE_BYTES - at)
 
--- how many bytes the records of these bodies have: as many as stand behind the preamble, with a closing length
+-- how many bytes the records of these bodies have: as many as stand after the preamble, with a closing length
 abbrev pub records_bytes : Format → List (List ℕ) → ℕ
 records_bytes format bodies = length (records (start format) bodies)
 
--- what stands behind the preamble: the records without the first length, and a closing length
+-- what stands after the preamble: the records without the first length, and a closing length
 abbrev pub behind_front : Format → List (List ℕ) → List ℕ
 behind_front format bodies = drop LENGTH_BYTES (records (start format) bodies) ++ closing
 
--- Behind a log of these bodies stand zeros, as many as have room: its closing length, and the first byte of what would
+-- After a log of these bodies stand zeros, as many as have room: its closing length, and the first byte of what would
 -- be a body.
 abbrev pub IsCleared : ℕ → Format → List (List ℕ) → List ℕ → Type 0
 IsCleared most format bodies file =
@@ -49,12 +49,12 @@ pub record IsReady (format : Format) (bodies : List (List ℕ)) (file : List ℕ
   pub sizes : AllByRecursion (IsBody format) bodies
   pub some : 1 ≤ length bodies
 
--- one with a zero behind its closing length, where the file goes on
+-- one with a zero after its closing length, if the file goes on
 pub record IsComplete (format : Format) (bodies : List (List ℕ)) (file : List ℕ) : Type 0 where
   pub ready : IsReady format bodies file
   pub cleared : (ready.rest ≡ []) ⊎ (take 1 ready.rest ≡ 0 ∷ [])
 
--- So many zeros go behind a checkpoint's closing length that one is there, or the file ends before it.
+-- Enough zeros go after a checkpoint's closing length that one is there, or the file ends before it.
 abbrev pub IsTailed : ℕ → ℕ → Format → List (List ℕ) → Type 0
 IsTailed more most format bodies = (1 ≤ more) ⊎ (most ≤ PREAMBLE_BYTES + records_bytes format bodies)
 
@@ -62,13 +62,22 @@ abbrev pub first_length : List (List ℕ) → ℕ
 first_length [] = 0
 first_length (body ∷ bodies) = length body
 
--- Of the other file: no longer than a log may be, and behind the preamble as the log that stood there, if one
--- did. So is each image that a crash may leave of it.
+-- Of the other file: no longer than a log may be, and after the preamble as the log that stood there, if one
+-- did. The same holds of each image that a crash may leave of it.
 pub record IsOther {D : Type 0} (disks : Ghosts D) (most : ℕ) (stood : List (List ℕ)) (disk : D) : Type 0 where
   pub fits : length (disks.seen disk) ≤ most
   pub behind : Behind stood (disks.seen disk)
   pub left_fits : (c : List ℕ) → disks.may_leave disk c → length c ≤ most
   pub left_behind : (c : List ℕ) → disks.may_leave disk c → Behind stood c
+
+-- it has a byte
+abbrev pub HasBytes : List ℕ → Type 0
+HasBytes file = 1 ≤ length file
+
+-- A file isn't empty, and no crash leaves it so.
+pub record NeverEmpty {D : Type 0} (disks : Ghosts D) (disk : D) : Type 0 where
+  pub seen : HasBytes (disks.seen disk)
+  pub left : (c : List ℕ) → disks.may_leave disk c → HasBytes c
 
 -- Nothing of it is left to chance.
 pub record IsQuiet {D : Type 0} (disks : Ghosts D) (stood : List (List ℕ)) (disk : D) : Type 0 where
@@ -108,13 +117,13 @@ abbrev pub Checkpointed : {D : Type 0} → Ghosts D → Appended → ℕ → For
 Checkpointed disks Kept most format stood bodies old new =
     Rests format bodies (disks.seen new) × (length (disks.seen new) ≤ most)
     × Only (disks.seen new) (disks.may_leave new) × (breaks_off format bodies (disks.seen new) ≡ false)
--- by a fault in the first part, or behind it
+-- by a fault in the first part, or after it
 Checkpointed disks Refused most format stood bodies old new =
     (IsOther disks most stood new
     × (CalmTears disks.tears → IsCalm stood (disks.seen old) → IsCalm stood (disks.seen new)))
     ⊎ (IsOther disks most [] new × IsQuiet disks [] new)
 Checkpointed disks Lost most format stood bodies old new =
-    -- the seal is behind the first 8 bytes, which were synced
+    -- the seal is after the first 8 bytes, which were synced
     LeavesSealed most bodies (disks.seen new) × (SealTears disks.tears → IsCalm bodies (disks.seen new))
     × ((c : List ℕ) → disks.may_leave new c → LeavesSealed most bodies c)
 Checkpointed disks Full most format stood bodies old new = ⊥

@@ -1,4 +1,4 @@
--- Where a log's bytes show that they were damaged: what a checkpoint made stable isn't there any more.
+-- Where a log's bytes show that they were damaged: what a checkpoint made stable is no longer there.
 use Rattle.std.specs.Prelude.{◌≡◌, ◌⊎◌, ℕ, ◌+◌, ◌≤◌, Bool, true, false, not, ◌&&◌, ◌||◌, ◌==◌, nat_le, nat_lt}
 use Rattle.std.specs.Prelude.{List, [], ◌∷◌, length, take, drop, slice_index, is_some}
 use Rattle.std.specs.List.{AllByRecursion}
@@ -21,7 +21,7 @@ abbrev pub is_snapshot : List (List ℕ) → Bool
 is_snapshot [] = true
 is_snapshot (body ∷ bodies) = not (is_appended (slice_index body 0)) && is_snapshot bodies
 
--- What may follow a snapshot: a closing length, or the length of a record that was to be appended; and where there are
+-- What may follow a snapshot: a closing length, or the length of a record that was about to be appended; and if there are
 -- more bytes, a zero, or what an appended body begins with.
 abbrev pub goes_on : List ℕ → Bool
 goes_on tail =
@@ -40,7 +40,7 @@ shows_first bytes =
     not (size_at bytes == 0)
     && (not (is_appended (slice_index bytes LENGTH_BYTES)) && nat_lt 1 (number_in (take NUMBER_END (drop LENGTH_BYTES bytes))))
 
--- A boot's record, by its length, has the digest that it has behind the other format's name: a header that was torn may have
+-- A boot's record, by its length, has the digest that it has after the other format's name: a header that was torn may have
 -- come before it.
 abbrev pub is_renamed : Format → List ℕ → Bool
 is_renamed format bytes =
@@ -49,7 +49,7 @@ is_renamed format bytes =
     && bytes_eq (take DIGEST_BYTES (drop (LENGTH_BYTES + NUMBER_END) bytes))
     (digest (start (other_than format)) (take NUMBER_END (drop LENGTH_BYTES bytes))))
 
--- Behind a file's name no record chains, but the first one of a checkpoint is shown.
+-- After a file's name no record chains, but the first one of a checkpoint is shown.
 abbrev pub lost_first : Format → List ℕ → Bool
 lost_first format bytes = shows_first bytes && not (is_renamed format bytes)
 
@@ -60,12 +60,12 @@ is_cut One bodies file = false
 is_cut Two bodies file =
     nat_lt 1 (generation bodies) && (is_snapshot bodies && not (goes_on (behind_text Two bodies file)))
 
--- behind records that chain, the snapshot is cut, or the log stops short
+-- after records that chain, the snapshot is cut, or the log stops short
 abbrev pub breaks_behind : Format → List (List ℕ) → List ℕ → Bool
 breaks_behind format bodies file = is_cut format bodies file || stops_short format bodies file
 
 -- A log of generation 2 or more begins with the snapshot that a checkpoint wrote and synced before it counted. It breaks
--- off where its first record is shown but doesn't chain, or where its snapshot is cut; and any log where it stops short of
+-- off if its first record is shown but doesn't chain, or if its snapshot is cut; and any log does if it stops short of
 -- what was appended and synced later.
 unfoldable pub breaks_off : Format → List (List ℕ) → List ℕ → Bool
 breaks_off format [] file = lost_first format (take BOOT_RECORD (behind_text format [] file))

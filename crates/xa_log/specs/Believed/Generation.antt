@@ -9,7 +9,7 @@ number_in body =
     if nat_le NUMBER_END (length body)
     then from_be_bytes w32 (take (NUMBER_END - NUMBER_OFFSET) (drop NUMBER_OFFSET body)) else 0
 
--- a log's generation: the number in its first body, 0 where it has none
+-- a log's generation: the number in its first body, 0 if it has none
 abbrev pub generation : List (List ℕ) → ℕ
 generation [] = 0
 generation (body ∷ bodies) = number_in body

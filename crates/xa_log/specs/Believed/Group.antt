@@ -21,8 +21,8 @@ abbrev pub group_bytes : List (List ℕ) → ℕ
 group_bytes [] = 0
 group_bytes (body ∷ group) = AROUND_BODY + length body + group_bytes group
 
--- how many bytes a body has whose record is as long as these together: what is said of an append of so many bytes is so
--- said of a group
+-- how many bytes a body has whose record is as long as these together: what is said of an append of this many bytes holds
+-- of a group
 abbrev pub as_one : List (List ℕ) → ℕ
 as_one [] = 0
 as_one (body ∷ group) = length body + group_bytes group
@@ -36,17 +36,17 @@ first_of_group (body ∷ group) = body
 abbrev pub closed : List ℕ → List (List ℕ) → List ℕ
 closed prev group = records prev group ++ closing
 
--- and so many zeros more, which make the bytes after it ready
+-- and this many more zeros, which make the bytes after it ready
 abbrev pub closed_by : ℕ → List ℕ → List (List ℕ) → List ℕ
 closed_by more prev group = closed prev group ++ replicate more 0
 
--- these bodies and the first so many of the group
+-- these bodies and some first part of the group
 pub record HasFirstPart (bodies group found : List (List ℕ)) : Type 0 where
   pub many : ℕ
   pub within : many ≤ length group
   pub is : found ≡ bodies ++ take many group
 
--- a log of the bodies and the first so many of the group, that doesn't break off
+-- a log of the bodies and some first part of the group, that doesn't break off
 pub record IsFirstPart (format : Format) (bodies group : List (List ℕ)) (file : List ℕ) : Type 0 where
   pub many : ℕ
   pub within : many ≤ length group
@@ -55,9 +55,9 @@ pub record IsFirstPart (format : Format) (bodies group : List (List ℕ)) (file 
 
 -- ---- chance
 
--- Without chance: after the bodies no records chain but the group's, in their order and from the first on; and where none
--- does, the log doesn't break off: what a torn append leaves behind a snapshot isn't what a body of a snapshot begins with,
--- and no records of the log's own chain behind what it wrote.
+-- Without chance: after the bodies no records chain but the group's, in their order and from the first on; and if none
+-- does, the log doesn't break off: what a torn append leaves after a snapshot isn't what a body of a snapshot begins with,
+-- and no records of the log's own chain after what it wrote.
 abbrev pub IsPlain : Format → List (List ℕ) → List (List ℕ) → List ℕ → Type 0
 IsPlain format bodies [] file = (chains_on format bodies file ≡ false) × (breaks_off format bodies file ≡ false)
 IsPlain format bodies (body ∷ group) file =
@@ -67,7 +67,7 @@ IsPlain format bodies (body ∷ group) file =
     × IsPlain format (bodies ++ body ∷ []) group file)
 
 -- the records that chain after the bodies have the group's bodies, in their order and from the first on, and the log
--- doesn't break off behind them
+-- doesn't break off after them
 abbrev pub HasBodiesOf : Format → List (List ℕ) → List (List ℕ) → List ℕ → Type 0
 HasBodiesOf format bodies [] file = (chains_on format bodies file ≡ false) × (breaks_off format bodies file ≡ false)
 HasBodiesOf format bodies (body ∷ group) file =
@@ -80,7 +80,7 @@ abbrev pub PlainByBody : Type 0
 PlainByBody = (format : Format) (bodies group : List (List ℕ)) (file : List ℕ)
     → ((i : ℕ) → slice_index file i < 256) → HasBodiesOf format bodies group file → IsPlain format bodies group file
 
--- The premise on a disk's failed writes: what a lost append of this group leaves to a read is without chance, where the log
+-- The premise on a disk's failed writes: what a lost append of this group leaves to a read is without chance, if the log
 -- didn't break off before it.
 abbrev pub NoChance : (List ℕ → ℕ → List ℕ → List ℕ → Type 0) → List (List ℕ) → Type 0
 NoChance tears group = (format : Format) (bodies : List (List ℕ)) (old mid new : List ℕ) (more : ℕ)

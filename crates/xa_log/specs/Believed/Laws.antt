@@ -25,7 +25,7 @@ pub record IsLogOf (most : ℕ) (bodies : List (List ℕ)) (file : List ℕ) : T
   pub rests : Rests format bodies file
   pub whole : breaks_off format bodies file ≡ false
 
--- any image of the other file that is behind the first 12 bytes as what stood there
+-- any image of the other file that has after the first 12 bytes what stood there
 abbrev pub BehindLaw : Type 0
 BehindLaw = (most : ℕ) (stood : List (List ℕ)) (other : List ℕ)
     → length other ≤ most → Behind stood other → LeavesOf most stood other
@@ -58,7 +58,7 @@ SealLaw = (most : ℕ) (first : Bool) (bodies fresh : List (List ℕ)) (current 
     → (fault_pair most first current other ≡ None)
     × ((logged_of first current other ≡ bodies) ⊎ (logged_of first current other ≡ fresh))
 
--- What was read of two files is a pair, of which the other file comes behind, where no stray records would come before
+-- What was read of two files is a pair, of which the other file comes after, if no stray records would come before
 -- it.
 abbrev pub OpenedLaw : {D : Type 0} → Ghosts D → Type 0
 OpenedLaw {D} disks = (bodies : List (List ℕ)) (log : LogView D)
@@ -66,28 +66,28 @@ OpenedLaw {D} disks = (bodies : List (List ℕ)) (log : LogView D)
     → NoStray (disks.seen (first_of log)) (disks.seen (second_of log))
     → Pair disks bodies (logged (disks.seen log.other)) log
 
--- Chance is possible, and not only by a digest: what stands behind 8 bytes that are no log's may be a log's records. So
--- where a file isn't a log, that none chain there which would come before the other file's log is a premise of its own.
+-- Chance is possible, and not only by a digest: what stands after 8 bytes that are no log's may be a log's records. So
+-- if a file isn't a log, that none chain there which would come before the other file's log is a premise of its own.
 abbrev pub StrayLaw : Type 0
 StrayLaw = (format : Format) (bodies : List (List ℕ)) (file : List ℕ) → Rests format bodies file
     → (old : List ℕ) × (has_log old ≡ false) × Torn 0 PREAMBLE_BYTES old file × (logged file ≡ bodies)
 
--- No stale record follows a checkpoint: where its log has room for another record, whichever length is written over the
--- closing length and nothing behind it, what chains there has a body that begins with 0. No record's body does; so
--- nothing that was ever logged comes back when an append is torn behind its length.
+-- No stale record follows a checkpoint: if its log has room for another record, whichever length is written over the
+-- closing length and nothing after it, what chains there has a body that begins with 0. No record's body does; so
+-- nothing that was ever logged comes back when an append is torn after its length.
 abbrev pub StaleLaw : Type 0
 StaleLaw = (most : ℕ) (format : Format) (bodies : List (List ℕ)) (size file : List ℕ)
     → IsCleared most format bodies file → length (text format bodies) + CLEARED_BYTES ≤ most
     → length size ≡ LENGTH_BYTES → chains_on format bodies (put file (length (text format bodies)) size) ≡ true
     → take 1 (body_at (behind_text format bodies (put file (length (text format bodies)) size))) ≡ 0 ∷ []
 
--- Each byte is the one's or the other's, or a zero; where one of the two has ended that is a zero too. So is a file whose
+-- Each byte is the one's or the other's, or a zero; if one of the two has ended that is a zero too. Such is a file whose
 -- write was torn between bytes, or between sectors of any size, and then cleared or not.
 pub record IsMixed (old new file : List ℕ) : Type 0 where
   pub no_shorter : length old ≤ length file
   pub each : (i : ℕ) → (slice_index file i ≡ slice_index old i) ⊎ (slice_index file i ≡ slice_index new i) ⊎ (slice_index file i ≡ 0)
 
--- An append that is torn so leaves no snapshot that is cut: that takes a byte that neither stood there nor was written.
+-- An append that is torn like this leaves no snapshot that is cut: that takes a byte that neither stood there nor was written.
 abbrev pub MixedLaw : Type 0
 MixedLaw = (format : Format) (bodies group : List (List ℕ)) (more : ℕ) (old file : List ℕ)
     → Rests format bodies old → 1 ≤ length bodies → is_cut format bodies old ≡ false
@@ -95,13 +95,13 @@ MixedLaw = (format : Format) (bodies group : List (List ℕ)) (more : ℕ) (old 
     → IsMixed old (put old (length (text format bodies)) (closed_by more (last (start format) bodies) group)) file
     → is_cut format bodies file ≡ false
 
--- No record of a log of this generation begins at an offset or behind it, on whichever digest.
+-- No record of a log of this generation begins at an offset or after it, on whichever digest.
 abbrev pub NoOwn : Format → ℕ → ℕ → List ℕ → Type 0
 NoOwn format generation from file = (at : ℕ) (prev : List ℕ) → from ≤ at → is_record format prev (drop at file) ≡ true
     → is_own generation (body_at (drop at file)) ≡ false
 
--- Whatever an append of a group leaves of its records, and however it was torn: the log doesn't stop short by them, where the
--- group is within its bound. Only by what begins behind all that it wrote: records of its own, which never stood there.
+-- Whatever an append of a group leaves of its records, and however it was torn: the log doesn't stop short by them, if the
+-- group is within its bound. Only by what begins after all that it wrote: records of its own, which never stood there.
 abbrev pub TailLaw : Type 0
 TailLaw = (format : Format) (bodies group : List (List ℕ)) (many : ℕ) (file : List ℕ)
     → group_bytes group + LENGTH_BYTES ≤ MOST_GROUP

@@ -9,7 +9,7 @@ use Rattle.xa_log.specs.Believed.Checkpoint.{IsQuiet, LeavesOf, LeavesSealed, Se
 use Rattle.xa_log.specs.Believed.Group.{HasFirstPart, IsPlain, NoChance}
 use Rattle.xa_log.specs.Believed.Pair.{CalmTears, IsCalm, logged_pair, pair_fault}
 use Rattle.xa_log.specs.Believed.Stands.{Leaves, LeavesLog, MayStand, Stands}
-use Rattle.xa_log.specs.Believed.TwoFiles.{MaySeal, MayStandPair, Pair, first_of, second_of}
+use Rattle.xa_log.specs.Believed.TwoFiles.{HasOther, MaySeal, MayStandPair, Pair, first_of, second_of}
 use Rattle.xa_log.specs.declared.format.Format.{Format}
 use Rattle.xa_log.specs.Believed.LogView.{LogView}
 
@@ -26,7 +26,7 @@ IsIn disks (Whole bodies stood) log = Pair disks bodies stood log
 IsIn disks (LostAppend bodies group stood) log = MayStandPair disks bodies group stood log
 IsIn disks (LostCheckpoint bodies fresh) log = MaySeal disks bodies fresh log
 
--- what a look may find: the log without what was lost, or with it; of a group some first part
+-- what a look may find: the log without what was lost, or with it; for a group, with some first part
 abbrev pub MayFind : LogState → List (List ℕ) → Type 0
 MayFind (Whole bodies stood) found = found ≡ bodies
 MayFind (LostAppend bodies group stood) found = HasFirstPart bodies group found
@@ -105,11 +105,12 @@ pub record LeftByLook {D : Type 0} (disks : Ghosts D) (old new : LogView D) (fir
   pub first_left : disks.left_since (first_of new) (disks.moment (first_of old)) first
   pub second_left : disks.left_since (second_of new) (disks.moment (second_of old)) second
 
--- whatever state a log was in it is in
+-- whatever state a log was in it still is in
 pub record KeepsAll {D : Type 0} (disks : Ghosts D) (old new : LogView D) : Type 0 where
   pub state : (state : LogState) → IsIn disks state old → IsIn disks state new
   pub quiet : (stood : List (List ℕ)) → IsQuiet disks stood old.other → IsQuiet disks stood new.other
   pub known : IsKnown disks old → IsKnown disks new
+  pub other : HasOther disks old → HasOther disks new
   -- of the current file alone
   pub stands : (bodies : List (List ℕ)) → Stands disks bodies old → Stands disks bodies new
   pub may_stand : (bodies group : List (List ℕ)) → MayStand disks bodies group old → MayStand disks bodies group new

@@ -17,12 +17,12 @@ pub record LogView (D : Type 0) : Type 0 where
   pub end : ℕ
   -- the digest of the record before it
   pub digest : List ℕ
-  -- the number in the current file's first body, 0 where it has no record
+  -- the number in the current file's first body, 0 if it has no record
   pub generation : ℕ
   -- how far the current file is known to reach, and how far the other one is
   pub known : ℕ
   pub other_known : ℕ
-  -- how many bytes of one record are written without taking memory, with what goes behind it
+  -- how many bytes of one record are written without taking memory, with what goes after it
   pub room : ℕ
   -- an append or a checkpoint was lost, and no rescan has succeeded since
   pub lost : Bool

@@ -17,8 +17,8 @@ abbrev pub is_nil : List (List ℕ) → Bool
 is_nil [] = true
 is_nil (body ∷ bodies) = false
 
--- These bodies are taken before those of the other file: by generation, on a tie by having records, then by standing in
--- the first file. Where neither file has a record both say the same.
+-- These bodies take precedence over those of the other file: by generation, on a tie by having records, then by
+-- standing in the first file. If neither file has a record, both say the same.
 abbrev pub beats : Bool → List (List ℕ) → List (List ℕ) → Bool
 beats first mine other =
     nat_lt (generation other) (generation mine)
@@ -40,7 +40,7 @@ current_of first second = if on_first first second then first else second
 abbrev pub logged_pair : List ℕ → List ℕ → List (List ℕ)
 logged_pair first second = if on_first first second then logged first else logged second
 
--- either of two files breaks off before its first record, or the current one behind some
+-- either of two files breaks off before its first record, or the current one after some
 abbrev pub is_broken : List ℕ → List ℕ → Bool
 is_broken first second = is_headless first || (is_headless second || is_damaged (current_of first second))
 
@@ -52,7 +52,7 @@ pair_fault most first second =
     else (if has_log first || has_log second
     then (if is_broken first second then Some Damaged else None) else Some NotALog))
 
--- the same of the current file and the other one, where the flag says whether the current one is the first
+-- the same of the current file and the other one; the flag says whether the current one is the first
 abbrev pub logged_of : Bool → List ℕ → List ℕ → List (List ℕ)
 logged_of first current other = if first then logged_pair current other else logged_pair other current
 
@@ -62,7 +62,7 @@ fault_pair most first current other = if first then pair_fault most current othe
 -- ---- an image of the other file
 
 -- Without chance: it isn't a later format's, and if a record chains at its front, that is the first of these, and as
--- many chain as these are: where the name of another format came before them, its limit of bodies cuts none off, and
+-- many chain as these are: if the name of another format came before them, its limit of bodies cuts none off, and
 -- takes none more.
 pub record IsCalm (stood : List (List ℕ)) (file : List ℕ) : Type 0 where
   pub known : is_newer (take FORMAT_BYTES file) ≡ false
@@ -71,7 +71,7 @@ pub record IsCalm (stood : List (List ℕ)) (file : List ℕ) : Type 0 where
   -- nor does it show a first record that doesn't chain
   pub headed : is_headless file ≡ false
 
--- what stands behind the first 12 bytes is what stood behind them in a log of these bodies, or they are none
+-- what stands after the first 12 bytes is what stood after them in a log of these bodies, or they are none
 abbrev pub Behind : List (List ℕ) → List ℕ → Type 0
 Behind stood file = (stood ≡ []) ⊎ ((base : List ℕ) × (logged base ≡ stood) × Torn 0 PREAMBLE_BYTES base file)
 

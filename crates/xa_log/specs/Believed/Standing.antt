@@ -11,7 +11,7 @@ use Rattle.xa_log.specs.Reading.{is_newer}
 use Rattle.xa_log.specs.declared.standing.Standing.{Standing}
 use Rattle.xa_log.specs.declared.standing.Standing.TheVariants.{Nothing, Log, Later, Stray}
 
--- no more bytes than were to be written, and each is what was to be written at its place, or 0
+-- no more bytes than should have been written, and each is what should be at its place, or 0
 abbrev pub is_part_of : List ℕ → List ℕ → Bool
 is_part_of written [] = true
 is_part_of [] (byte ∷ file) = false
@@ -21,7 +21,7 @@ is_part_of (new ∷ written) (byte ∷ file) = (byte == 0 || byte == new) && is_
 abbrev pub is_remnant : List ℕ → Bool
 is_remnant file = is_part_of (preamble One) file || is_part_of (preamble Two) file
 
--- A log; one of a later format; nothing but what may be left of one that was to be made; or something else.
+-- A log; one of a later format; nothing but what may be left of one that was being made; or something else.
 abbrev pub standing : List ℕ → Standing
 standing file =
     if has_log file then Log

@@ -24,7 +24,7 @@ pub record Stands {D : Type 0} (disks : Ghosts D) (bodies : List (List ℕ)) (lo
   pub alive : log.lost ≡ false
   pub whole : breaks_off log.format bodies (disks.seen log.disk) ≡ false
 
--- What a crash leaves of a log of at most so many bytes while a group is appended to these bodies: a log that `open`
+-- What a crash leaves of a log of at most this many bytes while a group is appended to these bodies: a log that `open`
 -- accepts, and that begins with the bodies; without chance it is the bodies and some first part of the group.
 pub record Leaves (most : ℕ) (format : Format) (bodies group : List (List ℕ)) (file : List ℕ) : Type 0 where
   pub fits : length file ≤ most
@@ -43,12 +43,12 @@ pub record LeavesLog (most : ℕ) (format : Format) (bodies : List (List ℕ)) (
 pub record MayStand {D : Type 0} (disks : Ghosts D) (bodies group : List (List ℕ)) (log : LogView D) : Type 0 where
   pub some : 1 ≤ length group
   pub seen_is : Leaves log.log_bytes log.format bodies group (disks.seen log.disk)
-  -- the same, where the disk's failed writes leave nothing by chance to a read
+  -- the same, if the disk's failed writes leave nothing by chance to a read
   pub seen_on : NoChance disks.tears group → IsFirstPart log.format bodies group (disks.seen log.disk)
   pub left_is : (c : List ℕ) → disks.may_leave log.disk c → Leaves log.log_bytes log.format bodies group c
   pub lost : log.lost ≡ true
 
--- Whatever its disks hold: the next record begins behind these bodies, and none was lost.
+-- Whatever its disks hold: the next record begins after these bodies, and none was lost.
 pub record EndsBehind {D : Type 0} (bodies : List (List ℕ)) (log : LogView D) : Type 0 where
   pub end : log.end ≡ length (text log.format bodies)
   pub alive : log.lost ≡ false
@@ -76,8 +76,8 @@ pub record Untouched {D : Type 0} (old new : LogView D) : Type 0 where
   pub known : new.known ≡ old.known
   pub other_known : new.other_known ≡ old.other_known
 
--- Where a log's next record begins after an append of so many bytes, and how far the files are known to reach: the
--- current one as far as the record and its closing length, the zeros behind it not counted.
+-- Where a log's next record begins after an append of this many bytes, and how far the files are known to reach: the
+-- current one as far as the record and its closing length, the zeros after it not counted.
 abbrev pub Moves : {D : Type 0} → Appended → ℕ → LogView D → LogView D → Type 0
 Moves Kept n old new =
     (new.end ≡ old.end + (AROUND_BODY + n)) × (new.format ≡ old.format) × (new.lost ≡ old.lost)
@@ -90,7 +90,7 @@ Moves Lost n old new =
     × (new.known ≡ old.known) × (new.other_known ≡ old.other_known)
 Moves Full n old new = new ≡ old
 
--- a log's generation after an append of a body: where it had no record the body's number
+-- a log's generation after an append of a body: if it had no record, the body's number
 abbrev pub Renumbers : {D : Type 0} → Appended → List ℕ → LogView D → LogView D → Type 0
 Renumbers Kept body old new =
     new.generation ≡ (if old.end == FIRST_OFFSET then number_in body else old.generation)

@@ -6,14 +6,14 @@ use Rattle.xa_limits.specs.declared.TheConstants.{LENGTH_BYTES}
 use Rattle.xa_log.specs.Ahead.{Shortens}
 use Rattle.xa_log.specs.Believed.Chain.{newest, start, last, text, Rests, logged}
 use Rattle.xa_log.specs.Believed.Pair.{generation, beats, has_log, IsCalm, CalmTears}
-use Rattle.xa_log.specs.Believed.Checkpoint.{IsOther, IsQuiet, LeavesSealed, SealTears}
+use Rattle.xa_log.specs.Believed.Checkpoint.{IsOther, IsQuiet, LeavesSealed, NeverEmpty, SealTears}
 use Rattle.xa_log.specs.Believed.Damage.{breaks_off}
 use Rattle.xa_log.specs.Believed.Stands.{Stands, MayStand}
 use Rattle.xa_log.specs.declared.appending.Appended.{Appended}
 use Rattle.xa_log.specs.declared.appending.Appended.TheVariants.{Kept, Refused, Lost, Full}
 use Rattle.xa_log.specs.Believed.LogView.{LogView}
 
--- The current file is a log of these bodies; of the other one, each image is without chance a log that comes behind
+-- The current file is a log of these bodies; of the other one, each image is without chance a log that comes after
 -- it, of those bodies that stood there, or none.
 pub record Pair {D : Type 0} (disks : Ghosts D) (bodies stood : List (List ℕ)) (log : LogView D) : Type 0 where
   pub current : Stands disks bodies log
@@ -21,7 +21,7 @@ pub record Pair {D : Type 0} (disks : Ghosts D) (bodies stood : List (List ℕ))
   pub calm_on : CalmTears disks.tears → IsCalm stood (disks.seen log.other)
   pub older : beats log.on_first bodies stood ≡ true
 
--- The append of a group to these was lost; of the other file the same is said as before, and it comes behind whichever
+-- The append of a group to these was lost; of the other file the same is said as before, and it comes after whichever
 -- first part stands.
 pub record MayStandPair {D : Type 0} (disks : Ghosts D) (bodies group stood : List (List ℕ))
     (log : LogView D) : Type 0 where
@@ -47,7 +47,7 @@ pub record MaySeal {D : Type 0} (disks : Ghosts D) (bodies fresh : List (List �
 abbrev pub Checkpoints : {D : Type 0} → Ghosts D → Appended → List (List ℕ) → List (List ℕ) → List (List ℕ)
     → LogView D → Type 0
 Checkpoints disks Kept bodies stood fresh log = Pair disks fresh bodies log × IsQuiet disks bodies log.other
--- by a fault in the first part, or behind it
+-- by a fault in the first part, or after it
 Checkpoints disks Refused bodies stood fresh log =
     Pair disks bodies stood log ⊎ (Pair disks bodies [] log × IsQuiet disks [] log.other)
 Checkpoints disks Lost bodies stood fresh log = MaySeal disks bodies fresh log
@@ -95,21 +95,28 @@ AppendsTo disks Refused bodies group stood log = Pair disks bodies stood log
 AppendsTo disks Lost bodies group stood log = MayStandPair disks bodies group stood log
 AppendsTo disks Full bodies group stood log = Pair disks bodies stood log
 
--- Two files that were read: the current one stands, and the other one is what it was, on its disk too. It comes behind
--- where both are logs; where it isn't one, that is a premise on what stands behind its first 8 bytes, NoStray.
+-- Two files that were read: the current one stands, and the other one is what it was, and each crash leaves that. It comes after
+-- if both are logs; if it isn't one, that is a premise on what stands after its first 8 bytes, NoStray.
 pub record IsOpenPair {D : Type 0} (disks : Ghosts D) (bodies stood : List (List ℕ)) (log : LogView D) : Type 0 where
   pub current : Stands disks bodies log
   pub other : IsOther disks log.log_bytes stood log.other
   pub quiet : IsQuiet disks stood log.other
+  pub durable : Only (disks.seen log.other) (disks.may_leave log.other)
   pub older : (has_log (disks.seen log.other) ≡ true) → beats log.on_first bodies stood ≡ true
+
+-- A log is made in the first file, and goes on in the second one with its second generation: the other file isn't empty and
+-- no crash leaves it so, unless the log is in the first one and still of the first generation.
+abbrev pub HasOther : {D : Type 0} → Ghosts D → LogView D → Type 0
+HasOther disks log =
+    NeverEmpty disks log.other ⊎ ((log.on_first ≡ true) × (generation (logged (disks.seen log.disk)) ≤ 1))
 
 -- What was read is a pair, and nothing of the other file is left to chance.
 abbrev pub IsReadPair : {D : Type 0} → Ghosts D → List (List ℕ) → LogView D → Type 0
 IsReadPair disks bodies log =
     Pair disks bodies (logged (disks.seen log.other)) log × IsQuiet disks (logged (disks.seen log.other)) log.other
 
--- The premise of an opening on the first and the second file: where one begins as no log, the records that chain behind
--- its first 8 bytes, if any do, come behind those of the other one.
+-- The premise of an opening on the first and the second file: if one begins as no log, the records that chain after
+-- its first 8 bytes, if any do, come after those of the other one.
 abbrev pub NoStray : List ℕ → List ℕ → Type 0
 NoStray first second =
     (has_log first ≡ false → beats false (logged second) (logged first) ≡ true)

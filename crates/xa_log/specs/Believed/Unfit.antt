@@ -1,5 +1,5 @@
 -- Whether two files may be one log's, or which of them isn't.
-use Rattle.std.specs.Prelude.{◌≡◌, ℕ, true, ◌||◌, List, length, nat_lt, if◌then◌else◌, None}
+use Rattle.std.specs.Prelude.{◌≡◌, ℕ, Bool, true, false, ◌&&◌, ◌||◌, List, [], ◌∷◌, length, nat_lt, if◌then◌else◌, None}
 use Rattle.xa_log.specs.declared.format.Format.{Format}
 use Rattle.xa_log.specs.Believed.Chain.{logged}
 use Rattle.xa_log.specs.Believed.Pair.{generation, has_log, pair_fault}
@@ -10,13 +10,13 @@ use Rattle.xa_log.specs.declared.standing.Standing.TheVariants.{Nothing, Log, La
 use Rattle.xa_log.specs.declared.unfit.Unfit.{Unfit}
 use Rattle.xa_log.specs.declared.unfit.Unfit.TheVariants.{Neither, MissingFirst, MissingSecond, StrayFirst, StraySecond}
 
--- that of the log that a file is, 0 where it is none
+-- that of the log that a file is, 0 if it is none
 abbrev pub generation_in : List ℕ → ℕ
 generation_in file = if has_log file then generation (logged file) else 0
 
 -- By what stands in the first file, what in the second, and the first one's generation. A log is made in the first file,
--- and a checkpoint writes to the second one only beside it; the second generation went to the second file, and from then
--- on both are logs.
+-- and a checkpoint writes to the second one only if the first one is there; the second generation went to the second
+-- file, and from then on both are logs.
 abbrev pub unfit_by : Standing → Standing → ℕ → Unfit
 unfit_by Later _ number = Neither
 unfit_by Stray Later number = Neither
@@ -27,11 +27,26 @@ unfit_by Nothing Log number = MissingFirst
 unfit_by Log Nothing number = if nat_lt 1 number then MissingSecond else Neither
 unfit_by _ _ number = Neither
 
--- An opening refuses by itself what is too long, or of a later format.
+abbrev pub is_empty : List ℕ → Bool
+is_empty [] = true
+is_empty (byte ∷ file) = false
+
+-- By lengths alone, for whoever has read the log: one file is empty in which the other one's log was made, or went on.
+abbrev pub missing_of : List ℕ → List ℕ → Unfit
+missing_of first second =
+    if is_empty first && has_log second then MissingFirst
+    else (if is_empty second && nat_lt 1 (generation_in first) then MissingSecond else Neither)
+
+-- An opening itself refuses what is too long, or of a later format.
 abbrev pub unfit_of : ℕ → List ℕ → List ℕ → Unfit
 unfit_of most first second =
     if nat_lt most (length first) || nat_lt most (length second) then Neither
     else unfit_by (standing first) (standing second) (generation_in first)
+
+-- Of two files that fit, and that an opening doesn't refuse, none is missing.
+abbrev pub MissingLaw : Type 0
+MissingLaw = (most : ℕ) (first second : List ℕ)
+    → unfit_of most first second ≡ Neither → pair_fault most first second ≡ None → missing_of first second ≡ Neither
 
 -- Two files that fit, and that an opening doesn't refuse, meet its premise on a file that is no log.
 abbrev pub FitLaw : Type 0

@@ -73,7 +73,7 @@ fn a_file_in_a_folder(rt: HostRuntime) {
     assert!(rt; is_a_disk(&mut disk) && is_removed(&rt, path.as_str()));
 }
 
-// It is cut where it is longer.
+// It is cut if it is longer.
 fn is_cut(disk: &mut FileDisk) -> bool {
     !disk.shorten(5)
         && has_five(disk)

@@ -1,4 +1,4 @@
-//! What a log says of itself behind calls that fail: where its next record begins, and its generation; and that nothing
+//! What a log says of itself after calls that fail: where its next record begins, and its generation; and that nothing
 //! is written to it once a record or a checkpoint is lost.
 use crate::log_pairs::{
     AGAIN, HELD, NEW, OLD, OPENED, PREPARED, appends, are, checkpoint_of, log_of,
@@ -12,12 +12,12 @@ use xa_rows::{LOG_BYTES, first_wrong};
 // A checkpoint of one body makes six calls: a write and a sync of the first 12 bytes, of the record, and of its length.
 const ONE: [&[u8]; 1] = [&AGAIN];
 
-// Those of the boots behind it.
+// Those of the boots after it.
 const LATER: [&[u8]; 2] = [&[1, 0, 0, 0, 3], &HELD];
 
 const LAST: [&[u8]; 2] = [&[1, 0, 0, 0, 4], &HELD];
 
-/// Which calls fail, where the next record begins once one was appended, or a checkpoint made, and behind a rescan.
+/// Which calls fail, where the next record begins once one was appended, or a checkpoint made, and after a rescan.
 type Ends = (&'static [(u64, Effect)], (u64, u64));
 
 fn with_plans(alloc: Global, bodies: &[&[u8]], plans: &[(u64, Effect)]) -> Option<Log<MemDisk>> {
@@ -90,7 +90,7 @@ fn ends_of_logs(rt: HostRuntime) {
     );
 }
 
-// What a checkpoint, an append and a checkpoint of a later boot come to, one behind the other.
+// What a checkpoint, an append and a checkpoint of a later boot come to, one after another.
 type Three = (Option<Appended>, Option<Appended>, Option<Appended>);
 
 const KEPT: Three = (
@@ -158,7 +158,7 @@ fn nothing_is_written_once_one_is_lost(rt: HostRuntime) {
     assert!(rt; is_checkpoint_lost(alloc) == Some(true) && is_append_lost(alloc) == Some(true));
 }
 
-// What is free then, and the generation, behind an append, and behind a checkpoint.
+// What is free then, and the generation, after an append, and after a checkpoint.
 fn appended(log: &mut Log<MemDisk>, body: &[u8]) -> Option<(u64, usize)> {
     appends(log, body)?;
     Some((log.free(), log.generation()))

@@ -142,7 +142,7 @@ fn device_faults_in_a_group(rt: HostRuntime) {
     none_wrong(&rt, wrong_fault(rt.alloc(), FAULTS));
 }
 
-// A record takes 36 bytes beside its body, so the three end 61, 107 and 168 bytes after the log that stood. So many
+// A record takes 36 bytes besides its body, so the three end 61, 107 and 168 bytes after the log that stood. How many
 // bytes of the write are there after a crash, and the records that are found.
 const CUTS: &[(u64, usize)] = &[
     (0, 1),
@@ -160,7 +160,7 @@ const CUTS: &[(u64, usize)] = &[
     (172, 4),
 ];
 
-// The disk stops at the sync, and a crash keeps the first so many bytes of the write.
+// The disk stops at the sync, and a crash keeps the first `kept` bytes of the write.
 fn is_cut(alloc: Global, kept: u64, found: usize) -> Option<bool> {
     let mut log = log_of(alloc, &ONE)?;
     log.stop(2);
@@ -182,7 +182,7 @@ fn crashes_in_a_group(rt: HostRuntime) {
     none_wrong(&rt, wrong_cut(rt.alloc(), CUTS));
 }
 
-// What a group comes to in so many bytes, and where the log then ends.
+// What a group comes to in `most` bytes, and where the log then ends.
 fn comes_to(
     alloc: Global,
     most: u64,
@@ -206,7 +206,7 @@ fn is_alone(alloc: Global) -> Option<bool> {
     Some(fits_alone(&mut log))
 }
 
-// A log of at most so many bytes that has the one record.
+// A log of at most `most` bytes that has the one record.
 fn log_within(alloc: Global, most: u64) -> Option<Log<MemDisk>> {
     let mut log = Log::create(alloc, MemDisk::new(alloc), MemDisk::new(alloc), most).ok()?;
     if crate::log_pairs::keeps_all(&mut log, &ONE) {
@@ -216,7 +216,7 @@ fn log_within(alloc: Global, most: u64) -> Option<Log<MemDisk>> {
     }
 }
 
-// A group that fits exactly, one that lacks a byte, and one of a single body, as a list and by itself: 8 bytes, a record
+// A group that fits exactly, one that lacks a byte, and one of a single body, as a list and alone: 8 bytes, a record
 // of 41, the three of 168, and a closing length.
 #[test]
 fn limits_of_a_group(rt: HostRuntime) {

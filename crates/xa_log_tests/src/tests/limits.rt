@@ -102,7 +102,7 @@ fn is_filled(alloc: Global, log_bytes: u64, bodies: &[&[u8]]) -> Option<bool> {
     Some(checkpoint_of(alloc, &mut log, bodies)? == Appended::Kept && log.free() == 0)
 }
 
-// The records end at 49 and at 110, and a closing length stands behind them.
+// The records end at 49 and at 110, and a closing length stands after them.
 #[test]
 fn a_checkpoint_that_does_not_fit(rt: HostRuntime) {
     let alloc = rt.alloc();

@@ -2,7 +2,7 @@
 use crate::log_pairs::{OLD, log_of};
 use std::alloc::Global;
 use std::io::{self, ErrorKind, Write};
-use xa_scan::{ScanFault, offsets_in_the_file, scan_run, worked_scans};
+use xa_scan::{Format, ScanFault, offsets_in_the_file, scan_run, worked_scans};
 
 #[derive(Drop)]
 struct Unflushed {
@@ -27,7 +27,7 @@ fn is_not_flushed(alloc: Global) -> Option<bool> {
     let mut writer = Unflushed {
         taken: Vec::new(alloc),
     };
-    let end = scan_run(alloc, &mut first, &mut writer);
+    let end = scan_run(alloc, &mut first, &mut writer, Format::Text);
     Some(end == Err(ScanFault::Write) && writer.taken.as_slice() == LINES)
 }
 

@@ -41,20 +41,20 @@ use Rattle.xa_manager.specs.Believed.Parts.{log_of, outcome_of}
 abbrev pub StaysFor : {D : Type 0} → Ghosts D → Manager D → Manager D → Type 0
 StaysFor disks m m' = (s : State) → ManagerStandsFor disks m s → ManagerStandsFor disks m' s
 
--- The answer is the step's, with the outcome that the manager tells, and it stands for the step's new state. What a
+-- The answer is the step's, with the outcome that the manager reports, and it stands for the step's new state. What a
 -- restart finds in its files is said under the premises on the type of disks.
 abbrev pub StepsAs : {D : Type 0} → Ghosts D → Manager D → Event → Reply → Manager D → Type 0
 StepsAs disks m event reply m' =
     (s : State) → ManagerStandsFor disks m s → Trusts disks ⊎ (is_restart event ≡ false)
     → AnswersAs disks (step s (Asked event) (outcome_of m')) reply m'
 
--- where memory was wanted, it stands for whichever state it stood for, and tells the outcome of the event before
+-- if memory ran out, it stands for whichever state it stood for, and tells the outcome of the event before
 abbrev pub Answered : {D : Type 0} → Ghosts D → Manager D → Event → Reply → Manager D → Type 0
 Answered disks m event reply m' =
     MatchBool (is_memory reply.detail) (StaysFor disks m m' × (outcome_of m' ≡ outcome_of m))
     (StepsAs disks m event reply m')
 
--- What the device did of each outcome. Where it is Quiet no device call was made.
+-- What the device did of each outcome. If it is Quiet no device call was made.
 
 abbrev pub as_appended : Appending → Appended
 as_appended Kept = appended.Kept
@@ -80,8 +80,8 @@ RisesBy failures (Some Kept) old new = NoneRises failures old new
 RisesBy failures (Some Refused) old new = OneRises failures old new
 RisesBy failures (Some Lost) old new = OneRises failures old new
 
--- An outcome that tells of a failure has one behind it. Behind a record that is kept there may be one, where zeros were
--- due: of the write with them. No call by itself joins the append of another.
+-- An outcome that reports a failure has one behind it. After a record that is kept there may be one, if zeros were
+-- due: of the write with them. No single call joins the append of another.
 abbrev pub HasCalled : {D : Type 0} → Ghosts D → Outcome → LogView D → LogView D → Type 0
 HasCalled disks outcome.Quiet old new = new ≡ old
 HasCalled disks (outcome.Appended appending) old new =
@@ -103,14 +103,14 @@ abbrev pub HasCalledFor : {D : Type 0} → Ghosts D → Bool → Outcome → Log
 HasCalledFor disks true outcome old new = HasCalledToTrim disks outcome old new
 HasCalledFor disks false outcome old new = HasCalled disks outcome old new
 
--- The device was called as the outcome tells. A restart that found its log unreadable tells that it failed: only with
+-- The device was called as the outcome says. A restart that found its log unreadable says that it failed: only with
 -- the premises that is the device's doing.
 abbrev pub CallsAs : {D : Type 0} → Ghosts D → Manager D → Event → Outcome → Manager D → Type 0
 CallsAs disks m event outcome m' =
     (s : State) → ManagerStandsFor disks m s → Trusts disks ⊎ (is_restart event ≡ false)
     → HasCalledFor disks (is_trim event) outcome (log_of m) (log_of m')
 
--- Which events may want memory: a request to end what stands never does, but that a commit in one phase has to write
+-- Which events may need memory: a request to end what stands never does, except that a commit in one phase has to write
 -- what it commits.
 abbrev pub may_want : Request → Bool
 may_want (Start flags xid) = true
@@ -130,7 +130,7 @@ may_want_memory Connect = true
 may_want_memory (Hangup n) = false
 may_want_memory (Call n request) = may_want request
 
--- the code that says that memory was wanted
+-- the code that says that there was no memory
 abbrev pub memory_code : Request → ℤ
 memory_code (Commit flags xid) = if has flags TMONEPHASE then XAER_RMFAIL else XA_RETRY
 memory_code _ = XAER_RMFAIL
@@ -140,7 +140,7 @@ abbrev pub wanted_memory : Event → Reply
 wanted_memory (Call n request) = detailed (memory_code request) detail.Memory
 wanted_memory _ = detailed XAER_RMFAIL detail.Memory
 
--- where the reply says that memory was wanted, it is that one, and the event may want it
+-- if the reply says that there was no memory, it is that one, and the event may need it
 abbrev pub IsPinned : Event → Reply → Type 0
 IsPinned event reply = is_memory reply.detail ≡ true → (may_want_memory event ≡ true) × (reply ≡ wanted_memory event)
 
@@ -152,13 +152,13 @@ pub record FullyAnswered {D : Type 0} (disks : Ghosts D) (m : Manager D) (event 
   pub called : is_memory reply.detail ≡ false → CallsAs disks m event (outcome_of m') m'
   -- what a crash at any moment of it leaves
   pub crash : is_memory reply.detail ≡ false → CrashesAs disks m event (outcome_of m') m'
-  -- where memory was wanted, no device call failed, and none was made but by a restart
+  -- if memory ran out, no device call failed, and none was made but by a restart
   pub quiet : is_memory reply.detail ≡ true → NoneRises disks.failures (log_of m) (log_of m')
   pub untouched : is_memory reply.detail ≡ true → is_restart event ≡ false → log_of m' ≡ log_of m
   -- what a crash at any moment of it leaves then
   pub wanting : is_memory reply.detail ≡ true → CrashesWanting disks m event m'
 
--- each of the events was answered as it is by itself, one after another
+-- each of the events was answered as it is alone, one after another
 abbrev pub RunsAll : {D : Type 0} → Ghosts D → Manager D → List Event → List Reply → Manager D → Type 0
 RunsAll disks m [] [] m' = m' ≡ m
 RunsAll disks m [] (reply ∷ replies) m' = ⊥
@@ -172,7 +172,7 @@ connect_reply (Ok number) = carrying (body.Number number)
 connect_reply (Err Full) = detailed XAER_RMERR detail.Limit
 connect_reply (Err Memory) = detailed XAER_RMFAIL detail.Memory
 
--- the events with their outcomes and replies, those that wanted memory left out
+-- the events with their outcomes and replies, those that ran out of memory left out
 abbrev pub recorded : List Event → List Outcome → List Reply → List Entry
 recorded [] outcomes replies = []
 recorded (event ∷ events) [] replies = []

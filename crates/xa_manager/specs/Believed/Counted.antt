@@ -1,4 +1,4 @@
--- How many failures of devices a history tells of, and how many were counted.
+-- How many failures of devices a history reports, and how many were counted.
 use Rattle.std.specs.Prelude.{ℕ, ◌≡◌, ◌⊎◌, ◌+◌, ◌-◌, ◌^◌, ◌<◌, ◌≤◌, true, List, [], ◌∷◌, length, Option, None, Some}
 use Rattle.xa_disk.specs.declared.disk.Disk.{Ghosts}
 use Rattle.xa_frame.specs.declared.reply.Reply.{Reply}
@@ -17,7 +17,7 @@ use Rattle.xa_manager.specs.Believed.LogStands.{Trusts}
 use Rattle.xa_manager.specs.Managed.{ManagerStandsFor}
 use Rattle.xa_manager.specs.Believed.Parts.{log_of}
 
--- How many an outcome tells of. Of the records of a group one device call tells, and so the first entry alone: what is
+-- How many an outcome reports. A group is one device call, which its first entry alone reports: what is
 -- refused or lost with it joined it (`HasGroups`).
 abbrev pub failures_of_append : Appending → ℕ
 failures_of_append Kept = 0
@@ -39,7 +39,7 @@ abbrev pub failures_of : List Entry → ℕ
 failures_of [] = 0
 failures_of (e ∷ es) = failures_in e.outcome + failures_of es
 
--- Two counts went up by so many together, at least. A count stays at the top of a u64, and then nothing is said.
+-- Two counts went up by this many together, at least. A count stays at the top of a u64, and then nothing is said.
 abbrev pub RiseBy : ℕ → ℕ × ℕ → ℕ × ℕ → Type 0
 RiseBy n old new =
     new.0 < 2 ^ 64 - 1 → new.1 < 2 ^ 64 - 1
@@ -49,8 +49,8 @@ RiseBy n old new =
 abbrev pub counted_by : {D : Type 0} → (D → ℕ) → LogView D → ℕ × ℕ
 counted_by failures log = (failures (first_of log), failures (second_of log))
 
--- As AnswersAll; and of the same outcomes, that each that joined became what the one before it became, and that they
--- tell of no more failures than were counted.
+-- Like AnswersAll; and of the same outcomes, that each that joined became what the one before it became, and that they
+-- report no more failures than were counted.
 abbrev pub CountsAll : {D : Type 0} → Ghosts D → Manager D → List Event → List Reply → Manager D → Type 0
 CountsAll disks m events replies m' =
     (s : State) → ManagerStandsFor disks m s → Trusts disks ⊎ (no_restart events ≡ true)

@@ -55,7 +55,7 @@ pub record LeftByAppend {D : Type 0} (disks : Ghosts D) (old new : LogView D) (c
   pub current_left : disks.left_since new.disk (disks.moment old.disk) current
   pub other_left : disks.may_leave old.other other
 
--- Nothing of them is left to chance, where the append of these records began on a log that stood behind a state: after
+-- Nothing of them is left to chance, if the append of these records began on a log that backed a state: after
 -- the log's records chain these, from the first on, or none; in front of the other file stands a record of the log that
 -- stood there, or none that chains.
 pub record AppendsWithoutChance {D : Type 0} (disks : Ghosts D) (log : LogView D) (s : State) (group : List Record)
@@ -67,7 +67,7 @@ pub record AppendsWithoutChance {D : Type 0} (disks : Ghosts D) (log : LogView D
   pub plain : IsPlain log.format (map spelled records) (map spelled group) current
   pub calm : IsCalm stood other
 
--- They stand for a state whose open records are those that were to be appended: the first so many stand in them.
+-- They stand for a state whose open records are those that should have been appended: some of the first stand there.
 abbrev pub LeavesAppend : {D : Type 0} → Ghosts D → LogView D → LogView D → State → State → Type 0
 LeavesAppend disks old new s lost =
     (1 ≤ length lost.open_records)
@@ -82,7 +82,7 @@ wrote Kept log = log.disk
 wrote Refused log = log.other
 wrote Lost log = log.other
 
--- The current file isn't touched: behind a checkpoint that is kept it is the other one, and else the current one still.
+-- The current file isn't touched: after a checkpoint that is kept it is the other one, otherwise still the current one.
 abbrev pub LeavesCurrent : {D : Type 0} → Appending → LogView D → LogView D → Type 0
 LeavesCurrent Kept old new = (new.other ≡ old.disk) × (new.on_first ≡ not old.on_first)
 LeavesCurrent Refused old new = (new.disk ≡ old.disk) × (new.on_first ≡ old.on_first)
@@ -135,11 +135,11 @@ abbrev pub LeavesWritten : {D : Type 0} → Ghosts D → Bool → LogView D → 
 LeavesWritten disks true old a new s lost = LeavesCheckpoint disks old a new lost
 LeavesWritten disks false old a new s lost = LeavesAppend disks old new s lost
 
--- What a crash at any moment of a call leaves, by what the device did in it: where no device call was made, and where
+-- What a crash at any moment of a call leaves, by what the device did in it: if no device call was made, and if
 -- the look at the log failed, what a crash before it leaves; of an append and of a checkpoint, whatever they were
 -- answered, what one leaves whose answer never came. A restart has a log in the middle, and each of its moments is in
--- one of two phases: the look leads from the log before it to that log, and the checkpoint from there to the log behind
--- it. So an image of the one file in the first never stands beside one of the other in the second. No call by itself
+-- one of two phases: the look leads from the log before it to that log, and the checkpoint from there to the log after
+-- it. So an image of the one file in the first never stands beside one of the other in the second. No single call
 -- joins the append of another.
 abbrev pub LeavesBy : {D : Type 0} → Ghosts D → LogView D → Turn → Outcome → LogView D → State → Type 0
 LeavesBy disks old asked Quiet new s = (new ≡ old) × LeavesNow disks old s
@@ -151,13 +151,13 @@ LeavesBy disks old asked Failed new s = LeavesLook disks old new s
 LeavesBy {D} disks old asked (Reread survived appended) new s =
     (mid : LogView D) × LeavesLook disks old mid s × LeavesBoot disks mid asked (Reread survived appended) new
 
--- so it is of each state that the manager stood for
+-- the same of each state that the manager stood for
 abbrev pub CrashesAs : {D : Type 0} → Ghosts D → Manager D → Event → Outcome → Manager D → Type 0
 CrashesAs disks m event outcome m' =
     (s : State) → ManagerStandsFor disks m s → Trusts disks
     → LeavesBy disks (log_of m) (turn s (Asked event)) outcome (log_of m') s
 
--- What a crash leaves at any moment of an event that wanted memory: of a restart, which looked at the log at most, what
+-- What a crash leaves at any moment of an event that ran out of memory: of a restart, which looked at the log at most, what
 -- the look leaves; of any other, what a crash before it leaves.
 abbrev pub LeavesWanting : {D : Type 0} → Ghosts D → LogView D → Bool → LogView D → State → Type 0
 LeavesWanting disks old true new s = LeavesLook disks old new s

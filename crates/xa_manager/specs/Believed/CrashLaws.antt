@@ -36,7 +36,7 @@ ReadLeaves {D} disks =
     (log : LogView D) (s : State) → Trusts disks → IsRecoverable s → LogStandsFor disks log s
     → FilesStandFor log.log_bytes (disks.seen (first_of log)) (disks.seen (second_of log)) s
 
--- and so is what a crash leaves of them, where nothing is left to chance
+-- and so is what a crash leaves of them, if nothing is left to chance
 abbrev pub CrashLeaves : {D : Type 0} → Ghosts D → Type 0
 CrashLeaves {D} disks =
     (log : LogView D) (s : State) (first second : List ℕ) → IsRecoverable s
@@ -49,7 +49,7 @@ FilesLast =
     (most : ℕ) (first second : List ℕ) (s : State) → FilesStandFor most first second s → s.open_records ≡ []
     → (rs : List Record) × (logged_pair first second ≡ map spelled rs) × (fold rs ≡ Ok (durable s))
 
--- or to one of what may last of it, where records' fates are unknown
+-- or to one of what may last of it, if records' fates are unknown
 abbrev pub FilesLastAsFated : Type 0
 FilesLastAsFated =
     (most : ℕ) (first second : List ℕ) (s : State) → FilesStandFor most first second s

@@ -20,7 +20,7 @@ use Rattle.xa_manager.specs.Believed.Parts.{log_of}
 use Rattle.xa_manager.specs.Believed.Refused.{IsUnwritten}
 
 -- A look leads from two disks to others: time passes, nothing is written, and a crash at a moment of it leaves of each
--- what one before it could have left. So where each of those stands for the state, each of these does.
+-- what one before it could have left. So if each of those stands for the state, each of these does.
 pub record LooksOver {D : Type 0} (disks : Ghosts D) (log_bytes : ℕ) (first first' second second' : D)
     (s : State) : Type 0 where
   pub first_is : IsUnwritten disks first first'
@@ -35,7 +35,7 @@ pub record LooksOver {D : Type 0} (disks : Ghosts D) (log_bytes : ℕ) (first fi
 
 -- An opening that came to write its snapshot, with what became of it. It has a log in the middle, and each of its
 -- moments is in one of two phases: the look leads from the two disks to that log, and the checkpoint from there to the
--- log behind it. Whatever became of it, a crash in the second one leaves files that stand for the state in which the
+-- log after it. Whatever became of it, a crash in the second one leaves files that stand for the state in which the
 -- new boot's record is lost.
 pub record LeavesReopening {D : Type 0} (disks : Ghosts D) (first second : D) (s : State) (name : List ℕ)
     (log_bytes : ℕ) (a : Appending) (after : LogView D) : Type 0 where
@@ -44,8 +44,8 @@ pub record LeavesReopening {D : Type 0} (disks : Ghosts D) (first second : D) (s
   pub look : LooksOver disks log_bytes first (first_of log) second (second_of log) s
   pub boot : LeavesBoot disks log (reopen_turn s name log_bytes) (Reread survived (Some a)) after
 
--- What an opening that was refused leaves of the two disks that it gives back, by its fault: but for a device call that
--- failed as the snapshot was written, it looked at most.
+-- What an opening that was refused leaves of the two disks that it gives back, by its fault: apart from a device call
+-- that failed as the snapshot was written, it looked at most.
 abbrev pub LeavesUnopened : {D : Type 0} → Ghosts D → D → D → State → List ℕ → ℕ → ManagerFault → D → D → Type 0
 LeavesUnopened disks first second s name log_bytes fault.Setting first' second' = (first' ≡ first) × (second' ≡ second)
 LeavesUnopened {D} disks first second s name log_bytes fault.Device first' second' =
@@ -61,7 +61,7 @@ LeavesOpening disks first second s name log_bytes (Ok m) =
 LeavesOpening disks first second s name log_bytes (Err r) =
     LeavesUnopened disks first second s name log_bytes r.fault r.first r.second
 
--- So it is of each state for which the two files stand, unless one begins as no log and has stray records behind its
+-- The same of each state for which the two files stand, unless one begins as no log and has stray records after its
 -- first 8 bytes, which would come before those of the other one.
 abbrev pub CrashesOpening : {D : Type 0} → Ghosts D → D → D → List ℕ → ℕ
     → Result (Manager D) (RefusedOpening D) → Type 0

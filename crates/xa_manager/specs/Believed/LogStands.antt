@@ -1,4 +1,4 @@
--- What states of the sequential resource manager a log of two files stands behind.
+-- What states of the sequential resource manager a log of two files backs.
 use Rattle.std.specs.Prelude.{◌≡◌, ◌≤◌, ℕ, true, false, List, length, map}
 use Rattle.std.specs.List.{AllByRecursion}
 use Rattle.xa_disk.specs.declared.disk.Disk.{Ghosts}
@@ -8,7 +8,7 @@ use Rattle.xa_log.specs.Believed.Group.{NoChance}
 use Rattle.xa_log.specs.Believed.Pair.{CalmTears, generation}
 use Rattle.xa_log.specs.Believed.Checkpoint.{SealTears}
 use Rattle.xa_log.specs.Believed.LogStates.{LogState, Whole, LostAppend, LostCheckpoint, IsIn, MayFind}
-use Rattle.xa_log.specs.Believed.TwoFiles.{Pair}
+use Rattle.xa_log.specs.Believed.TwoFiles.{HasOther, Pair}
 use Rattle.xa_log.specs.Believed.LogView.{LogView}
 use Rattle.xa_model.specs.State.{State}
 use Rattle.xa_model.specs.Durable.{durable}
@@ -24,21 +24,21 @@ pub record Trusts {D : Type 0} (disks : Ghosts D) : Type 0 where
   pub headers : CalmTears disks.tears
   pub seals : SealTears disks.tears
 
--- the current file has these records, and the other one comes behind it
+-- the current file has these records, the other one comes after it, and neither is missing
 abbrev pub HasRecords : {D : Type 0} → Ghosts D → List Record → LogView D → Type 0
-HasRecords disks rs log = (stood : List (List ℕ)) × Pair disks (map spelled rs) stood log
+HasRecords disks rs log = (stood : List (List ℕ)) × Pair disks (map spelled rs) stood log × HasOther disks log
 
 -- the bodies of a snapshot of what lasts of the state, that begins the boot of this number
 abbrev pub snapshot_bodies : State → ℕ → List (List ℕ)
 snapshot_bodies s boot = map spelled (snapshot (durable s) boot)
 
--- Whatever its files hold: these records stand behind the state, and the log's generation is theirs.
+-- Whatever its files hold: these records back the state, and the log's generation is theirs.
 pub record LogBacks {D : Type 0} (log : LogView D) (s : State) : Type 0 where
   pub records : List Record
   pub backs : Backs records s
   pub number : log.generation ≡ generation (map spelled records)
 
--- these are the bodies of the records after which the first so many of those stand that were lost: none of them, or
+-- these are the bodies of the records after which a first part of those that were lost stands: none of them, or
 -- some, or all
 abbrev pub IsSettled : List Record → State → List (List ℕ) → Type 0
 IsSettled rs s found =
@@ -59,3 +59,4 @@ pub record LogStandsFor {D : Type 0} (disks : Ghosts D) (log : LogView D) (s : S
   pub is_in : IsIn disks state log
   pub finds : (found : List (List ℕ)) → MayFind state found → IsSettled records s found
   pub lost_as : AreLostAs state s.open_records
+  pub beside : HasOther disks log

@@ -1,4 +1,4 @@
--- A group that is pending: its records are written, their sync is to follow, and sessions work on other branches
+-- A group that is pending: its records are written, their sync has to follow, and sessions work on other branches
 -- meanwhile.
 use Rattle.std.specs.Prelude.{ℕ, ◌≡◌, ◌<◌, ◌≤◌, true, false, Some, None, List, [], ◌∷◌, length, map, MatchBool, IsSomeAnd, Result, Vec, vec_capacity}
 use Rattle.std.specs.declared.alloc.Global.{Global}
@@ -56,7 +56,7 @@ work_by s n _ = ok s
 abbrev pub calls_of : PendingGroup → Vec Asked Global
 calls_of f = f.calls
 
--- what the write of its records was answered
+-- what the write of its records returned
 abbrev pub write_of : PendingGroup → Result (Unit {0}) DiskFault
 write_of f = answered_as f.written
 
@@ -99,7 +99,7 @@ pub record IsPendingFrom {D : Type 0} (disks : Ghosts D) (log : LogView D) (m : 
 abbrev pub IsPending : {D : Type 0} → Ghosts D → Manager D → PendingGroup → State → Type 0
 IsPending {D} disks m f s = (log : LogView D) × IsPendingFrom disks log m f s
 
--- The group's records were written after those of a log that is the manager's, but for its memory.
+-- The group's records were written after those of a log that is the manager's, apart from its memory.
 pub record WritesGroup {D : Type 0} (disks : Ghosts D) (m : Manager D) (f : PendingGroup) (m' : Manager D) : Type 0 where
   pub log : LogView D
   pub reserved : HasReserved disks (log_of m) log
@@ -110,13 +110,13 @@ abbrev pub lost_group : State → List Member → List Entry
 lost_group s [] = []
 lost_group s (c ∷ cs) = group_entries Lost (part_of s c) (parts_of s cs)
 
--- What a crash at any moment since the write leaves stands for the state to which the group's calls lead where their
+-- What a crash at any moment since the write leaves stands for the state to which the group's calls lead if their
 -- records are lost.
 abbrev pub LeavesPending : {D : Type 0} → Ghosts D → LogView D → Manager D → PendingGroup → State → Type 0
 LeavesPending disks log m f s =
     Trusts disks → (lost : State) × Leads s (lost_group s (pending_members f)) lost × LeavesAppend disks log (log_of m) s lost
 
--- A call of a session's work was answered meanwhile: as the step, or memory was wanted. The group stays pending.
+-- A call of a session's work was answered meanwhile: as the step, or memory ran out. The group stays pending.
 pub record WorksBeside {D : Type 0} (disks : Ghosts D) (m : Manager D) (f : PendingGroup) (event : Event) (reply : Reply)
     (m' : Manager D) : Type 0 where
   pub answered : (log : LogView D) (s : State) → IsPendingFrom disks log m f s
@@ -126,9 +126,9 @@ pub record WorksBeside {D : Type 0} (disks : Ghosts D) (m : Manager D) (f : Pend
   pub log : log_of m' ≡ log_of m
   pub crash : (log : LogView D) (s : State) → IsPendingFrom disks log m f s → LeavesPending disks log m' f s
 
--- Calls were answered one after another, of a state, each as one step, with this of their records, which were appended
+-- Calls were answered one after another, from a state, each as one step, with this outcome for their records, which were appended
 -- to this log: the manager stands for where these steps lead. At any moment of it the files stand for the state to which
--- the same calls lead where their records are lost.
+-- the same calls lead if their records are lost.
 pub record FinishesFrom {D : Type 0} (disks : Ghosts D) (log : LogView D) (s : State) (first : Member) (rest : List Member)
     (a : Appending) (m' : Manager D) : Type 0 where
   pub leads : (s' : State) × Leads s (group_entries a (part_of s first) (parts_of s rest)) s' × ManagerStandsFor disks m' s'
@@ -137,7 +137,7 @@ pub record FinishesFrom {D : Type 0} (disks : Ghosts D) (log : LogView D) (s : S
       → (lost : State) × Leads s (group_entries Lost (part_of s first) (parts_of s rest)) lost
       × LeavesAppend disks log (log_of m') s lost
 
--- So were those of a pending group, of each state that the manager stood for.
+-- So were those of a pending group, from each state that the manager stood for.
 abbrev pub HasFinished : {D : Type 0} → Ghosts D → Manager D → PendingGroup → List (ℕ × Reply) → Manager D → Type 0
 HasFinished disks m f [] m' = ⊥
 HasFinished {D} disks m f (r ∷ rs) m' =
@@ -147,7 +147,7 @@ HasFinished {D} disks m f (r ∷ rs) m' =
 
 -- ---- law
 
--- so it is of each state for which a manager stands with a pending group
+-- the same of each state for which a manager stands with a pending group
 abbrev pub PendingLeaves : {D : Type 0} → Ghosts D → Type 0
 PendingLeaves {D} disks =
     (log : LogView D) (m : Manager D) (f : PendingGroup) (s : State) → IsGroupOf m f → IsPendingFrom disks log m f s

@@ -69,7 +69,7 @@ pub record KeepsPromises {D : Type 0} (disks : Ghosts D) (before : List Entry) (
   pub listed : ListsPrepared (before ++ recorded events outcomes replies) after
   pub unlisted : ListsNoCompleted (before ++ recorded events outcomes replies) after
 
--- so it is behind every legal history whose last state the manager stood for
+-- the same after every legal history whose last state the manager stood for
 abbrev pub PromisesAll : {D : Type 0} → Ghosts D → Manager D → List Event → List Reply → Manager D → Type 0
 PromisesAll disks m events replies m' =
     (first s : State) (before : List Entry) → IsReached first before s → ManagerStandsFor disks m s

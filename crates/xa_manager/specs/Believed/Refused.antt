@@ -6,7 +6,7 @@ use Rattle.xa_disk.specs.declared.disk.Disk.{Ghosts}
 use Rattle.xa_record.specs.Spelling.{spelled}
 use Rattle.xa_limits.specs.declared.TheConstants.{MOST_BOOTS}
 use Rattle.xa_log.specs.Believed.Chain.{newest}
-use Rattle.xa_log.specs.Believed.Checkpoint.{LeavesAny}
+use Rattle.xa_log.specs.Believed.Checkpoint.{HasBytes, LeavesAny, NeverEmpty}
 use Rattle.xa_log.specs.Believed.Pair.{logged_pair}
 use Rattle.xa_log.specs.Believed.Stands.{Leaves}
 use Rattle.xa_log.specs.Believed.TwoFiles.{Pair, AppendsTo, Checkpoints, written, first_of, second_of}
@@ -25,7 +25,7 @@ pub record IsUnwritten {D : Type 0} (disks : Ghosts D) (old new : D) : Type 0 wh
   pub seen : disks.seen new ≡ disks.seen old
   pub time : TimePasses disks Same old new
 
--- Of two empty disks, on which a log was to be made, the first may have some of a new log's first bytes. It isn't
+-- Of two empty disks, on which a log was being made, the first may have some of a new log's first bytes. It isn't
 -- written to before each crash leaves the second one empty.
 pub record IsPartlyMade {D : Type 0} (disks : Ghosts D) (first first' second second' : D) : Type 0 where
   pub empty : disks.seen first ≡ []
@@ -69,6 +69,7 @@ pub record SnapshotsFirst {D : Type 0} (disks : Ghosts D) (a : Appended) (fresh 
   pub left : disks.honest → (bodies stood : List (List ℕ)) → Pair disks bodies stood old
       → Checkpoints disks a bodies stood fresh new
       × LeavesOnly disks old.other (written a new) (LeavesAny old.log_bytes newest stood fresh)
+  pub filled : disks.honest → NeverEmpty disks old.other → LeavesOnly disks old.other (written a new) HasBytes
 
 abbrev pub LogsFirst : {D : Type 0} → Ghosts D → Bool → Appended → List (List ℕ) → LogView D → LogView D → Type 0
 LogsFirst disks is_new a fresh old new =
@@ -105,7 +106,7 @@ pub record LeavesLogging {D : Type 0} (disks : Ghosts D) (log_bytes : ℕ) (firs
   pub made : disks.honest → is_new ≡ true → (disks.seen first ≡ []) × (disks.seen second ≡ [])
   pub logs : LogsBoot disks is_new bodies log_bytes a log after
 
--- What an opening leaves of the two disks that it gives back, by the fault that it tells: of a bad setting they are
+-- What an opening leaves of the two disks that it gives back, by the fault that it reports: for a bad setting they are
 -- what they were.
 abbrev pub LeavesRefused : {D : Type 0} → Ghosts D → ManagerFault → ℕ → D → D → D → D → Type 0
 LeavesRefused disks fault.Setting log_bytes first first' second second' = (first' ≡ first) × (second' ≡ second)

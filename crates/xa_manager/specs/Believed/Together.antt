@@ -73,7 +73,7 @@ abbrev pub PreparesFirst : List Member → Type 0
 PreparesFirst [] = Unit {0}
 PreparesFirst (c ∷ cs) = (is_prepare c.row ≡ false → prepares_of cs ≡ []) × PreparesFirst cs
 
--- Whichever state the manager stands for, it is up, and the call appends the record of this body by itself.
+-- Whichever state the manager stands for, it is up, and the call, alone, appends the record of this body.
 pub record AppendsAlone {D : Type 0} (disks : Ghosts D) (m : Manager D) (c : Member) (body : List ℕ) : Type 0 where
   pub up : is_up m ≡ true
   pub asked : asked_row c.request ≡ Some (c.row, c.xid)
@@ -85,11 +85,11 @@ AppendAlone disks m [] [] = Unit {0}
 AppendAlone disks m (c ∷ cs) (body ∷ bodies) = AppendsAlone disks m c body × AppendAlone disks m cs bodies
 AppendAlone disks m _ _ = ⊥
 
--- Records of these bodies are one, or with their closing length they have at most so many bytes.
+-- Records of these bodies are one, or with their closing length they have at most `MOST_GROUP` bytes.
 abbrev pub IsBounded : List (List ℕ) → Type 0
 IsBounded bodies = (length bodies ≤ 1) ⊎ (group_bytes bodies + LENGTH_BYTES ≤ MOST_GROUP)
 
--- Calls that were asked form a group: each appends its record by itself, they are of distinct XIDs, there is room for
+-- Calls that were asked form a group: each appends its record alone, they are of distinct XIDs, there is room for
 -- each after those before it, the prepares stand first, and it is not too long.
 pub record IsGroup {D : Type 0} (disks : Ghosts D) (m : Manager D) (calls : List Asked) (t : Together) : Type 0 where
   pub places : AllByRecursion (λ j. j.at < length calls) t.members.items
@@ -108,8 +108,8 @@ abbrev pub asks_prepare : Request → Bool
 asks_prepare (request.Prepare flags xid) = true
 asks_prepare _ = false
 
--- Whether the log has room for a row's record, with a body of so many bytes, after records of so many bytes that
--- prepare so many branches. One without writes takes the room that is kept for it.
+-- Whether the log has room for a row's record, with a body of this many bytes, after records of this many bytes that
+-- prepare this many branches. One without writes takes the room that is kept for it.
 abbrev pub has_room_behind : State → ℕ → ℕ → Row → ℕ → Bool
 has_room_behind s bytes prepares (Writes writing) len =
     log_room s.log_bytes (s.end + (bytes + len + AROUND_BODY)) (prepared_count s + (more_of writing + prepares))

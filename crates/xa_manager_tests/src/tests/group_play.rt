@@ -19,7 +19,7 @@ pub const NUMBER: &str = "0 Nothing number";
 /// What a call of a group is replied, with its place among those that were asked.
 pub type Told = (usize, &'static str);
 
-/// A manager with a log of so many bytes in each of two disks in memory.
+/// A manager with a log of this many bytes in each of two disks in memory.
 #[derive(Drop)]
 pub struct Player {
     alloc: Global,
@@ -27,7 +27,7 @@ pub struct Player {
     manager: Manager<MemDisk>,
 }
 
-/// Reads one more call. None where the line is no call, or there is no memory.
+/// Reads one more call. None if the line is no call, or there is no memory.
 fn read_call(alloc: Global, calls: &mut Vec<Asked>, line: &str) -> Option<()>
     requires { AllByRecursion (λ c. IsAsked c.request) calls.old.items }
     ensures { IsSome result → AllByRecursion (λ c. IsAsked c.request) calls.new.items }
@@ -62,7 +62,7 @@ fn opened(
     Manager::open(alloc, first, second, Settings { name, log_bytes }).ok()
 }
 
-/// Whether a reply is shown so.
+/// Whether a reply is shown like this.
 fn shows(alloc: Global, reply: &Reply, want: &str) -> bool {
     let Ok(line) = reply_line(alloc, reply) else {
         return false;
@@ -83,7 +83,7 @@ fn called(manager: &mut Manager<MemDisk>, session: u64, request: Request) -> Rep
     manager.call(session, request)
 }
 
-// A group of these calls. Where memory was wanted nothing was answered, and they are asked again.
+// A group of these calls. If memory ran out nothing was answered, and they are asked again.
 fn begun(manager: &mut Manager<MemDisk>, calls: Vec<Asked>) -> Option<PendingGroup>
     requires { AllByRecursion (λ c. IsAsked c.request) calls.items }
     ensures { IfSome result (IsGroupOf manager.new) }
@@ -116,7 +116,7 @@ const WAITING: [&str; 3] = [
     "1 recover TMSTARTRSCAN|TMENDRSCAN 10",
 ];
 
-// Whether a call is replied so while a group is pending; a call that has to wait is given back.
+// Whether a call gets this reply while a group is pending; a call that has to wait is given back.
 fn works(
     alloc: Global,
     manager: &mut Manager<MemDisk>,
@@ -214,7 +214,7 @@ impl Player {
         }
     }
 
-    /// Plays a line. None where it is replied otherwise.
+    /// Plays a line. None if the reply is another.
     pub fn line(self, line: &str, want: &str) -> Option<Player> {
         let mut player = self;
         match read_line(player.alloc, line.as_bytes()).ok()? {
@@ -239,7 +239,7 @@ impl Player {
         }
     }
 
-    /// Plays these lines, of which each has to be replied so.
+    /// Plays these lines, of which each has to get its reply.
     pub fn part(self, part: &[(&str, &str)]) -> Option<Player> {
         let mut player = self;
         for (line, want) in part {
@@ -248,7 +248,7 @@ impl Player {
         Some(player)
     }
 
-    /// Plays lines. None where one is replied otherwise.
+    /// Plays lines. None if a reply is another.
     pub fn play(self, play: Play) -> Option<Player> {
         let mut player = self;
         for part in play {
@@ -257,7 +257,7 @@ impl Player {
         Some(player)
     }
 
-    /// Asks calls together. None where those of the group, or what they are replied, are others.
+    /// Asks calls together. None if those of the group, or their replies, are others.
     pub fn together(self, lines: &[&str], told: &[Told]) -> Option<Player> {
         let mut player = self;
         let calls = read_calls(player.alloc, lines)?;

@@ -12,12 +12,12 @@ pub struct Grouped {
     pub places: &'static [usize],
     /// Where each record ends, in bytes from where the first begins.
     pub ends: &'static [u64],
-    /// What each call is answered where the records are refused, in their order; what is found then; and how many of the
-    /// first calls may be asked again: the others were to commit in one phase.
+    /// What each call is answered if the records are refused, in their order; what is found then; and how many of the
+    /// first calls may be asked again: the others should have committed in one phase.
     pub refused: &'static [&'static str],
     pub left: Play,
     pub again: usize,
-    /// What is found where none of the records stands, where the first does, where the first two do, and so on.
+    /// What is found if none of the records stands, if the first does, if the first two do, and so on.
     pub found: &'static [Play],
 }
 
@@ -27,7 +27,7 @@ const RETRY: &str = "4 Device";
 
 const LOST: &str = "-7 Device";
 
-/// A crash, and a session that opens the manager behind it.
+/// A crash, and a session that opens the manager after it.
 pub const CRASHED: Play = &[&[("crash", OK)], &P1];
 
 /// Three sessions.
@@ -324,7 +324,7 @@ pub const GROUPS: [Grouped; 6] = [
 ];
 
 impl Grouped {
-    /// What the calls are told whose records became this.
+    /// What the calls are told if this became of their records.
     fn told(&self, alloc: Global, became: Appending) -> Option<Vec<Told>> {
         let mut told = Vec::new(alloc);
         for (place, refused) in self.places.iter().zip(self.refused) {
@@ -338,12 +338,12 @@ impl Grouped {
         Some(told)
     }
 
-    /// A manager of which they may be asked.
+    /// A manager which may be asked them.
     pub fn begun(&self, alloc: Global) -> Option<Player> {
         Player::new(alloc, LOG_BYTES)?.play(self.before)
     }
 
-    /// Asks them, whose records become this.
+    /// Asks them; this becomes of their records.
     pub fn ask(&self, alloc: Global, player: Player, became: Appending) -> Option<Player> {
         let told = self.told(alloc, became)?;
         player.together(self.calls, &told)
@@ -355,14 +355,14 @@ impl Grouped {
         player.apart(self.calls, &told)
     }
 
-    /// Asks them where only so many of the first form a group, which is kept.
+    /// Asks them, of which only the first `count` form a group, which is kept.
     pub fn ask_first(&self, alloc: Global, player: Player, count: usize) -> Option<Player> {
         let mut told = self.told(alloc, Kept)?;
         told.truncate(count);
         player.together(self.calls, &told)
     }
 
-    /// Looks for what is found where so many of the first records stand.
+    /// Looks for what is found if the first `count` records stand.
     pub fn finds(&self, player: Player, count: usize) -> Option<Player> {
         player.play(self.found.get(count)?)
     }

@@ -9,7 +9,7 @@ use std::alloc::Global;
 use xa_model::Appending::{Kept, Refused};
 use xa_rows::{LOG_BYTES, Line, NONE_LISTED, OK, Play, first_wrong};
 
-// Each row is tried once more, so that a test passes whichever one allocation fails.
+// Each row is tried once more, so that a test passes whichever allocation fails.
 
 fn keeps(alloc: Global, group: &Grouped) -> Option<Player> {
     let player = group.begun(alloc)?;

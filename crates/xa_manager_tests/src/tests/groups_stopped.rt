@@ -79,7 +79,7 @@ fn groups_that_stop(rt: HostRuntime) {
 
 const UNSYNCED: [Line; 1] = [("stop 2", "")];
 
-// A crash leaves so many bytes of a group that was written and not synced, in which so many records stand.
+// A crash leaves `bytes` bytes of a group that was written and not synced, in which `count` records stand.
 fn cuts(alloc: Global, group: &Grouped, bytes: u64, count: usize) -> Option<Player> {
     let player = group.begun(alloc)?.part(&UNSYNCED)?;
     let player = group.ask(alloc, player, Lost)?;
@@ -92,7 +92,7 @@ fn is_cut(alloc: Global, group: &Grouped, bytes: u64, count: usize) -> bool {
     cuts(alloc, group, bytes, count).is_some() || cuts(alloc, group, bytes, count).is_some()
 }
 
-// Cut within a record: behind its length, in its body, before the last byte of its digest; and at its end.
+// Cut within a record: after its length, in its body, before the last byte of its digest; and at its end.
 fn is_cut_there(alloc: Global, group: &Grouped, from: u64, end: u64, count: usize) -> bool {
     is_cut(alloc, group, from.saturating_add(4), count)
         && is_cut(alloc, group, from.saturating_add(9), count)

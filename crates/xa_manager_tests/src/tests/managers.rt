@@ -11,7 +11,7 @@ use xa_model::Event;
 use xa_rows::LOG_BYTES;
 use xa_script::{Line, read_line};
 
-// Each test passes whichever one allocation fails, since it asks again where memory was wanted, or where a disk in
+// Each test passes whichever allocation fails, since it asks again if memory ran out, or if a disk in
 // memory found none and failed: `rt try --test --fail-alloc N` makes the N-th fail.
 
 fn opened(alloc: Global) -> Option<Manager<MemDisk>> {
@@ -37,7 +37,7 @@ pub fn connected(manager: &mut Manager<MemDisk>) -> Option<u64> {
     }
 }
 
-/// What a request of a session is answered. That its numbers are within their types' limits is known once it is
+/// What a request of a session is answered. Its numbers are known to be within their types' limits once it is
 /// encoded.
 pub fn answer(
     manager: &mut Manager<MemDisk>,

@@ -12,8 +12,8 @@ use xa_frame::{Body, Reply, Request};
 use xa_manager::Manager;
 
 // Scripts of four sessions that read and write three keys in each other's way, with restarts in between, and in some of
-// them a trim behind each call. What was committed is executed again, branch by branch and by timestamp, on a map of
-// std: each get is to find what it was answered.
+// them a trim after each call. What was committed is executed again, branch by branch and by timestamp, on a map of
+// std: each get has to find what it was answered.
 
 const SCRIPTS: u64 = 100;
 
@@ -22,7 +22,7 @@ const TRIMMED_SCRIPTS: u64 = 10;
 /// The events of a script. Its first eight connect the sessions, and open the resource manager for them.
 const EVENTS: u64 = 1000;
 
-/// A session's branch: the number that its XID is made of, its timestamp, and how far the session came with it; and
+/// A session's branch: the number that its XID is made of, its timestamp, and how far the session is with it; and
 /// whether a restart came since it was prepared.
 #[derive(Clone, Copy)]
 struct Seat {
@@ -83,7 +83,7 @@ impl Counts {
         add(&mut self.busy, reply.detail == Detail::Busy);
     }
 
-    /// Whether so many scripts had enough of all.
+    /// Whether `scripts` scripts had enough of all.
     fn are_many(&self, scripts: u64) -> bool {
         self.one_phase / 30 >= scripts
             && self.two_phase / 10 >= scripts
@@ -113,7 +113,7 @@ fn number_of(value: &[u8]) -> Option<u64> {
     if value.len() == 8 { Some(number) } else { None }
 }
 
-/// What a get was answered. `None` is an answer that isn't to come.
+/// What a get was answered. `None` is an answer that mustn't come.
 fn got(key: u8, body: &Body) -> Option<Operation> {
     match body {
         Body::Absent => Some(Operation::Got(key, None)),
@@ -125,7 +125,7 @@ fn got(key: u8, body: &Body) -> Option<Operation> {
     }
 }
 
-/// What the branch did with a key, where it was done. `None` is also an answer that isn't to come.
+/// What the branch did with a key, if it was done. `None` is also an answer that mustn't come.
 fn done(act: Act, body: &Body) -> Option<Operation> {
     match act {
         Act::Get(key) => got(key, body),
@@ -209,7 +209,7 @@ impl Script {
         Some(true)
     }
 
-    /// Takes an answer in. `Some(false)` is one that isn't to come, `None` want of memory.
+    /// Takes an answer in. `Some(false)` is one that mustn't come, `None` lack of memory.
     fn take(
         &mut self,
         alloc: Global,
@@ -285,7 +285,7 @@ fn opened(alloc: Global, script: u64) -> Option<Script> {
     })
 }
 
-/// Whether the script goes on as it is to: with an event, and a trim behind it where there are to be some.
+/// Whether the script goes on as it should: with an event, and a trim after it if there have to be trims.
 fn goes_on(
     script: &mut Script,
     alloc: Global,
@@ -297,7 +297,7 @@ fn goes_on(
     Some(right && (!trims || script.trim(alloc)?))
 }
 
-/// Whether a script's committed branches are one copy. `None` is want of memory.
+/// Whether a script's committed branches are one copy. `None` is lack of memory.
 fn plays(alloc: Global, script: u64, trims: bool, counts: &mut Counts) -> Option<bool> {
     let mut script = opened(alloc, script)?;
     for event in 8..EVENTS {
@@ -310,7 +310,7 @@ fn plays(alloc: Global, script: u64, trims: bool, counts: &mut Counts) -> Option
     is_one_copy(alloc, &script.branches, false).ok()
 }
 
-// Once more where memory was wanted.
+// Once more if memory ran out.
 fn is_right(alloc: Global, script: u64, trims: bool, counts: &mut Counts) -> bool {
     match plays(alloc, script, trims, counts) {
         Some(right) => right,
@@ -318,7 +318,7 @@ fn is_right(alloc: Global, script: u64, trims: bool, counts: &mut Counts) -> boo
     }
 }
 
-/// The first script that is no one copy; or else how many there were, if they hadn't enough of all.
+/// The first script that is no one copy; otherwise how many there were, if they didn't have enough of all.
 fn wrong_script(alloc: Global, scripts: u64, trims: bool) -> Option<usize> {
     let mut counts = NONE;
     for script in 0..scripts {

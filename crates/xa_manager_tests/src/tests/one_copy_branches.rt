@@ -18,7 +18,7 @@ pub struct Branch {
 /// Branches by timestamp.
 pub type Branches = BTreeMap<u64, Branch>;
 
-/// A branch begins. Answers whether no other one had its timestamp.
+/// A branch begins. Returns whether no other one had its timestamp.
 pub fn begin(alloc: Global, branches: &mut Branches, timestamp: u64) -> Result<bool, AllocError> {
     let branch = Branch {
         committed: false,
@@ -49,7 +49,7 @@ pub fn commit(branches: &mut Branches, timestamp: u64) {
     }
 }
 
-/// Executes a branch alone on a map, and answers whether each get found there what it was answered.
+/// Executes a branch alone on a map, and returns whether each get found there what it was answered.
 fn finds_answers(
     map: &mut BTreeMap<u8, u64>,
     operations: &[Operation],
@@ -86,7 +86,7 @@ pub fn is_one_copy(alloc: Global, branches: &Branches, all: bool) -> Result<bool
     Ok(finds)
 }
 
-// The checker by itself: lists of branches that are one copy, and that are none.
+// The checker alone: lists of branches that are one copy, and that are none.
 
 /// A branch's timestamp, what it did, and whether it was committed.
 type Row = (u64, Operation, bool);

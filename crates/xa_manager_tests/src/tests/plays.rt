@@ -6,12 +6,21 @@ use xa_log::OpenFault;
 use xa_manager::{ManagerFault, Settings};
 use xa_play::{PlayFault, play_run};
 use xa_rows::{INFO_BYTES, LEAST_LOG_BYTES, LOG_BYTES, first_wrong};
+use xa_script::Teller;
 
 fn settings(alloc: Global, log_bytes: u64) -> Result<Settings, AllocError> {
     Ok(Settings {
         name: Bytes::from_slice(alloc, b"xarm")?,
         log_bytes,
     })
+}
+
+/// Is told of lines that ask nothing.
+#[derive(Drop)]
+struct Nobody;
+
+impl Teller for Nobody {
+    fn tell(&mut self, _index: u64, _line: &[u8]) {}
 }
 
 /// How a play between a reader and a writer under these settings ends.
@@ -21,7 +30,7 @@ fn played<R: Read + Drop, W: Write>(
     writer: &mut W,
     settings: Settings,
 ) -> Result<(), PlayFault> {
-    play_run(alloc, reader, writer, settings)
+    play_run(alloc, reader, writer, &mut Nobody, settings)
 }
 
 fn reads_as(alloc: Global, fault: PlayFault, text: &str) -> bool {
@@ -65,7 +74,7 @@ fn zeros_played(
     Some((outcome, output.len()))
 }
 
-/// How many zeros come, with the error behind them, and how their play ends. Nothing is written.
+/// How many zeros come, with the error after them, and how their play ends. Nothing is written.
 const UNPLAYED: [(usize, Option<ErrorKind>, PlayFault); 4] = [
     (16_777_217, None, PlayFault::TooLong),
     (usize::MAX, None, PlayFault::TooLong),
@@ -85,7 +94,7 @@ fn scripts_that_are_not_played(rt: HostRuntime) {
     none_wrong(&rt, wrong_unplayed(rt.alloc(), &UNPLAYED));
 }
 
-/// Settings out of their limits are found before the reader fails.
+/// Settings outside their limits are found before the reader fails.
 fn is_bad_setting(alloc: Global, name: Bytes, log_bytes: u64) -> bool {
     let mut output: Vec<u8> = Vec::new(alloc);
     let mut reader = Zeros {
@@ -110,7 +119,7 @@ fn settings_come_first(rt: HostRuntime) {
     assert!(rt; is_bad(rt.alloc(), 4, LOG_BYTES + 1));
 }
 
-/// Takes so many writes of one byte, and then fails or takes nothing.
+/// Takes `left` writes of one byte, and then fails or takes nothing.
 #[derive(Drop)]
 struct Narrow {
     left: usize,
@@ -182,7 +191,7 @@ fn output_that_is_not_flushed(rt: HostRuntime) {
     assert!(rt; is_unflushed(rt.alloc(), ""));
 }
 
-const FAULTS: [(PlayFault, &str); 15] = [
+const FAULTS: [(PlayFault, &str); 17] = [
     (PlayFault::Memory, "xarm: no memory"),
     (PlayFault::Setting, "xarm: bad setting"),
     (PlayFault::TooLong, "xarm: script too long"),
@@ -207,6 +216,14 @@ const FAULTS: [(PlayFault, &str); 15] = [
     (
         PlayFault::Manager(ManagerFault::Log(OpenFault::Memory)),
         "xarm: no memory",
+    ),
+    (
+        PlayFault::Manager(ManagerFault::MissingFirst),
+        "xarm: first file missing",
+    ),
+    (
+        PlayFault::Manager(ManagerFault::MissingSecond),
+        "xarm: second file missing",
     ),
     (
         PlayFault::Manager(ManagerFault::Malformed(3)),

@@ -11,7 +11,7 @@ use Rattle.xa_manager.specs.Believed.Crash.{CrashesAs, LeavesAppend}
 use Rattle.xa_manager.specs.Believed.LogStands.{Trusts}
 use Rattle.xa_manager.specs.Managed.{ManagerStandsFor}
 use Rattle.xa_manager.specs.Believed.Parts.{log_of, outcome_of}
-use Rattle.xa_manager.specs.Believed.Pending.{IsGroupOf, IsPending, IsPendingFrom, LeavesPending, calls_of, write_of}
+use Rattle.xa_manager.specs.Believed.Pending.{IsPending, IsPendingFrom, LeavesPending, calls_of, write_of}
 use Rattle.xa_manager.specs.Status.{versions_of}
 use Rattle.xa_manager.specs.declared.manager.Manager.{Manager}
 use Rattle.xa_manager.specs.declared.pending.PendingGroup.{PendingGroup}
@@ -24,35 +24,37 @@ use Rattle.xa_model.specs.declared.outcome.Outcome.{Outcome}
 use Rattle.xa_model.specs.declared.outcome.Outcome.TheVariants.{Quiet}
 use Rattle.xa_history.specs.Believed.Together.{CrashesTogether, lost_entries}
 use Rattle.xa_history.specs.declared.manages.Manages.{Ghosts}
-use Rattle.xa_sequencer.specs.declared.group_manager.GroupManager.{GroupManager}
+
+-- a manager with the group that it may have pending
+pub record GroupManager (M : Type 0) : Type 0 where
+  pub manager : M
+  pub pending : Option PendingGroup
 
 -- with none pending
-abbrev pub alone : {D : Type 0} → Manager D → GroupManager D
+abbrev pub alone : {M : Type 0} → M → GroupManager M
 alone m = record { manager = m; pending = None }
 
--- a pending group is one of this manager
-abbrev pub HasItsGroup : {D : Type 0} → Manager D → Option PendingGroup → Type 0
-HasItsGroup m None = Unit {0}
-HasItsGroup m (Some f) = IsGroupOf m f
+-- with this one
+abbrev pub beside : {M : Type 0} → M → PendingGroup → GroupManager M
+beside m f = record { manager = m; pending = Some f }
 
 -- the calls of the pending group
 abbrev pub calls_in : Option PendingGroup → Option (List Asked)
 calls_in None = None
 calls_in (Some f) = Some (calls_of f).items
 
-pub has_none : {D : Type 0} (m : Manager D) (p : Option PendingGroup) → calls_in p ≡ None → HasItsGroup m p
-has_none m None none = tt
-has_none m (Some f) none = absurd (cc none)
-
--- of a manager with the group that it may have pending: the group's calls, and that the group is its own
-abbrev pub pending_of : {D : Type 0} → GroupManager D → Option (List Asked)
+abbrev pub pending_of : {M : Type 0} → GroupManager M → Option (List Asked)
 pending_of g = calls_in g.pending
 
-abbrev pub OwnsItsGroup : {D : Type 0} → GroupManager D → Type 0
-OwnsItsGroup g = HasItsGroup g.manager g.pending
+-- a pending group is one of this manager, by what says that of a group
+abbrev pub IsItsGroup : {M : Type 0} → (M → PendingGroup → Type 0) → M → Option PendingGroup → Type 0
+IsItsGroup is_group m None = Unit {0}
+IsItsGroup is_group m (Some f) = is_group m f
 
-pub owns_none : {D : Type 0} (g : GroupManager D) → pending_of g ≡ None → OwnsItsGroup g
-owns_none g none = has_none g.manager g.pending none
+abbrev pub HasItsGroup : {M : Type 0} → (M → PendingGroup → Type 0) → GroupManager M → Type 0
+HasItsGroup is_group g = IsItsGroup is_group g.manager g.pending
+
+-- ---- of a manager over a log
 
 -- the states that it stands for: with a group pending, those before the group
 abbrev pub StandsWith : {D : Type 0} → disk.Ghosts D → Manager D → Option PendingGroup → State → Type 0
@@ -64,7 +66,7 @@ abbrev pub told_with : {D : Type 0} → Manager D → Option PendingGroup → Ou
 told_with m None = outcome_of m
 told_with m (Some f) = Quiet
 
--- What the device did, by whether a group was pending before and is afterwards: for one that is no more, from the log on
+-- What the device did, by whether a group was pending before and is afterwards: for one that is gone, from the log on
 -- to which it was written.
 abbrev pub HasCalledWith : {D : Type 0} → disk.Ghosts D → Event → Outcome → Manager D → Option PendingGroup → Manager D
     → Option PendingGroup → Type 0
@@ -107,7 +109,7 @@ failures_with disks m None = counted_by disks.failures (log_of m)
 failures_with disks m (Some f) = counted_before disks.failures f (log_of m)
 
 -- all of it
-abbrev pub manages_of : {D : Type 0} → disk.Ghosts D → Ghosts (GroupManager D)
+abbrev pub manages_of : {D : Type 0} → disk.Ghosts D → Ghosts (GroupManager (Manager D))
 manages_of disks = record {
   stands = λ g s. StandsWith disks g.manager g.pending s;
   trusts = Trusts disks;

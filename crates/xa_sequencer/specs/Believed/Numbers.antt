@@ -19,7 +19,7 @@ use Rattle.xa_history.specs.Status.{Tells}
 use Rattle.xa_history.specs.declared.manages.Manages.{Ghosts}
 use Rattle.xa_sequencer.specs.Believed.Stands.{GoesOn, Numbered, most_numbers}
 
--- The event is one entry more, with its outcome as the manager tells it, and with the reply, which has the next number.
+-- The event is one more entry, with its outcome as the manager tells it, and with the reply, which has the next number.
 pub record Adds {M : Type 0} (m : Ghosts M) (start : State → Type 0) (base : ℕ × ℕ) (old : Numbered M) (event : Event)
     (reply : Reply) (new : Numbered M) : Type 0 where
   pub place : reply.place ≡ old.count + 1
@@ -30,11 +30,11 @@ pub record Adds {M : Type 0} (m : Ghosts M) (start : State → Type 0) (base : �
   pub crash : m.crashes event (m.told new.now) old.now new.now
   pub counted : Counts m.stands m.trusts m.failures old.now event (m.told new.now) new.now
 
--- fewer numbers than these are left beside those for the hang-ups
+-- fewer numbers than these are left besides those for the hang-ups
 abbrev pub IsFull : {M : Type 0} → Ghosts M → Numbered M → ℕ → Type 0
 IsFull m c more = most_numbers < c.count + m.sessions c.now + more
 
--- Memory was wanted, of which the reply tells, or there is no number left; and there is no entry. What stands behind the
+-- There was no memory, as the reply says, or there is no number left; and there is no entry. What stands behind the
 -- manager stays.
 pub record Leaves {M : Type 0} (m : Ghosts M) (start : State → Type 0) (base : ℕ × ℕ) (old : Numbered M)
     (event : Event) (reply : Reply) (new : Numbered M) : Type 0 where
@@ -67,7 +67,7 @@ Asked m start base session old (question.Call request) reply new = Called m star
 Asked m start base session old question.Status reply new =
     (new ≡ old) × (status : Status) × (reply ≡ doing status) × Tells m old.now old.count status
 
--- a hang-up of a session; of one that isn't connected nothing changes
+-- a hang-up of a session; for one that isn't connected nothing changes
 abbrev pub Left : {M : Type 0} → Ghosts M → (State → Type 0) → ℕ × ℕ → ℕ → Numbered M → Numbered M → Type 0
 Left m start base session old new =
     MatchBool (m.has_session old.now session)

@@ -15,8 +15,8 @@ pub record Numbered (M : Type 0) : Type 0 where
 abbrev pub most_numbers : ℕ
 most_numbers = 2 ^ 64 - 1
 
--- These entries are a history that it stands for: they are so many, and all that a room keeps of its book is true of
--- them. From each starting state they are a legal history to one that the manager stands for, they tell of no more
+-- These entries are a history that it stands for: they are this many, and all that a room keeps of its book is true
+-- of them. From each starting state they are a legal history to one that the manager stands for, they report no more
 -- failures than were counted since then, and they are numbered from 1. Numbers are left for the hang-up of each
 -- connected session, as in a room places are.
 pub record Stands {M : Type 0} (m : Ghosts M) (start : State → Type 0) (base : ℕ × ℕ) (c : Numbered M)
@@ -28,7 +28,7 @@ pub record Stands {M : Type 0} (m : Ghosts M) (start : State → Type 0) (base :
 abbrev pub HasHistory : {M : Type 0} → Ghosts M → (State → Type 0) → ℕ × ℕ → Numbered M → Type 0
 HasHistory m start base c = (entries : List Entry) × Stands m start base c entries
 
--- whichever history it stood for, it stands for that with these entries behind it
+-- whichever history it stood for, it stands for that with these entries after it
 abbrev pub GoesOn : {M : Type 0} → Ghosts M → (State → Type 0) → ℕ × ℕ → Numbered M → List Entry → Numbered M → Type 0
 GoesOn m start base old more new =
     (entries : List Entry) → Stands m start base old entries → Stands m start base new (entries ++ more)

@@ -20,22 +20,22 @@ use Rattle.xa_sequencer.specs.Believed.Stands.{GoesOn, Numbered}
 abbrev pub entry_for : List Asked → Outcome → ℕ × Reply → Entry
 entry_for calls outcome told = entry_of told.1.place (event_at calls told.0) outcome told.1
 
--- those of a group of whose records this became: the first tells what the device did, and each further one joined it
+-- those of a group if this became of its records: the first tells what the device did, and each further one joined it
 abbrev pub entries_for : List Asked → Appending → ℕ × Reply → List (ℕ × Reply) → List Entry
 entries_for calls appending r rs = entry_for calls (Appended appending) r ∷ map (entry_for calls (Joined appending)) rs
 
--- the replies have the places behind k, in their order
+-- the replies have the places after k, in their order
 abbrev pub ArePlaced : ℕ → List (ℕ × Reply) → Type 0
 ArePlaced k [] = Unit {0}
 ArePlaced k (r ∷ rs) = (r.1.place ≡ k + 1) × ArePlaced (k + 1) rs
 
--- the same replies, with the places behind k
+-- the same replies, with the places after k
 abbrev pub placed_from : ℕ → List (ℕ × Reply) → List (ℕ × Reply)
 placed_from k [] = []
 placed_from k (r ∷ rs) = (r.0, placed (k + 1) r.1) ∷ placed_from (k + 1) rs
 
--- The calls that were replied are entries more, in the order of their replies, which have the next numbers: a group of
--- whose records this became.
+-- The calls that were replied are further entries, in the order of their replies, which have the next numbers: a group
+-- whose records became this.
 pub record AddsTogether {M : Type 0} (m : Ghosts M) (start : State → Type 0) (base : ℕ × ℕ) (old : Numbered M)
     (calls : List Asked) (r : ℕ × Reply) (rs : List (ℕ × Reply)) (appending : Appending) (new : Numbered M)
     : Type 0 where

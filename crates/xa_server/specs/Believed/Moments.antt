@@ -4,9 +4,8 @@ use Rattle.xa_disk.specs.declared.disk.Disk as disk
 use Rattle.xa_handles.specs.Believed.Shared.{HoldsAt}
 use Rattle.xa_manager.specs.Believed.Opening.{HasBegun}
 use Rattle.xa_manager.specs.declared.manager.Manager.{Manager}
-use Rattle.xa_sequencer.specs.Believed.GroupManager.{alone, manages_of}
+use Rattle.xa_sequencer.specs.Believed.GroupManager.{GroupManager, alone, manages_of}
 use Rattle.xa_sequencer.specs.Believed.Stands.{Numbered}
-use Rattle.xa_sequencer.specs.declared.group_manager.GroupManager.{GroupManager}
 use Rattle.xa_server.specs.Believed.Serves.{KeepsServed}
 use Rattle.xa_tokens.specs.Believed.Account.{Account}
 
@@ -16,6 +15,6 @@ abbrev pub MomentPromises : {D : Type 0} → disk.Ghosts D → Type 0
 MomentPromises {D} disks =
     (manager : Manager D) (bodies : List (List ℕ)) (name : List ℕ) (log_bytes : ℕ)
     → HasBegun disks bodies name log_bytes manager
-    → (base : ℕ × ℕ) (c : Numbered (GroupManager D)) (a : Account)
+    → (base : ℕ × ℕ) (c : Numbered (GroupManager (Manager D))) (a : Account)
     → HoldsAt (manages_of disks) ((manages_of disks).stands (alone manager)) base c a
     → KeepsServed (manages_of disks) (alone manager) c.count

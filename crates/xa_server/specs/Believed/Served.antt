@@ -1,5 +1,6 @@
 -- What a server that ended did, and what is known where it failed.
-use Rattle.std.specs.Prelude.{◌≡◌, ◌⊎◌, ◌<◌, ◌≤◌, ◌++◌, ◌&&◌, ℕ, zero, suc, Bool, true, false, not, if◌then◌else◌, List, [], IsSomeAnd, Some, codes}
+use Rattle.std.specs.Prelude.{◌≡◌, ◌⊎◌, ◌<◌, ◌≤◌, ◌++◌, ◌&&◌, ◌||◌, ℕ, zero, suc, Bool, true, false, not, if◌then◌else◌, List, [], IsSomeAnd, Some, codes}
+use Rattle.std.specs.declared.net.TcpListener.{TcpListener}
 use Rattle.xa_disk.specs.declared.disk.Disk as disk
 use Rattle.xa_disk.specs.declared.file_fault.FileFault.{FileFault}
 use Rattle.xa_disk.specs.declared.file_fault.FileFault.TheVariants as file
@@ -24,7 +25,7 @@ use Rattle.xa_history.specs.declared.manages.Manages as manages
 use Rattle.xa_reactor.specs.declared.common.Settings.{Settings}
 use Rattle.xa_sequencer.specs.Believed.GroupManager.{alone, manages_of}
 use Rattle.xa_server.specs.declared.listening.Listening.{Listening}
-use Rattle.xa_server.specs.declared.listening.Listening.TheVariants.{Tcp, Unix}
+use Rattle.xa_server.specs.declared.listening.Listening.TheVariants.{Tcp, Unix, Both}
 use Rattle.xa_server.specs.declared.audited.Audited.{Audited}
 use Rattle.xa_server.specs.declared.engine.Looped.{Looped}
 use Rattle.xa_server.specs.declared.listens.Listens as listens
@@ -33,7 +34,7 @@ use Rattle.xa_server.specs.Believed.Serves.{Serves}
 use Rattle.xa_server.specs.declared.serve_fault.ServeFault.{ServeFault}
 use Rattle.xa_server.specs.declared.serve_fault.ServeFault.TheVariants as fault
 use Rattle.xa_service.specs.declared.at.At.{At}
-use Rattle.xa_service.specs.declared.at.At.TheVariants.{Port, Socket}
+use Rattle.xa_service.specs.declared.at.At.TheVariants as at
 use Rattle.xa_service.specs.declared.loop_service.LoopService.{LoopService}
 use Rattle.xa_service.specs.declared.loop_service.TheConstants.{MOST_LOOPS}
 use Rattle.xa_service.specs.declared.service.Service.{Service}
@@ -53,23 +54,29 @@ pub record HasOpened {D : Type 0} (disks : disk.Ghosts D) (first second : D) (na
       × IsSomeAnd (step s (Reopened name log_bytes) (Reread survived (Some Kept)))
       (λ a. ManagerStandsFor disks m a.after)
 
--- where a server listens: at an address, on a port; or at a path
+-- where a server listens: at an address, on a port; at a path; or at both
 pub data Where : Type 0 where
   OnPort : (address : List ℕ) (port : ℕ) → Where
   AtPath : (path : List ℕ) → Where
+  AtBoth : (address : List ℕ) (port : ℕ) (path : List ℕ) → Where
 
 abbrev pub where_of : At → Where
-where_of (Port address port) = OnPort address.now port
-where_of (Socket path) = AtPath path.now
+where_of (at.Port address port) = OnPort address.now port
+where_of (at.Socket path) = AtPath path.now
+where_of (at.Both address port path) = AtBoth address.now port path.now
 
 abbrev pub IsListening : {R : Type 0} → listens.Ghosts R → Listening → Where → Type 0
 IsListening net (Tcp listener) (OnPort address port) = net.listens listener address port
 IsListening net (Unix listener) (AtPath path) = net.listens_at listener path
+IsListening net (Both tcp unix) (AtBoth address port path) = net.listens tcp address port × net.listens_at unix path
 IsListening net _ _ = ⊥
 
+-- it was refused: where it is to be both, the port, or the path once the port was had
 abbrev pub IsRefusedAt : {R : Type 0} → listens.Ghosts R → Where → Type 0
 IsRefusedAt net (OnPort address port) = net.refuses address port
 IsRefusedAt net (AtPath path) = net.refuses_at path
+IsRefusedAt net (AtBoth address port path) =
+    net.refuses address port ⊎ ((tcp : TcpListener) × net.listens tcp address port × net.refuses_at path)
 
 -- where the log is that a server is to open, by which name, and where it is to listen
 pub record Place : Type 0 where
@@ -104,8 +111,8 @@ pub record AreFit {D : Type 0} (disks : disk.Ghosts D) (opened : D → List ℕ 
   pub files : AreFiles opened path first second
   pub fit : disks.honest → unfit_of log_bytes (disks.seen first) (disks.seen second) ≡ Neither
 
--- The log's two files were opened at the path that was asked for; the listener listens at the address, on the port; and
--- this manager was opened on the files.
+-- The log's two files were opened at the path that was asked for; the listener listens where it is to; and this manager
+-- was opened on the files.
 pub record IsReady {D R : Type 0} (disks : disk.Ghosts D) (opened : D → List ℕ → Type 0) (net : listens.Ghosts R)
     (log_bytes : ℕ) (place : Place) (listener : Listening) (manager : Manager D) : Type 0 where
   pub first : D
@@ -144,7 +151,7 @@ settings_of service = record {
 }
 
 -- All was ready, and the manager's sessions were served by loops, from each state that it stood for, as was asked. All is
--- well, unless the manager is down and a server that is down was to end.
+-- well, unless a server that is down was to end, and the manager is down, or the loops ended since it was.
 pub record HasLooped {D R : Type 0} (disks : disk.Ghosts D) (opened : D → List ℕ → Type 0) (net : listens.Ghosts R)
     (service : LoopService) (is_well : Bool) : Type 0 where
   pub listener : Listening
@@ -157,7 +164,7 @@ pub record HasLooped {D R : Type 0} (disks : disk.Ghosts D) (opened : D → List
       ((manages_of disks).failures (alone manager)) loops told
   pub whole : told.is_whole ≡ true
   pub settings : told.settings ≡ settings_of service
-  pub well : is_well ≡ not (service.ends_when_down && told.is_down)
+  pub well : is_well ≡ not (service.ends_when_down && (told.is_down || told.ended_down))
 
 -- ---- where it failed
 

@@ -12,7 +12,7 @@ use xa_room::{Desk, Room, Share};
 
 // Connections to a room that break.
 
-/// Gives its bytes, of which one is in front of a read that fails, once.
+/// Gives its bytes, with a failing read before one of them, once.
 #[derive(Drop)]
 struct Faulty<'a> {
     bytes: &'a [u8],
@@ -40,7 +40,7 @@ impl Read for Faulty<'_> {
     }
 }
 
-/// Takes its bytes, and fails in front of one, once.
+/// Takes its bytes, and fails before one, once.
 #[derive(Drop)]
 struct Full {
     taken: Vec<u8>,
@@ -64,7 +64,7 @@ impl Write for Full {
     }
 }
 
-/// How a connection breaks: its input is cut, or a read or a write fails in front of that byte; and how many frames it
+/// How a connection breaks: its input is cut, or a read or a write fails before that byte; and how many frames it
 /// may have.
 #[derive(Clone, Copy)]
 struct Break {
@@ -92,7 +92,7 @@ struct Wanted {
     left: usize,
 }
 
-/// Three opens, and their replies behind the connect.
+/// Three opens, and their replies after the connect.
 const FRAMES: usize = 3;
 
 fn opens(alloc: Global) -> Option<Vec<u8>> {
@@ -115,7 +115,7 @@ fn is_hangup(entry: &Entry) -> bool {
     matches!(&entry.event, Event::Hangup(1))
 }
 
-/// A connect, so many calls, and one hang-up, the last of all.
+/// A connect, `calls` calls, and one hang-up, the last of all.
 fn are_recorded(entries: &[Entry], calls: usize) -> bool {
     let hung_up = entries.iter().filter(|entry| is_hangup(entry)).count();
     let last = entries.last().map_or(false, is_hangup);
@@ -205,12 +205,12 @@ impl<R: AllocGlobal> Visit<R> for Connection {
     }
 }
 
-/// A first connection that breaks so ends so.
+/// A first connection that breaks like this ends like this.
 fn is_right<R: AllocGlobal>(rt: &R, connection: Connection) -> bool {
     at_new_desk(rt, connection) == Some(true)
 }
 
-/// The first of so many places at which a connection that breaks there doesn't end so.
+/// The first of `places` places at which a connection that breaks there doesn't end like that.
 fn wrong_place<R: AllocGlobal, F: Fn(usize) -> Connection>(
     rt: &R,
     places: usize,
@@ -221,7 +221,7 @@ fn wrong_place<R: AllocGlobal, F: Fn(usize) -> Connection>(
     (0..places).find(|n| !is_right(rt, broken(*n)))
 }
 
-/// The input is cut behind so many bytes.
+/// The input is cut after `n` bytes.
 fn cut(n: usize) -> Connection {
     let end = if n % OPEN.len() == 0 {
         Served::Ended
@@ -245,7 +245,7 @@ fn inputs_that_are_cut(rt: HostRuntime) {
     none_wrong(&rt, wrong_place(&rt, FRAMES * OPEN.len() + 1, |n| cut(n)));
 }
 
-/// A read fails once, in front of this byte or of the end.
+/// A read fails once, before this byte or the end.
 fn unread(n: usize) -> Connection {
     let answered = n / OPEN.len();
     Connection {
@@ -267,7 +267,7 @@ fn reads_that_fail_once(rt: HostRuntime) {
     );
 }
 
-/// A write fails once, in front of this byte.
+/// A write fails once, before this byte.
 fn unwritten(n: usize) -> Connection {
     let answered = n / OPENED + 1;
     Connection {
@@ -286,7 +286,7 @@ fn writes_that_fail_once(rt: HostRuntime) {
     none_wrong(&rt, wrong_place(&rt, FRAMES * OPENED, |n| unwritten(n)));
 }
 
-/// A connection may have so many frames.
+/// A connection may have `most` frames.
 fn bounded(most: u32) -> Connection {
     let answered = FRAMES.min(most as usize);
     let end = if most as usize > FRAMES {
@@ -305,7 +305,7 @@ fn bounded(most: u32) -> Connection {
     }
 }
 
-/// Behind the last frame that it may have nothing is read, nor is it seen that the input ended.
+/// After the last frame that it may have nothing is read, nor is it seen that the input ended.
 #[test]
 fn a_bound_of_frames(rt: HostRuntime) {
     assert!(rt;

@@ -1,5 +1,6 @@
-ghost use Rattle.std.specs.Prelude.{◌≡◌, None};
+ghost use Rattle.std.specs.Prelude.{◌≡◌};
 ghost use Rattle.xa_model.specs.State.{State};
+ghost use Rattle.xa_sequencer.specs.Believed.GroupManager.{alone};
 
 use crate::desks::opened;
 use crate::tests::posted::call_of;
@@ -8,8 +9,8 @@ use std::marker::Brand;
 use xa_codes::XA_OK;
 use xa_disk::MemDisk;
 use xa_history::Start;
-use xa_manager::Asked;
-use xa_sequencer::{GroupCommits, GroupManager, Sequencer};
+use xa_manager::{Asked, Manager};
+use xa_sequencer::{GroupCommits, Sequencer};
 
 /// Before the group.
 const BEFORE: [&str; 5] = [
@@ -37,7 +38,7 @@ const WAITS: [&str; 3] = [
     "2 recover TMSTARTRSCAN|TMENDRSCAN 10",
 ];
 
-// Whether a line is answered by 0, with the number after the one before; or, where it is to wait, is given back.
+// Whether a line is answered by 0, with the number after the one before; or, if it has to wait, is given back.
 fn is_told<M: GroupCommits, S: Start>(
     alloc: Global,
     sequencer: &mut Sequencer<M, S>,
@@ -101,9 +102,8 @@ fn connects<M: GroupCommits, S: Start>(sequencer: &mut Sequencer<M, S>) -> Optio
 }
 
 fn works_meanwhile<M: GroupCommits + Drop, S: Start>(alloc: Global, manager: M) -> Option<bool>
-    requires settled { M.pending manager ≡ None }
-    requires start { (s : State) → S.start s → M.manages.stands manager s }
-    requires base { M.manages.failures manager ≡ S.base }
+    requires start { (s : State) → S.start s → M.manages.stands (alone manager) s }
+    requires base { M.manages.failures (alone manager) ≡ S.base }
 {
     let mut sequencer: Sequencer<M, S> = Sequencer::new(manager);
     let are_connected = connects(&mut sequencer)? == 1 && connects(&mut sequencer)? == 2;
@@ -119,9 +119,6 @@ fn works_meanwhile<M: GroupCommits + Drop, S: Start>(alloc: Global, manager: M) 
 #[test]
 fn sessions_work_while_a_group_is_pending(rt: HostRuntime) {
     let manager = opened(rt.alloc()).expect(&rt, "a manager");
-    let found = works_meanwhile::<GroupManager<MemDisk>, Brand>(
-        rt.alloc(),
-        GroupManager::new(manager),
-    );
+    let found = works_meanwhile::<Manager<MemDisk>, Brand>(rt.alloc(), manager);
     assert!(rt; found == Some(true));
 }

@@ -1,6 +1,7 @@
-ghost use Rattle.std.specs.Prelude.{ℕ, ◌≡◌, ◌+◌, ◌<◌, IfSome, None};
+ghost use Rattle.std.specs.Prelude.{ℕ, ◌≡◌, ◌+◌, ◌<◌, IfSome};
 ghost use Rattle.xa_frame.specs.Limits.{IsRequest};
 ghost use Rattle.xa_model.specs.State.{State};
+ghost use Rattle.xa_sequencer.specs.Believed.GroupManager.{alone};
 
 use crate::desks::opened;
 use std::alloc::Global;
@@ -11,8 +12,9 @@ use xa_disk::MemDisk;
 use xa_frame::Request;
 use xa_handles::{Content, Handle, Held, SharedSequencer};
 use xa_history::Start;
+use xa_manager::Manager;
 use xa_script::{Line, read_line};
-use xa_sequencer::{GroupCommits, GroupManager, Sequencer};
+use xa_sequencer::{GroupCommits, Sequencer};
 use xa_tokens::{Book, Opened};
 
 pub fn call_of(alloc: Global, line: &str) -> Option<(u64, Request)>
@@ -75,7 +77,7 @@ fn takes<M: GroupCommits, S: Start, B: Book, R: Wait>(
     (is_right && reply.code == XA_OK).then_some(reply.place)
 }
 
-// The number of the next call that comes back as it was, which its handle then answers by itself.
+// The number of the next call that comes back as it was, which its handle then answers itself.
 fn takes_back<'a, M: GroupCommits, S: Start, B: Book, R: Wait>(
     handle: &mut Handle<'a, M, S, B, R>,
     held: Held<'a, M, S, B>,
@@ -113,7 +115,7 @@ const MEANWHILE: [&str; 8] = [
 ];
 
 // Two prepares that two handles post are answered together, by the one that has the lock. The first handle takes its answer
-// when it has asked for more of its own than there was in all behind the group, and nobody asks for it again.
+// when it has asked for more of its own than there was in all after the group, and nobody asks for it again.
 fn share<M: GroupCommits, S: Start, B: Book, R: Wait>(
     alloc: Global,
     first: &mut Handle<'_, M, S, B, R>,
@@ -198,9 +200,8 @@ fn shares_both<M: GroupCommits + Drop, S: Start, B: Book, R: Wait>(
     manager: M,
     history: Opened,
 ) -> Option<bool>
-    requires settled { M.pending manager ≡ None }
-    requires start { (s : State) → S.start s → M.manages.stands manager s }
-    requires base { M.manages.failures manager ≡ S.base }
+    requires start { (s : State) → S.start s → M.manages.stands (alone manager) s }
+    requires base { M.manages.failures (alone manager) ≡ S.base }
     requires name { history ≡ B.table }
 {
     let sequencer: Sequencer<M, S> = Sequencer::new(manager);
@@ -216,10 +217,10 @@ fn shares_both<M: GroupCommits + Drop, S: Start, B: Book, R: Wait>(
 fn posted_calls_share_an_append(rt: HostRuntime) {
     let manager = opened(rt.alloc()).expect(&rt, "a manager");
     let history = Opened::new(rt.alloc()).expect(&rt, "a history");
-    let found = shares_both::<GroupManager<MemDisk>, Brand, Brand, HostRuntime>(
+    let found = shares_both::<Manager<MemDisk>, Brand, Brand, HostRuntime>(
         &rt,
         rt.alloc(),
-        GroupManager::new(manager),
+        manager,
         history,
     );
     assert!(rt; found == Some(true));

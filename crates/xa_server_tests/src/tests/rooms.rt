@@ -21,7 +21,7 @@ fn keeps(receipts: &mut Vec<Receipt>, receipt: Option<Receipt>) -> bool {
     }
 }
 
-// A connect of one session more.
+// A connect of one more session.
 fn connects<M: Manages, S: Start, L: Ledger, R: Wait>(
     rt: &R,
     desk: &Desk<M, S, L>,
@@ -101,7 +101,7 @@ fn uncounted<M: Manages, S: Start, L: Ledger>(
 }
 
 // What audits find of the receipts and the share, of the receipts without the share, with another code in the third,
-// and with the first one again behind them; and of the receipts and the share again, since the room is as it was.
+// and with the first one again after them; and of the receipts and the share again, since the room is as it was.
 fn audits<M: Manages, S: Start, L: Ledger>(
     alloc: Global,
     room: &Room<M, S>,

@@ -20,7 +20,7 @@ use xa_workers::{Gate, Report, WorkFault, run_workers};
 /// How many workers serve how many connections, and how many events they record.
 type Work = (u64, u64, u64);
 
-/// The receipts of all that workers record at a new desk, and what their clients found. None where an audit finds a
+/// The receipts of all that workers record at a new desk, and what their clients found. None if an audit finds a
 /// fault, or another number of events.
 pub fn worked<
     T: Drop,

@@ -5,10 +5,11 @@ use Rattle.xa_disk.specs.Time.{LeavesOnly}
 use Rattle.xa_log.specs.Believed.Chain.{start, preamble, records}
 use Rattle.xa_log.specs.Answers.{PutBecame}
 use Rattle.xa_log.specs.Ahead.{cut_behind}
-use Rattle.xa_log.specs.Believed.Checkpoint.{IsComplete, IsOther, IsTailed, LeavesAny, LeavesNone, first_length}
+use Rattle.xa_log.specs.Believed.Checkpoint.{HasBytes, NeverEmpty, IsComplete, IsOther, IsTailed, LeavesAny, LeavesNone, first_length}
 use Rattle.xa_log.proofs.Steps.{first_len}
 use Rattle.xa_log.proofs.Cleared.{sealed_cleared}
 use Rattle.xa_log.proofs.Cuts.{cut_header, none_cut, none_left, none_meanwhile}
+use Rattle.xa_log.proofs.Filled.{cut_meanwhile, never_cut, never_torn, torn_meanwhile}
 use Rattle.xa_log.proofs.Header.{header_split, length-preamble}
 use Rattle.xa_log.proofs.Known.{seal_grows, seal_within, records_reach}
 use Rattle.xa_log.proofs.Counted.{refused_front, refused_records, sealed_calls}
@@ -58,6 +59,28 @@ module _ (g : _) (c : goal.After-put_records g) (h : g.D.Disk.honest) (most : �
   moments =
       second_part g.D.Disk most c.args.format stood c.args.bodies.now c.args.disk.now c.put_front.new.disk c.put_records.new.disk
       (c.put_front.ensures.any_moment h most stood (omega arith) other) meanwhile
+
+-- none of these parts leaves the file empty
+module _ (g : _) (c : goal.After-put_records g) (h : g.D.Disk.honest) (was : NeverEmpty g.D.Disk c.args.disk.now) where
+  filled_front : NeverEmpty g.D.Disk c.put_front.new.disk
+  filled_front = never_torn g.D.Disk c.args.disk.now c.put_front.new.disk was 0 12 (c.put_front.ensures.time h) (c.put_front.ensures.grows h)
+
+  filled_cut : NeverEmpty g.D.Disk c.shorten.new.disk
+  filled_cut =
+      never_cut g.D.Disk c.put_front.new.disk c.shorten.new.disk filled_front (cut_behind c.args.keep) (omega (arith, beyond c.args.keep _ c.requires.keep))
+      (c.shorten.ensures.time h) (c.shorten.ensures.front h)
+
+  filled_records : NeverEmpty g.D.Disk c.put_records.new.disk
+  filled_records = never_torn g.D.Disk c.shorten.new.disk c.put_records.new.disk filled_cut 12 _ (c.put_records.ensures.time h) (c.put_records.ensures.torn h).no_shorter
+
+  filled_till : LeavesOnly g.D.Disk c.args.disk.now c.put_records.new.disk HasBytes
+  filled_till =
+      leaves_then g.D.Disk c.args.disk.now c.put_front.new.disk c.put_records.new.disk HasBytes HasBytes HasBytes (λ x it. it) (λ x it. it)
+      (torn_meanwhile g.D.Disk c.args.disk.now c.put_front.new.disk was 0 12 (c.put_front.ensures.time h) (g.met.D.Disk.only_now c.args.disk.now))
+      (leaves_then g.D.Disk c.put_front.new.disk c.shorten.new.disk c.put_records.new.disk HasBytes HasBytes HasBytes (λ x it. it) (λ x it. it)
+      (cut_meanwhile g.D.Disk c.put_front.new.disk c.shorten.new.disk filled_front (cut_behind c.args.keep) (omega (arith, beyond c.args.keep _ c.requires.keep))
+      (c.shorten.ensures.time h) (g.met.D.Disk.only_now c.put_front.new.disk))
+      (torn_meanwhile g.D.Disk c.shorten.new.disk c.put_records.new.disk filled_cut 12 _ (c.put_records.ensures.time h) (g.met.D.Disk.only_now c.shorten.new.disk)))
 
 -- at the seal, and after it
 size : (g : _) (c : goal.After-put_seal-outcome g) → c.len.result ≡ first_length c.args.bodies.now
@@ -177,3 +200,28 @@ returns-in-Ok-put_records-clause-cleared g c h kept =
     sealed_cleared g.D.Disk.tears c.args.more c.args.format c.args.bodies.now mid mid (g.D.Disk.seen c.put_records.new.disk) (g.D.Disk.seen new) (g.D.Disk.may_leave new)
     c.put_seal-outcome.result (header_split c.args.format mid (header g at.After-shorten h)) there c.requires.sizes c.requires.some
     (c.in-Ok-put_records.ensures.written h there) kept (went g at.After-put_seal-outcome h)
+
+pub returns-in-Err-clause-filled : goal.returns-in-Err-clause-filled
+returns-in-Err-clause-filled g c h was = never_torn g.D.Disk c.args.disk.now c.put_front.new.disk was 0 12 (c.put_front.ensures.time h) (c.put_front.ensures.grows h)
+
+pub returns-in-Err-put_records-clause-filled : goal.returns-in-Err-put_records-clause-filled
+returns-in-Err-put_records-clause-filled g c h was = filled_records g (goal.at.returns-in-Err-put_records-clause-filled g c).After-put_records h was
+
+pub returns-in-Ok-put_records-clause-filled : goal.returns-in-Ok-put_records-clause-filled
+returns-in-Ok-put_records-clause-filled g c h was =
+    let before = filled_records g (goal.at.returns-in-Ok-put_records-clause-filled g c).After-put_records h was in
+    never_torn g.D.Disk c.put_records.new.disk c.put_seal-outcome.new.disk before 8 4 (c.put_seal-outcome.ensures.time h) (seal_grows _ _ _ _ _ _ _ (c.put_seal-outcome.ensures.went h))
+
+pub returns-in-Err-clause-filled_meanwhile : goal.returns-in-Err-clause-filled_meanwhile
+returns-in-Err-clause-filled_meanwhile g c h was =
+    torn_meanwhile g.D.Disk c.args.disk.now c.put_front.new.disk was 0 12 (c.put_front.ensures.time h) (g.met.D.Disk.only_now c.args.disk.now)
+
+pub returns-in-Err-put_records-clause-filled_meanwhile : goal.returns-in-Err-put_records-clause-filled_meanwhile
+returns-in-Err-put_records-clause-filled_meanwhile g c h was = filled_till g (goal.at.returns-in-Err-put_records-clause-filled_meanwhile g c).After-put_records h was
+
+pub returns-in-Ok-put_records-clause-filled_meanwhile : goal.returns-in-Ok-put_records-clause-filled_meanwhile
+returns-in-Ok-put_records-clause-filled_meanwhile g c h was =
+    let at = (goal.at.returns-in-Ok-put_records-clause-filled_meanwhile g c).After-put_records in
+    leaves_then g.D.Disk c.args.disk.now c.put_records.new.disk c.put_seal-outcome.new.disk HasBytes HasBytes HasBytes (λ x it. it) (λ x it. it) (filled_till g at h was)
+    (torn_meanwhile g.D.Disk c.put_records.new.disk c.put_seal-outcome.new.disk (filled_records g at h was) 8 4 (c.put_seal-outcome.ensures.time h)
+    (g.met.D.Disk.only_now c.put_records.new.disk))

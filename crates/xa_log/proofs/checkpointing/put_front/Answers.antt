@@ -46,3 +46,9 @@ returns-clause-any_moment g c h most stood room other =
 
 pub returns-clause-grows : goal.returns-clause-grows
 returns-clause-grows g c h = put_grows c.put_synced.result _ _ _ _ _ (c.put_synced.ensures.written h) (c.put_synced.ensures.failed h)
+
+pub returns-clause-time : goal.returns-clause-time
+returns-clause-time g c h =
+    let n : length c.as_slice.result.now ≡ 12 =
+    ap (λ (l : List ℕ). length l) (c.as_slice.ensures ∙ c.preamble.ensures) ∙ length-preamble c.args.format in
+    subst (λ k. TimePasses g.D.Disk (Torn 0 k) c.args.disk.now c.put_synced.new.disk) n (c.put_synced.ensures.time h)

@@ -1,10 +1,10 @@
-use Rattle.std.proofs.Common.{◌≡◌, ◌==◌, Some, ap, sym, ◌∙◌}
+use Rattle.std.proofs.Common.{◌≡◌, Some, ap, sym, ◌∙◌}
 use Rattle.std.specs.Option.{option_copied}
-use Rattle.xa_script.specs.Parts.{alone, words_behind}
-use Rattle.xa_script.proofs.Cuts.{not_alone}
+use Rattle.xa_script.specs.Words.{alone, words_behind}
+use Rattle.xa_script.proofs.Places.{not_alone}
 use Rattle.xa_script.proofs.request.read_alone.Goals as goal
 
 pub returns-in-Some-clause-value : goal.returns-in-Some-clause-value
 returns-in-Some-clause-value c =
     let some : option_copied c.args.words ≡ Some c.in-Some.field-0.now = ap option_copied c.in-Some.is in
-    sym (ap (λ rest. alone c.args.request (words_behind rest)) some ∙ not_alone c.args.request (λ b. b == 32) c.in-Some.field-0.now)
+    sym (ap (λ rest. alone c.args.request (words_behind rest)) some ∙ not_alone c.args.request c.in-Some.field-0.now)

@@ -2,9 +2,9 @@ use Rattle.std.proofs.Common.{◌≡◌, Option, Some, None, ap, sym, ◌∙◌}
 use Rattle.std.specs.Option.{option_copied, option_map}
 use Rattle.std.specs.Prelude.{option_and_then}
 use Rattle.xa_xid.specs.Triple.{Triple}
-use Rattle.xa_script.specs.Parts.{one_of, words_behind}
+use Rattle.xa_script.specs.Words.{one_of, words_behind}
 use Rattle.xa_script.specs.Requests.{cursor_of}
-use Rattle.xa_script.proofs.Cuts.{cursor_words}
+use Rattle.xa_script.proofs.Places.{cursor_words}
 use Rattle.xa_script.proofs.request.read_cursor.Goals as goal
 
 pub returns-in_err-xid-in-Some : goal.returns-in_err-xid-in-Some

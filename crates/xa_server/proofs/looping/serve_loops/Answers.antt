@@ -1,8 +1,5 @@
-use Rattle.std.proofs.Common.{ap, rules, subst, Err}
+use Rattle.std.proofs.Common.{ap, rules, Err}
 use Rattle.std.proofs.lemmas.Result.{err_from_is_err_and}
-use Rattle.xa_sequencer.specs.Believed.GroupManager.{manages_of}
-use Rattle.xa_sequencer.specs.declared.group_manager.GroupManager.{GroupManager}
-use Rattle.xa_server.specs.Believed.Loops.{ServesByLoops}
 use Rattle.xa_server.specs.Believed.Served.{NoLoops, loop_place_of}
 use Rattle.xa_server.proofs.Failing.{failed_early, loops_failed}
 use Rattle.xa_server.proofs.looping.serve_loops.Goals as goal
@@ -27,10 +24,6 @@ pub returns-in_default-clause-failed : goal.returns-in_default-clause-failed
 returns-in_default-clause-failed g c =
     ((c.in_ok-listening.listening, c.in_ok-listening.manager, c.in_ok-listening.ensures.ready), tt)
 
-pub returns-then-is_err-clause-failed : goal.returns-then-is_err-clause-failed
-returns-then-is_err-clause-failed g c =
-    (c.in_ok-listening.listening, c.in_ok-listening.manager, c.in_ok-listening.ensures.ready)
-
 pub returns-then-not-told-clause-failed : goal.returns-then-not-told-clause-failed
 returns-then-not-told-clause-failed g c =
     ((c.in_ok-listening.listening, c.in_ok-listening.manager, c.in_ok-listening.ensures.ready), tt)
@@ -47,11 +40,7 @@ returns-in-Ok-println-clause-served g c = record {
   loops = c.loops_of-loops.result;
   loops_are = c.loops_of-loops.ensures;
   told = c.in_ok-told.told;
-  serves = subst
-      (λ (x : GroupManager g.row.R-Disk.Denot). ServesByLoops (manages_of {D = g.row.R-Disk.Denot} g.R.Disk.Disk)
-      ((manages_of {D = g.row.R-Disk.Denot} g.R.Disk.Disk).stands x) ((manages_of {D = g.row.R-Disk.Denot} g.R.Disk.Disk).failures x)
-      c.loops_of-loops.result c.in_ok-told.told)
-      c.new.ensures c.in_ok-told.ensures.served;
+  serves = c.in_ok-told.ensures.served;
   whole = search rules;
   settings = c.in_ok-told.ensures.settings;
   well = search rules;

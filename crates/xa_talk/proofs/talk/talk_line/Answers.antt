@@ -12,7 +12,7 @@ returns-in_err-reply g c =
     rw (p.1, p.2) (
       [],
       nothing_appended (g.O.Write.contents c.args.output.now),
-      told c.args.style (λ k. g.W.Write.contents k.writer) (λ k. g.R.Read.remaining k.reader) c.args.line.now c.in_ok-said.said (Err c.in_err-reply.field-0.0) _ []
+      told c.args.manner (λ k. g.W.Write.contents k.writer) (λ k. g.R.Read.remaining k.reader) c.args.line.now c.in_ok-said.said (Err c.in_err-reply.field-0.0) _ []
           c.args.connections.now.numbered.items c.answer.new.connections.numbered.items c.in_ok-said.ensures.value c.in_err-reply.ensures (refl, refl),
     )
 
@@ -20,7 +20,7 @@ pub returns-in_default : goal.returns-in_default
 returns-in_default g c = (
   [],
   nothing_appended (g.O.Write.contents c.args.output.now),
-  told c.args.style (λ k. g.W.Write.contents k.writer) (λ k. g.R.Read.remaining k.reader) c.args.line.now c.in_ok-said.said (Ok None) _ []
+  told c.args.manner (λ k. g.W.Write.contents k.writer) (λ k. g.R.Read.remaining k.reader) c.args.line.now c.in_ok-said.said (Ok None) _ []
       c.args.connections.now.numbered.items c.answer.new.connections.numbered.items c.in_ok-said.ensures.value
       (subst (λ (o : Option Reply). LineAnswered (λ k. g.W.Write.contents k.writer) (λ k. g.R.Read.remaining k.reader) c.in_ok-said.said (Ok o) c.args.connections.now.numbered.items c.answer.new.connections.numbered.items)
       c.in_default.is c.in_ok-reply.ensures) refl,

@@ -7,6 +7,7 @@ use Rattle.xa_handles.proofs.Calling.{are_letters, fits, tells}
 use Rattle.xa_handles.proofs.Groups.{all_answers, all_within, goes_on_by}
 use Rattle.xa_handles.proofs.Letters.{all_open}
 use Rattle.xa_manager.specs.declared.together.Asked.{Asked}
+use Rattle.xa_sequencer.specs.Believed.GroupManager.{GroupManager}
 use Rattle.xa_handles.proofs.locked.Locked.finish_group.Goals as goal
 
 pub answer_all-requires-clause-letters : goal.answer_all-requires-clause-letters
@@ -43,7 +44,7 @@ invariant_of-self g c =
 
 pub returns-clause-told : goal.returns-clause-told
 returns-clause-told g c =
-    subst (λ (s : Standing g.row.M.Denot). TellsMail s (record {
+    subst (λ (s : Standing (GroupManager g.row.M.Denot)). TellsMail s (record {
       at = c.finish_group-replies.new.self;
       history = c.answer_all.new.keeper;
       letters = c.answer_all.new.letters.items;

@@ -4,6 +4,7 @@ use Rattle.xa_log.specs.Believed.Chain.{logged}
 use Rattle.xa_log.specs.Believed.LogStates.{Whole}
 use Rattle.xa_log.specs.Believed.Pair.{generation}
 use Rattle.xa_log.specs.Reading.{bodies_of}
+use Rattle.xa_log.proofs.Beside.{other_looked}
 use Rattle.xa_manager.specs.Managed.{view}
 use Rattle.xa_manager.proofs.Results.{on_err, on_ok, if_ok, if_err, at_err, in_ok, in_err}
 use Rattle.xa_manager.proofs.CrashFiles.{look_files}
@@ -17,7 +18,7 @@ pub returns-clause-err : goal.returns-clause-err
 returns-clause-err g c = on_err c.rescan.result _ (λ e is s st.
     let same = at_err _ c.rescan.result e is c.rescan.ensures.as_before in
     still_stands g.D.Disk c.args.self.now _ s refl refl refl (λ up. same.end ∙ st.end up) (λ up. same.lost ∙ st.alive up) (λ up. same.format ∙ st.modern up) (λ up. same.number) c.rescan.ensures.settings
-    (λ trusts. stands_kept g.D.Disk c.args.self.now.log c.rescan.new.self s (at_err _ c.rescan.result e is (c.rescan.ensures.keeps trusts.disk)).state (st.log trusts)) st)
+    (λ trusts. stands_kept g.D.Disk c.args.self.now.log c.rescan.new.self s (at_err _ c.rescan.result e is (c.rescan.ensures.keeps trusts.disk)) (st.log trusts)) st)
 
 pub returns-clause-alive : goal.returns-clause-alive
 returns-clause-alive g c = on_ok c.rescan.result _ (λ v is. (in_ok _ c.rescan.result v is c.rescan.ensures.ends).alive)
@@ -29,6 +30,7 @@ returns-clause-stays g c = on_ok c.rescan.result _ (λ v is ends s st.
     (λ trusts. let finds : Finds g.D.Disk (bodies_of v.items) c.args.self.now.log c.rescan.new.self = record {
       stood = logged (g.D.Disk.seen c.rescan.new.self.other);
       state = λ state it. let f = in_ok _ c.rescan.result v is (c.rescan.ensures.anew trusts.disk state it (lost_trusted g.D.Disk trusts state) (calm_trusted g.D.Disk trusts state c.args.self.now.log)) in (f.0, f.1.0);
+      other = λ state it beside. other_looked g.D.Disk c.args.self.now.log c.rescan.new.self state it (c.rescan.ensures.looks trusts.disk) beside;
     } in
     stands_found g.D.Disk (bodies_of v.items) c.args.self.now.log c.rescan.new.self s finds (st.log trusts)) st)
 
@@ -37,6 +39,7 @@ returns-clause-found g c = λ trusts. if_ok c.rescan.result _ (λ v is s st.
     let finds : Finds g.D.Disk (bodies_of v.items) c.args.self.now.log c.rescan.new.self = record {
       stood = logged (g.D.Disk.seen c.rescan.new.self.other);
       state = λ state it. let f = in_ok _ c.rescan.result v is (c.rescan.ensures.anew trusts.disk state it (lost_trusted g.D.Disk trusts state) (calm_trusted g.D.Disk trusts state c.args.self.now.log)) in (f.0, f.1.0);
+      other = λ state it beside. other_looked g.D.Disk c.args.self.now.log c.rescan.new.self state it (c.rescan.ensures.looks trusts.disk) beside;
     } in
     found_state g.D.Disk (bodies_of v.items) c.args.self.now.log c.rescan.new.self s finds (outside c.args.self.now.up (view c.args.self.now) s st.tables).recoverable (st.log trusts))
 
@@ -65,4 +68,4 @@ returns-clause-readable g c = λ trusts. if_err c.rescan.result _ (λ e is s st.
 pub returns-clause-leaves : goal.returns-clause-leaves
 returns-clause-leaves g c = λ trusts s st.
     look_files g.D.Disk c.args.self.now.log c.rescan.new.self s (outside c.args.self.now.up (view c.args.self.now) s st.tables).recoverable
-    (c.rescan.ensures.looks trusts.disk) (c.rescan.ensures.any_moment trusts.disk)
+    (c.rescan.ensures.looks trusts.disk) g.met.D.Disk.only_now (c.rescan.ensures.any_moment trusts.disk)

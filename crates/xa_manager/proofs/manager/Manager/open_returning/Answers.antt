@@ -9,7 +9,8 @@ use Rattle.xa_manager.specs.Believed.Refused.{LeavesFinding}
 use Rattle.xa_manager.proofs.CrashOpenings.{crash_opening}
 use Rattle.xa_manager.proofs.FoundLogs.{found_log}
 use Rattle.xa_manager.proofs.OpenedStates.{begun_on, begun_read, fresh_opened, reopens_opened}
-use Rattle.xa_manager.proofs.Refusing.{refused_by, begun_logs, refused_left}
+use Rattle.xa_manager.proofs.Refusing.{refused_by, begun_logs, refused_left, refused_missing, left_missing, there_by}
+use Rattle.xa_manager.proofs.Results.{on_ok}
 use Rattle.xa_manager.proofs.manager.Manager.open_returning.Given.{Over}
 use Rattle.xa_manager.proofs.manager.Manager.open_returning.Goals.{After-begin}
 use Rattle.xa_manager.proofs.manager.Manager.open_returning.Goals as goal
@@ -42,43 +43,64 @@ finding g c h =
     subst (λ d. LeavesFinding g.D.Disk c.args.first d c.args.second (second_of c.on-log.result.0)) (sym c.on-log.ensures.disks.0)
     (subst (λ d. LeavesFinding g.D.Disk c.args.first c.find_log.new.first c.args.second d) (sym c.on-log.ensures.disks.1) (c.in-Ok.ensures.leaves h))
 
-pub returns-in-Ok-clause-begun : goal.returns-in-Ok-clause-begun
-returns-in-Ok-clause-begun g c =
+pub returns-in_default-clause-begun : goal.returns-in_default-clause-begun
+returns-in_default-clause-begun g c =
     begun_on g.D.Disk c.begin.result (g.D.Disk.seen c.args.first) (g.D.Disk.seen c.args.second) (bodies_of c.on-log.result.1.items) c.args.settings.name c.args.settings.log_bytes
     (λ h. c.in-Ok.ensures.logged h ∙ sym (same_bodies g c))
     (c.begin.ensures.begun (found g c) (c.on-log.ensures.settings ∙ c.in-Ok.ensures.settings))
 
-pub returns-in-Ok-clause-fresh : goal.returns-in-Ok-clause-fresh
-returns-in-Ok-clause-fresh g c = λ trusts ea eb.
+pub returns-in_default-clause-fresh : goal.returns-in_default-clause-fresh
+returns-in_default-clause-fresh g c = λ trusts ea eb.
     fresh_opened g.D.Disk c.begin.result c.args.settings.name c.args.settings.log_bytes (g.D.Disk.seen c.args.first) (g.D.Disk.seen c.args.second)
-    (begun_read g.D.Disk c.begin.result (g.D.Disk.seen c.args.first) (g.D.Disk.seen c.args.second) c.args.settings.name c.args.settings.log_bytes trusts.disk (returns-in-Ok-clause-begun g c)) ea eb
+    (begun_read g.D.Disk c.begin.result (g.D.Disk.seen c.args.first) (g.D.Disk.seen c.args.second) c.args.settings.name c.args.settings.log_bytes trusts.disk (returns-in_default-clause-begun g c)) ea eb
 
-pub returns-in-Ok-clause-reopens : goal.returns-in-Ok-clause-reopens
-returns-in-Ok-clause-reopens g c = λ trusts s rec files.
+pub returns-in_default-clause-reopens : goal.returns-in_default-clause-reopens
+returns-in_default-clause-reopens g c = λ trusts s rec files.
     reopens_opened g.D.Disk c.begin.result s c.args.settings.name c.args.settings.log_bytes (g.D.Disk.seen c.args.first) (g.D.Disk.seen c.args.second)
-    rec files (begun_read g.D.Disk c.begin.result (g.D.Disk.seen c.args.first) (g.D.Disk.seen c.args.second) c.args.settings.name c.args.settings.log_bytes trusts.disk (returns-in-Ok-clause-begun g c))
+    rec files (begun_read g.D.Disk c.begin.result (g.D.Disk.seen c.args.first) (g.D.Disk.seen c.args.second) c.args.settings.name c.args.settings.log_bytes trusts.disk (returns-in_default-clause-begun g c))
 
-pub returns-in-Ok-clause-refused : goal.returns-in-Ok-clause-refused
-returns-in-Ok-clause-refused g c = λ h.
+pub returns-in_default-clause-refused : goal.returns-in_default-clause-refused
+returns-in_default-clause-refused g c = λ h.
     refused_by c.begin.result (bodies_of c.on-log.result.1.items) c.args.settings.name c.args.settings.log_bytes (g.D.Disk.seen c.args.first) (g.D.Disk.seen c.args.second)
     c.begin.ensures.refused (c.in-Ok.ensures.whole h) (c.in-Ok.ensures.logged h ∙ sym (same_bodies g c))
 
-pub returns-in-Ok-clause-logs : goal.returns-in-Ok-clause-logs
-returns-in-Ok-clause-logs g c =
+pub returns-in_default-clause-logs : goal.returns-in_default-clause-logs
+returns-in_default-clause-logs g c =
     begun_logs g.D.Disk c.args.first c.args.second c.in-Ok.is_new (bodies_of c.on-log.result.1.items) c.args.settings.log_bytes c.on-log.result.0 (finding g c)
     (λ h. c.in-Ok.ensures.logged h ∙ sym (same_bodies g c)) (found g c) (c.on-log.ensures.settings ∙ c.in-Ok.ensures.settings) c.in-Ok.ensures.made_of
     c.begin.result c.begin.ensures.logs
 
-pub returns-in-Ok-clause-leaves : goal.returns-in-Ok-clause-leaves
-returns-in-Ok-clause-leaves g c =
+pub returns-in_default-clause-leaves : goal.returns-in_default-clause-leaves
+returns-in_default-clause-leaves g c =
     refused_left g.D.Disk c.args.first c.args.second c.in-Ok.is_new (bodies_of c.on-log.result.1.items) c.args.settings.log_bytes c.on-log.result.0 (finding g c)
     (λ h. c.in-Ok.ensures.logged h ∙ sym (same_bodies g c)) (found g c) (c.on-log.ensures.settings ∙ c.in-Ok.ensures.settings) c.in-Ok.ensures.made_of
     c.begin.result c.begin.ensures.refused c.begin.ensures.leaves
 
-pub returns-in-Ok-clause-crash : goal.returns-in-Ok-clause-crash
-returns-in-Ok-clause-crash g c =
+pub returns-in_default-clause-crash : goal.returns-in_default-clause-crash
+returns-in_default-clause-crash g c =
     crash_opening g.D.Disk g.met.D.Disk.only_now c.args.first c.args.second c.args.settings.name c.args.settings.log_bytes c.begin.result
-    (returns-in-Ok-clause-logs g c) (returns-in-Ok-clause-leaves g c)
+    (returns-in_default-clause-logs g c) (returns-in_default-clause-leaves g c)
+
+pub returns-in_default-clause-there : goal.returns-in_default-clause-there
+returns-in_default-clause-there g c = λ h. on_ok c.begin.result _ (λ m is.
+    there_by c.in-Ok.is_new (g.D.Disk.seen c.args.first) (g.D.Disk.seen c.args.second) (c.in-Ok.ensures.made_of h)
+    (λ read. c.in_default.ensures.none read (g.D.Disk.seen c.args.first) (g.D.Disk.seen c.args.second) (c.in-Ok.ensures.found h read)))
+
+pub returns-in-Some-clause-refused : goal.returns-in-Some-clause-refused
+returns-in-Some-clause-refused g c = λ h.
+    let (read, kind, misses) = c.in-Some.ensures.some in
+    let found = c.in-Ok.ensures.found h read in
+    refused_missing c.in-Some.fault c.args.settings.name c.args.settings.log_bytes (g.D.Disk.seen c.args.first) (g.D.Disk.seen c.args.second) c.in-Ok.opened found c.in-Ok.ensures.settings
+    (misses (g.D.Disk.seen c.args.first) (g.D.Disk.seen c.args.second) found)
+
+pub returns-in-Some-clause-leaves : goal.returns-in-Some-clause-leaves
+returns-in-Some-clause-leaves g c =
+    left_missing g.D.Disk c.in-Some.fault c.args.settings.log_bytes c.args.first c.find_log.new.first c.args.second c.find_log.new.second c.in-Some.ensures.some.1 c.in-Ok.ensures.leaves
+
+pub returns-in-Some-clause-crash : goal.returns-in-Some-clause-crash
+returns-in-Some-clause-crash g c =
+    crash_opening g.D.Disk g.met.D.Disk.only_now c.args.first c.args.second c.args.settings.name c.args.settings.log_bytes
+    (Err (record { fault = c.in-Some.fault; first = c.find_log.new.first; second = c.find_log.new.second })) tt (returns-in-Some-clause-leaves g c)
 
 pub returns-in-Err-clause-crash : goal.returns-in-Err-clause-crash
 returns-in-Err-clause-crash g c =

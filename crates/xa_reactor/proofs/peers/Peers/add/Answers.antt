@@ -4,13 +4,13 @@ use Rattle.xa_reactor.specs.Believed.Tending.{sessions_of}
 use Rattle.xa_reactor.proofs.Doing.{puts_slot, tends_connected, tends_none, tends_refused, tends_twice}
 use Rattle.xa_reactor.proofs.peers.Peers.add.Goals as goal
 
-pub returns-in_default : goal.returns-in_default
-returns-in_default g c =
+pub returns-in_default-clause-tends : goal.returns-in_default-clause-tends
+returns-in_default-clause-tends g c =
     tends_refused g.D.Reception.connected g.D.Door.called g.D.Door.left (sessions_of c.args.self.now.all) (sessions_of c.reserve-else-is_err.new.self)
     c.args.door.now c.connect.new.door _ c.in_default.ensures.connected (ap sessions_of (sym c.reserve-else-is_err.ensures.rest_kept))
 
-pub returns : goal.returns
-returns g c =
+pub returns-clause-tends : goal.returns-clause-tends
+returns-clause-tends g c =
     let before = sessions_of c.reserve-else-is_err.new.self in
     let after = sessions_of c.insert_reserved-key.new.self in
     tends_twice g.D.Reception.connected g.D.Door.called g.D.Door.left (sessions_of c.args.self.now.all) before after

@@ -2,6 +2,6 @@ use Rattle.std.proofs.Common.{sym}
 use Rattle.xa_reactor.proofs.Doing.{same_sessions}
 use Rattle.xa_reactor.proofs.peers.Peers.close_turn.Goals as goal
 
-pub returns-in-Some : goal.returns-in-Some
-returns-in-Some g c =
+pub returns-in-Some-clause-same : goal.returns-in-Some-clause-same
+returns-in-Some-clause-same g c =
     sym (same_sessions c.args.self.now.all c.args.ask.key c.in-Some.peer.now c.close_turn.new.self (sym c.in-Some.ensures.value) c.close_turn.ensures.session)

@@ -1,4 +1,4 @@
-use Rattle.xa_reactor.specs.Believed.Tending.{Table, Tends, sessions_of}
+use Rattle.xa_reactor.specs.Believed.Tending.{Table, sessions_of}
 use Rattle.xa_reactor.proofs.Aside.{tends_aside, tends_timed}
 use Rattle.xa_reactor.proofs.Doing.{posting_tended, posting_thrice, tends_thrice, tends_twice}
 use Rattle.xa_reactor.proofs.Settled.{still_settled}

@@ -11,5 +11,5 @@ returns-clause-lent g c =
     record {
       quick = All-same (IsLent table) _ [] c.give_quick.ensures.none (All-nil (IsLent table));
       waiting = lent_still (sessions_of c.args.peers.now.all) table c.args.self.now.waiting.items c.give_quick.ensures.same c.requires.waiting;
-      room = omega (arith, c.give_quick.ensures.room.0, c.give_quick.ensures.room.1, ap length c.give_quick.ensures.none);
+      room = omega (arith, c.give_quick.ensures.turns.0, c.give_quick.ensures.room, ap length c.give_quick.ensures.none);
     }

@@ -5,7 +5,7 @@ use Rattle.xa_reactor.proofs.together.Together.begin.Goals as goal
 
 pub returns : goal.returns
 returns c = λ table.
-    c.reserve.ensures table
+    c.reserve.ensures.lent table
     (record {
       quick = All-same (IsLent table) _ [] c.clear.ensures.items (All-nil (IsLent table));
       waiting = All-same (IsLent table) _ [] c.clear-2.ensures.items (All-nil (IsLent table));

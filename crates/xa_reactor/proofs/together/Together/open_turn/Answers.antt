@@ -24,7 +24,7 @@ pub returns-then-may_wait-clause-tends : goal.returns-then-may_wait-clause-tends
 returns-then-may_wait-clause-tends g c =
     let ask = c.in-Asks.ask in
     let opened = c.in-Asks.ensures.opens in
-    let next = ap sessions_of c.next.ensures in
+    let next = ap sessions_of c.next.ensures.same in
     posting_posted g.D.Reception.posted g.D.Reception.connected g.D.Door.called g.D.Door.left (sessions_of c.args.peers.now.all) (sessions_of c.open_turn.new.self.all)
     c.args.door.now c.post.new.self ask.key ask.session (ap (λ (t : Table). t ask.key) (sym next) ∙ opened.0.0)
     (subst (λ d. (c.post.new.self ≡ d) ⊎ g.D.Reception.posted ask.session d c.post.new.self) opened.1
@@ -33,7 +33,7 @@ returns-then-may_wait-clause-tends g c =
 
 pub returns-then-may_wait-clause-lent : goal.returns-then-may_wait-clause-lent
 returns-then-may_wait-clause-lent g c =
-    let lent = lent_one _ _ _ c.in-Asks.ask c.open_turn.ensures.same (ap sessions_of c.next.ensures) c.in-Asks.ensures.opens.0 in
+    let lent = lent_one _ _ _ c.in-Asks.ask c.open_turn.ensures.same (ap sessions_of c.next.ensures.same) c.in-Asks.ensures.opens.0 in
     record {
       quick = lent_still _ _ _ lent.0 c.requires.quick;
       waiting = lent_more _ _ _ _ c.in-Asks.ask lent.0 c.push_reserved.ensures.items c.requires.waiting lent.1;
@@ -42,7 +42,7 @@ returns-then-may_wait-clause-lent g c =
 
 pub returns-else-may_wait-clause-lent : goal.returns-else-may_wait-clause-lent
 returns-else-may_wait-clause-lent g c =
-    let lent = lent_one _ _ _ c.in-Asks.ask c.open_turn.ensures.same (ap sessions_of c.next.ensures) c.in-Asks.ensures.opens.0 in
+    let lent = lent_one _ _ _ c.in-Asks.ask c.open_turn.ensures.same (ap sessions_of c.next.ensures.same) c.in-Asks.ensures.opens.0 in
     record {
       quick = lent_more _ _ _ _ c.in-Asks.ask lent.0 c.push_reserved-else-may_wait.ensures.items c.requires.quick lent.1;
       waiting = lent_still _ _ _ lent.0 c.requires.waiting;
@@ -53,14 +53,14 @@ pub returns-in-Over-clause-tends : goal.returns-in-Over-clause-tends
 returns-in-Over-clause-tends g c =
     let before : Table = sessions_of c.args.peers.now.all in
     let after : Table = sessions_of c.open_turn.new.self.all in
-    let next = ap sessions_of c.next.ensures in
+    let next = ap sessions_of c.next.ensures.same in
     posting_tended g.D.Reception.posted g.D.Reception.connected g.D.Door.called g.D.Door.left before after c.args.door.now c.open_turn.new.door
     (subst (λ (t : Table). Tends g.D.Reception.connected g.D.Door.called g.D.Door.left before c.args.door.now t c.open_turn.new.door) (sym (c.open_turn.ensures.same ∙ next))
     (subst (λ (t : Table). Tends g.D.Reception.connected g.D.Door.called g.D.Door.left t c.args.door.now t c.open_turn.new.door) next c.in-Over.ensures.opens))
 
 pub returns-in-Over-clause-lent : goal.returns-in-Over-clause-lent
 returns-in-Over-clause-lent g c =
-    let same = c.open_turn.ensures.same ∙ ap sessions_of c.next.ensures in
+    let same = c.open_turn.ensures.same ∙ ap sessions_of c.next.ensures.same in
     record {
       quick = lent_still _ _ _ same c.requires.quick;
       waiting = lent_still _ _ _ same c.requires.waiting;

@@ -1,9 +1,10 @@
 use Rattle.xa_reactor.specs.Believed.Tending.{TendsPosting, sessions_of}
-use Rattle.xa_reactor.specs.Together.{HasLent}
+use Rattle.xa_reactor.specs.Together.{HasLent, KeepsTurns}
 use Rattle.xa_reactor.proofs.together.Together.open_turns.Given as goal
 
 abbrev pub invariant-loop : goal.invariant-loop
 invariant-loop g l = record {
   tends : TendsPosting g.D.Reception.posted g.D.Reception.connected g.D.Door.called g.D.Door.left (sessions_of l.initial.peers.all) l.initial.door (sessions_of l.peers.all) l.door;
   lent : HasLent (sessions_of l.peers.all) l.self;
+  turns : KeepsTurns l.initial.self l.initial.peers l.self l.peers;
 }

@@ -1,0 +1,58 @@
+//! Who is admitted, the fewer places are left.
+ghost use Rattle.std.specs.Prelude.{◌≡◌, ◌<◌};
+ghost use Rattle.std.specs.declared.net.ip_addr.IpAddr.{IpAddr};
+ghost use Rattle.xa_reactor.specs.Admission.{ComesFrom, IsCanonical, may_admit, most_open};
+
+use std::net::IpAddr;
+
+/// The most connections that are open at a time. With one session more the manager has as many as it may.
+pub const MOST_OPEN: u64 = 1_023;
+
+/// How many of these places are kept for an operator: the last ones.
+pub const KEPT_OPEN: u64 = 4;
+
+/// Where a connection comes from.
+#[derive(Clone, Copy, Debug, PartialEq, Eq)]
+pub(crate) enum Origin {
+    /// The server's Unix socket.
+    Path,
+    /// Its port, from a loopback address.
+    Loopback,
+    /// Its port, from another address.
+    Elsewhere,
+}
+
+/// Where a connection of a port comes from, by its peer's address. One of IPv4 may be mapped to one of IPv6.
+pub(crate) fn origin_of(address: IpAddr) -> Origin
+    ensures { (canonical : IpAddr) × IsCanonical address canonical × ComesFrom canonical result }
+{
+    if address.to_canonical().is_loopback() {
+        Origin::Loopback
+    } else {
+        Origin::Elsewhere
+    }
+}
+
+/// How many connections are open at most, those from there and all others, where one from there is admitted. The last
+/// places are for the Unix socket's, or if there is none, for those from a loopback address.
+pub(crate) fn most_open(has_path: bool, origin: Origin) -> u64
+    ensures { result ≡ most_open has_path origin }
+{
+    let is_operators = match origin {
+        Origin::Path => true,
+        Origin::Loopback => !has_path,
+        Origin::Elsewhere => false,
+    };
+    if is_operators {
+        MOST_OPEN
+    } else {
+        MOST_OPEN - KEPT_OPEN
+    }
+}
+
+/// Whether a connection from there is admitted, while so many are open.
+pub(crate) fn may_admit(has_path: bool, origin: Origin, count: u64) -> bool
+    ensures { result ≡ may_admit has_path origin count }
+{
+    count < most_open(has_path, origin)
+}
