@@ -7,7 +7,7 @@ import tempfile
 import time
 
 import plays
-from frames import LIMIT, ROOM, TIMELESS, Peer, free_port, request, shown
+from frames import LIMIT, ROOM, Peer, free_port, request, shown, timeless
 
 PROGRAM = os.path.join(plays.TOP, "crates/xarm/out/xarm")
 # The longest that who behaves well waits for a reply, in seconds, on a machine that is busy with other things.
@@ -16,25 +16,20 @@ OK = "0 Nothing"
 OPEN = "1 open TMNOFLAGS n"
 
 
-def timeless(words):
-    """The loops tell the manager no time, so that events can be counted, unless that is an option."""
-    return () if "--tick" in words else TIMELESS
-
-
 class Server:
     """A server in a new folder, with so many file handles, or with the library of .ci/files.c before its calls on files; by a port, or by a
     socket."""
 
-    def __init__(self, *words, handles=None, env=None, tells=(), library=None, by_socket=False):
+    def __init__(self, *words, handles=None, env=None, tells=(), library=None, by_socket=False, stderr=None):
         self.room = tempfile.TemporaryDirectory(prefix="served-", dir=ROOM)
         self.port = os.path.join(self.room.name, "s") if by_socket else free_port()
         self.told = open(os.path.join(self.room.name, "told"), "w+b")
         at = "--socket" if by_socket else "--port"
-        serve = [PROGRAM, "serve", "--log", "l", "--name", "n", at, str(self.port), *timeless(words), *words]
+        serve = [PROGRAM, "serve", "--log", "l", "--name", "n", at, str(self.port), *timeless(*words), *words]
         if handles:
             serve = ["bash", "-c", f'ulimit -S -n {handles} && exec "$@"', "bash", *serve]
         how = {**os.environ, **(env or {}), **({"LD_PRELOAD": library, "FAULTS": "faults"} if library else {})}
-        pipes = {"stdout": subprocess.PIPE, "stderr": self.told, "pass_fds": tells}
+        pipes = {"stdout": subprocess.PIPE, "stderr": stderr or self.told, "pass_fds": tells}
         self.ran = subprocess.Popen(serve, cwd=self.room.name, env=how, **pipes)
 
     def __enter__(self):

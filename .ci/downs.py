@@ -1,5 +1,8 @@
 """Of .ci/loops: what a server tells when its manager goes down, by whichever call and over whichever loop, and that it ends then where that
 is asked. Each time it is told once, with the cause, and again only once a Restart has helped."""
+import contextlib
+import fcntl
+import os
 import re
 import time
 
@@ -108,6 +111,31 @@ def helped(library):
         yield "down: a Restart in the same round helps", found, [[OK], [DEVICE], [OK]]
         yield "down: that it was down is told all the same", until(lambda: causes(server) == [LOST]) is not None, True
         yield "down: it goes on", (server.is_up(), asks(one, ["1 recover TMSTARTRSCAN 10"])), (True, ["0 Nothing xids"])
+
+
+def helped_late(library):
+    """With --exit-when-down, where another loop has begun a Restart, which helps, by when the server is to end: a loop that tells of it first
+    waits until a pipe that is full has room."""
+    reads, writes = os.pipe()
+    fcntl.fcntl(writes, fcntl.F_SETPIPE_SZ, 4096)
+    with Server("--loops", "2", "--exit-when-down", library=library, stderr=writes) as server:
+        one, other = two_loops(server, "2")
+        # of a file the first call that fails is told, too
+        lost_commit(server, one, "1:aa:", "pwrite 1 28")
+        fills = os.open(f"/proc/self/fd/{writes}", os.O_WRONLY | os.O_NONBLOCK)
+        with contextlib.suppress(BlockingIOError):
+            while True:
+                os.write(fills, b" ")
+        found = lost_commit(server, one, "1:bb:")
+        server.fault("slow 1 1500")
+        other.send("1 restart")
+        time.sleep(0.5)
+        os.read(reads, 4096)
+        found += next(replies([other], 1))
+        yield "down: a Restart that was begun by then helps", (found, is_ended(server)), ([DEVICE, OK], True)
+        yield "down: it ends as one that was down", server.ran.wait(PATIENCE), 1
+    for file in (reads, writes, fills):
+        os.close(file)
 
 
 def is_ended(server):

@@ -4,7 +4,7 @@
    half of the bytes, and a + behind the count for all from that one on, a / for each whose count is a multiple, and a - with a second
    count for all from one to the other. The name 'over' stands for each pwrite of more bytes than the number says, and 'slow' for an
    fdatasync that takes so many milliseconds longer as the error says; so does a chmod of its name. By their names a thread isn't made, and
-   a wait for events fails, of which it tells then alone. Where ONLY has a file's name, pwrites of other files aren't counted.
+   a wait for events fails, of which it tells then alone, as of each time that a thread lets others run. Where ONLY has a file's name, pwrites of other files aren't counted.
 
    To the descriptor whose number stands in JOURNAL it writes what a crash needs to know: each pwrite and cut before it is made, with its
    bytes, and where each thread's sync begins and has ended. A kill leaves what was written, synced or not; from this one can make the files
@@ -29,7 +29,7 @@ extern void *dlsym(void *library, const char *call);
 extern void abort(void);
 
 enum { READ = 0, OPEN = 2, CLOSE = 3, PREAD = 17, PWRITE = 18, SENDTO = 44, FSYNC = 74, FDATASYNC = 75, FTRUNCATE = 77 };
-enum { CHMOD = 90, GETTID = 186, FADVISE = 221, EPOLL_WAIT = 232 };
+enum { SCHED_YIELD = 24, CHMOD = 90, GETTID = 186, FADVISE = 221, EPOLL_WAIT = 232 };
 
 struct piece {
     const void *bytes;
@@ -228,6 +228,12 @@ int epoll_wait(int events, void *come, int most, int milliseconds)
     if (fails("epoll_wait"))
         return (int)failed();
     return (int)told("epoll_wait", events, milliseconds, syscall(EPOLL_WAIT, events, come, most, milliseconds));
+}
+
+int sched_yield(void)
+{
+    int answer = (int)syscall(SCHED_YIELD);
+    return strncmp("epoll_wait", name, 16) == 0 ? (int)told("sched_yield", 0, 0, answer) : answer;
 }
 
 /* of the C library's, which is the next one behind this */

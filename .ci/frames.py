@@ -97,6 +97,11 @@ def free_port():
                 pass
 
 
+def timeless(*words):
+    """That option, where it is none of these, and where no workers serve, which tell no time."""
+    return () if "--tick" in words or "--workers" in words else TIMELESS
+
+
 def xid(text):
     number, *parts = text.split(":")
     first, second = (bytes.fromhex(part) for part in parts)

@@ -10,7 +10,7 @@ import time
 
 import frames
 from callers import World, calls
-from frames import LIMIT, TIMELESS, free_port, request
+from frames import LIMIT, free_port, request, timeless
 
 # How often, in a thousand calls, a client hangs up instead where it may connect anew, and how many do so at once.
 HANGS_UP, AT_ONCE = 15, 2
@@ -42,7 +42,7 @@ class Server:
             # appended to: a server that is started again goes on
             with open(os.path.join(room, "told"), "ab") as told:
                 self.ran = subprocess.Popen(
-                    [program, "serve", "--log", "l", "--name", "n", *where, *TIMELESS, *words], stdout=subprocess.PIPE, stderr=told, cwd=room,
+                    [program, "serve", "--log", "l", "--name", "n", *where, *timeless(*words), *words], stdout=subprocess.PIPE, stderr=told, cwd=room,
                     env={**os.environ, **(environment or {})}, pass_fds=handles,
                 )
             if not waits or self.ran.stdout.readline() == b"ready\n":

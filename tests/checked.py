@@ -66,7 +66,7 @@ def check(title, files, most=None):
     words, bound = ([], 1 << 30) if most is None else (["--log-bytes", str(most)], most)
     missing = [name for name, file in zip(FILES, files) if file is None]
     if missing:
-        return Check(title, files, words, 2, f"xarm: device fault: {missing[0]}: open: No such file or directory (os error 2)\n")
+        return Check(title, files, words, 2, f"xarm: cannot open {missing[0]}: No such file or directory (os error 2)\n")
     is_long = any(len(file) > bound for file in files)
     is_read = not is_long and "later" not in map(stands_as, files)
     current = logs.current_of(*files) if is_read else None

@@ -6,6 +6,7 @@ where its records end; what an opening leaves, from the records that it found: a
 """
 import hashlib
 import itertools
+import json
 import re
 from typing import NamedTuple
 
@@ -20,10 +21,11 @@ CLOSED, CLEARED = bytes(4), bytes(5)
 
 
 class Body(NamedTuple):
-    """A record's body, and what a scan prints of it."""
+    """A record's body, what a scan prints of it, and the members of its object behind its kind and its offset."""
 
     bytes: bytes
     line: str
+    members: dict = {}
 
 
 class Scan(NamedTuple):
@@ -65,28 +67,36 @@ def wrote(stamp, writes):
     return number(stamp, 8) + number(len(writes), 2) + b"".join(each)
 
 
+def stamped(stamp, writes):
+    """The members of stamped writes."""
+    each = [{"key": key.hex(), "value": None if value is None else value.hex()} for key, value in writes]
+    return {"timestamp": stamp, "writes": each}
+
+
 def opened(boot):
-    return Body(b"\1" + number(boot), f"opened {boot}")
+    return Body(b"\1" + number(boot), f"opened {boot}", {"boot": boot})
 
 
 def branch(kind, name, stamp, *writes):
     """Of a branch that is prepared, committed in one phase, or held."""
     kinds = {"prepared": b"\2", "committed": b"\3", "held": b"\10"}
-    return Body(kinds[kind] + xid(name) + wrote(stamp, writes), f"{kind} {name} {stamp} {len(writes)}")
+    content = kinds[kind] + xid(name) + wrote(stamp, writes)
+    return Body(content, f"{kind} {name} {stamp} {len(writes)}", {"xid": name, **stamped(stamp, writes)})
 
 
 def base(stamp, *writes):
-    return Body(b"\7" + wrote(stamp, writes), f"base {stamp} {len(writes)}")
+    return Body(b"\7" + wrote(stamp, writes), f"base {stamp} {len(writes)}", stamped(stamp, writes))
 
 
 def ended(kind, name, direction):
     """Of a branch that is completed, or completed by the operator: as that is logged, and as a snapshot has it."""
     kinds, directions = {"completed": b"\4", "decided": b"\5", "known": b"\11"}, {"commit": b"\1", "rollback": b"\2"}
-    return Body(kinds[kind] + xid(name) + directions[direction], f"{kind} {name} {direction}")
+    members = {"xid": name, "direction": direction}
+    return Body(kinds[kind] + xid(name) + directions[direction], f"{kind} {name} {direction}", members)
 
 
 def forgotten(name):
-    return Body(b"\6" + xid(name), f"forgotten {name}")
+    return Body(b"\6" + xid(name), f"forgotten {name}", {"xid": name})
 
 
 def other(*content):
@@ -152,6 +162,13 @@ def lines(*bodies):
     """What a scan prints of a log."""
     at = ends(bodies)
     return "".join(f"{offset} {body.line}\n" for offset, body in zip(at, bodies)) + f"end {at[-1]}\n"
+
+
+def objects(*bodies):
+    """The same by JSON objects."""
+    at = ends(bodies)
+    each = [{"record": body.line.split()[0], "offset": offset, **body.members} for offset, body in zip(at, bodies)]
+    return "".join(f"{json.dumps(it, separators=(',', ':'))}\n" for it in [*each, {"end": at[-1]}])
 
 
 # What is read of two files, by the rules alone.
@@ -777,7 +794,7 @@ def cut_openings():
 # went on in the second file; there 1:aa:05 was prepared, 1:aa:06 committed in one phase, 1:aa:02 completed, 1:aa:07 decided, and 1:aa:04
 # forgotten. Each wrote a byte under a key, its number under 61 and so on.
 KEYS = {count: (bytes([0x60 + count]), bytes([count])) for count in range(1, 8)}
-OLD_FIRST = old_log(
+OLD_BODIES = (
     OPENED,
     branch("prepared", "1:aa:01", BOOT + 1, KEYS[1]),
     ended("completed", "1:aa:01", "commit"),
@@ -787,7 +804,7 @@ OLD_FIRST = old_log(
     branch("prepared", "1:aa:04", BOOT + 4, KEYS[4]),
     ended("decided", "1:aa:04", "rollback"),
 )
-OLD_SECOND = old_log(
+OLD_SNAPSHOT = (
     AGAIN,
     base(BOOT + 1, KEYS[1]),
     base(BOOT + 3, KEYS[3]),
@@ -801,6 +818,7 @@ OLD_SECOND = old_log(
     ended("decided", "1:aa:07", "commit"),
     forgotten("1:aa:04"),
 )
+OLD_FIRST, OLD_SECOND = old_log(*OLD_BODIES), old_log(*OLD_SNAPSHOT)
 OLD_LINES = (
     """8 opened 1
 49 prepared 1:aa:01 4294967297 1

@@ -60,7 +60,8 @@ final class Server implements AutoCloseable {
     }
 
     void start() throws IOException {
-        List<String> words = new ArrayList<>(List.of(program, "serve", "--log", log.toString(), "--name", name, "--tick", "0"));
+        List<String> words = new ArrayList<>(List.of(program, "serve", "--log", log.toString(), "--name", name));
+        words.addAll(options.contains("--workers") ? List.of() : List.of("--tick", "0")); // workers tell no time
         words.addAll(options.contains("--socket") ? List.of() : List.of("--port", Integer.toString(port)));
         words.addAll(options);
         process = new ProcessBuilder(words)
