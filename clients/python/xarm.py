@@ -232,12 +232,20 @@ _OPERATIONS.update(put=11, delete=12, decide=13, doom=14, restart=15, timeout=16
 _BODIES = {"start": (1,), "get": (2, 3), "recover": (4,), "tick": (1,), "trim": (1,), "branches": (5,), "status": (6,)}
 
 
+def _detail(number: int, code: int) -> Detail:
+    """The detail of this number. One that a later server has is taken for what leaves as much open."""
+    if number < len(Detail):
+        return Detail(number)
+    return Detail.Device if code == Code.XAER_RMFAIL else Detail.Nothing
+
+
 def _read(operation: str, content: bytes) -> _Reply:
     """The reply to a request; ValueError if it is none."""
     reading = _Reading(content)
     if reading.take(1) != b"\1":
         raise ValueError("its version")
-    code, detail, place, kind = reading.number(4, True), Detail(reading.number(1)), reading.number(8), reading.number(1)
+    code = reading.number(4, True)
+    detail, place, kind = _detail(reading.number(1), code), reading.number(8), reading.number(1)
     body = reading.body(kind)
     is_success = code == 0 or operation == "recover" and code >= 0
     if reading.rest or kind not in (_BODIES.get(operation, (0,)) if is_success else (0,)):

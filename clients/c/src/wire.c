@@ -157,12 +157,20 @@ static bool read_body(const unsigned char *body, size_t length, struct reply *to
     return at == length;
 }
 
+/* The detail of this number. One that a later server has is taken for what leaves as much open. */
+static int detail_of(int number, int code)
+{
+    if (number <= DETAIL_LOG_FULL)
+        return number;
+    return code == XAER_RMFAIL ? DETAIL_DEVICE : DETAIL_NOTHING;
+}
+
 bool reply_read(const unsigned char *content, size_t length, struct reply *to)
 {
-    if (length < LEAST_REPLY || content[0] != VERSION || content[5] > DETAIL_LOG_FULL)
+    if (length < LEAST_REPLY || content[0] != VERSION)
         return false;
     to->code = read_signed(content + 1);
-    to->detail = content[5];
+    to->detail = detail_of(content[5], to->code);
     to->place = read_number(content + 6, 8);
     to->kind = content[14];
     return read_body(content + LEAST_REPLY, length - LEAST_REPLY, to);

@@ -93,6 +93,22 @@ static void details(void)
     HOLDS(strstr(xarm_why(), "xa_commit at 127.0.0.1:") && strstr(xarm_why(), "answered 4, Device"));
 }
 
+/* Details that a later server may have. */
+static void later_details(void)
+{
+    static const int later[] = {8, 127, 128, 255};
+    for (size_t at = 0; at < sizeof later / sizeof later[0]; at++) {
+        answer(XA_OK, later[at]);
+        CODE(XA_OK, put(RMID, "k", "v"));
+        answer(XAER_INVAL, later[at]);
+        CODE(XAER_INVAL, put(RMID, "k", "v"));
+        HOLDS(strstr(xarm_why(), "answered -5, Nothing"));
+        answer(XAER_RMFAIL, later[at]);
+        CODE(XAER_RMFAIL, put(RMID, "k", "v"));
+        HOLDS(strstr(xarm_why(), "answered -7, Device"));
+    }
+}
+
 /* A reply, byte by byte, that is changed in one place. The connection breaks, and the next call has a new one. */
 static void refused(const unsigned char *bytes, size_t length, const char *what, int (*ask)(void))
 {
@@ -147,7 +163,6 @@ static void no_replies(void)
         {"a length that no reply has", 19, {0, 0, 0xff, 0xff, 1, 0, 0, 0, 0, 0, 0x7f, 0, 0, 0, 0, 0, 0, 0, 0}},
         {"version 0", 19, {0, 0, 0, 15, 0, 0, 0, 0, 0, 0, 0x7f, 0, 0, 0, 0, 0, 0, 0, 0}},
         {"version 2", 19, {0, 0, 0, 15, 2, 0, 0, 0, 0, 0, 0x7f, 0, 0, 0, 0, 0, 0, 0, 0}},
-        {"detail 8", 19, {REPLY(0, 8, 0)}},
         {"code 1", 19, {REPLY(1, 0, 0)}},
         {"code 10", 19, {REPLY(10, 0, 0)}},
         {"code 99", 19, {REPLY(99, 0, 0)}},
@@ -421,6 +436,7 @@ void reply_tests(void)
     test("a server that isn't one answers", begin);
     test("each code of each call is the entry's", each_code);
     test("Busy, Late and Limit have codes of their own, and xarm_why tells the others", details);
+    test("a detail of a later server is taken for Nothing, or for Device with XAER_RMFAIL", later_details);
     test("what isn't a reply breaks the connection, and the next call has a new one", no_replies);
     test("a body that isn't the request's breaks it too", no_bodies);
     test("a place that doesn't ascend breaks it too", places);

@@ -6,7 +6,7 @@ import time
 import xarm
 from expect import equal, is_lost, name, raises, refuses, value, works
 from servers import LIMIT, NEVER, Fake, Relay, Server, reply
-from xarm import Code, Flags
+from xarm import Code, Detail, Flags
 
 NUMBER = b"\1" + bytes(8)
 STATUS = b"\6" + bytes(80)
@@ -33,6 +33,7 @@ def tests(program, room):
             broken.hang_up_elsewhere,
             broken.thrown,
             broken.no_reply,
+            broken.later,
             broken.places,
             broken.silent,
             broken.closed,
@@ -245,7 +246,6 @@ class Broken:
         for content in (
             b"",
             b"\2" + well[1:],
-            well[:5] + b"\x08" + well[6:],
             well[:-1] + b"\7",
             well + b"\0",
             reply(0, body=NUMBER)(1),
@@ -261,6 +261,19 @@ class Broken:
         fake.put(reply(1, body=b"\4\0\0"))
         with is_lost():
             one.xa_recover()
+        fake.close()
+
+    def later(self):
+        """a detail of a later server is taken for Nothing, or for Device with XAER_RMFAIL"""
+        fake = Fake()
+        one = fake.connection()
+        for number in (8, 127, 128, 255):
+            fake.put(reply(0, number), reply(-5, number), reply(-7, number))
+            one.xa_forget(name("k"))
+            with refuses(Code.XAER_INVAL):
+                one.xa_forget(name("k"))
+            with raises(xarm.OperationalError, Code.XAER_RMFAIL, Detail.Device):
+                one.xa_forget(name("k"))
         fake.close()
 
     def places(self):

@@ -1,5 +1,7 @@
 package xarm.client;
 
+import javax.transaction.xa.XAException;
+
 /** What a refusal is about, beside its code. The order is that of the numbers in a reply. */
 public enum Detail {
     /** Nothing beside the code. */
@@ -17,5 +19,13 @@ public enum Detail {
     /** The server read no request. */
     FRAME,
     /** The log has no room for the branch's record; the branch is rolled back. */
-    LOG_FULL
+    LOG_FULL;
+
+    /** The detail of this number. One that a later server has is taken for what leaves as much open: DEVICE with XAER_RMFAIL, else NOTHING. */
+    static Detail of(int number, int code) {
+        if (number < values().length) {
+            return values()[number];
+        }
+        return code == XAException.XAER_RMFAIL ? DEVICE : NOTHING;
+    }
 }

@@ -30,9 +30,7 @@ final class Reply {
     private Reply(ByteBuffer content) {
         require(content.get() == VERSION, "its version");
         code = content.getInt();
-        int number = content.get();
-        require(0 <= number && number < Detail.values().length, "its detail");
-        detail = Detail.values()[number];
+        detail = Detail.of(Byte.toUnsignedInt(content.get()), code);
         place = content.getLong();
         kind = content.get();
         readBody(content);

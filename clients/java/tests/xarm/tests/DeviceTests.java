@@ -1,5 +1,6 @@
 package xarm.tests;
 
+import static javax.transaction.xa.XAException.XAER_INVAL;
 import static javax.transaction.xa.XAException.XAER_NOTA;
 import static javax.transaction.xa.XAException.XAER_PROTO;
 import static javax.transaction.xa.XAException.XAER_RMERR;
@@ -99,6 +100,15 @@ final class DeviceTests implements Suite {
             fake.answer(XAER_RMFAIL, detail);
             refusal(XAER_RMFAIL, detail, () -> connection.getRecords().put(text("k"), text("v")));
         }
+        // those that a later server may have
+        for (int later : new int[] {8, 127, 128, 255}) {
+            fake.answer(changed(Fake.reply(XAER_RMFAIL, Detail.NOTHING, 0, NO_BODY), 9, later));
+            refusal(XAER_RMFAIL, Detail.DEVICE, () -> connection.getRecords().put(text("k"), text("v")));
+            fake.answer(changed(Fake.reply(XAER_INVAL, Detail.NOTHING, 0, NO_BODY), 9, later));
+            refusal(XAER_INVAL, Detail.NOTHING, () -> connection.getRecords().put(text("k"), text("v")));
+            fake.answer(changed(Fake.reply(XA_OK, Detail.NOTHING, 0, NO_BODY), 9, later));
+            connection.getRecords().put(text("k"), text("v"));
+        }
     }
 
     private void retry() throws Exception {
@@ -144,7 +154,6 @@ final class DeviceTests implements Suite {
         byte[] well = Fake.reply(XA_OK, Detail.NOTHING, 0, NO_BODY);
         List<byte[]> faults = List.of(
                 changed(well, 4, 2), // the version
-                changed(well, 9, 8), // the detail
                 changed(well, 18, 5), // the kind
                 Fake.reply(XA_OK, Detail.NOTHING, 0, new byte[1]), // a byte behind it
                 Fake.reply(XA_OK, Detail.NOTHING, 1, new byte[8]), // a number, where none is answered
