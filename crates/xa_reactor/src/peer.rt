@@ -1,9 +1,11 @@
-ghost use Rattle.std.specs.Prelude.{◌≡◌, ◌-◌, ◌↔◌, IsTrue, not, true, if◌then◌else◌};
+ghost use Rattle.std.specs.Prelude.{◌≡◌, ◌-◌, ◌↔◌, IsTrue, not, false, true, if◌then◌else◌};
 ghost use Rattle.xa_connection.specs.Calls.{Asks, IsAsked, Turns, new_connection};
 ghost use Rattle.xa_connection.specs.declared.answering.Answering.{Answering};
-ghost use Rattle.xa_reactor.specs.{Asking.IsAnswered, Opening.Opens, Timing.IsRead, Timing.after_wait};
+ghost use Rattle.xa_connection.specs.declared.asked.Asked.TheVariants.{Shutdown};
+ghost use Rattle.xa_reactor.specs.{Asking.IsAnswered, Opening.Opens, Opening.OpensTo, Timing.IsRead, Timing.after_wait};
+ghost use Rattle.xa_reactor.specs.Peers.{noticed};
 ghost use Rattle.xa_reactor.specs.Since.{FedAt, OwesFrame, SentAt, TakenAt};
-ghost use Rattle.xa_reactor.specs.Turning.{CarriesOn, HasAnswered, HasFed, HasSent, HasTaken};
+ghost use Rattle.xa_reactor.specs.Turning.{CarriesOn, HasAnswered, HasFed, HasSent, HasTaken, HoldsMore, StepsTo};
 
 use crate::ask::Ask;
 use crate::clock::LoopClock;
@@ -64,6 +66,7 @@ impl Peer {
     pub(crate) fn new(alloc: Global, socket: Socket, session: u64, now: u64) -> Peer
         ensures new { (result.session ≡ session) × (result.connection ≡ new_connection) }
         ensures since { result.since ≡ now }
+        ensures waits { (result.is_queued ≡ false) × (result.reads ≡ false) × (result.writes ≡ false) × (result.is_ending ≡ false) }
     {
         Peer {
             socket,
@@ -79,9 +82,8 @@ impl Peer {
 
     /// An event told of the socket. Whether the peer is to be put into the queue of turns, where it isn't yet.
     pub(crate) fn notice(&mut self, event: &Event) -> bool
-        ensures same { (self.new.session ≡ self.old.session) × (self.new.connection ≡ self.old.connection) }
-        ensures since { self.new.since ≡ self.old.since }
-        ensures queued { (result ≡ not self.old.is_queued) × (self.new.is_queued ≡ true) }
+        ensures queued { result ≡ not self.old.is_queued }
+        ensures noticed { self.new ≡ noticed event.now self.old }
     {
         if event.is_read_closed() || event.is_error() {
             self.is_ending = true;
@@ -109,6 +111,7 @@ impl Peer {
         ensures session { self.new.session ≡ self.old.session }
         ensures answers { HasAnswered (D.called self.old.session) door.old door.new }
         ensures carries { CarriesOn (D.called self.old.session) self.old.connection door.old self.new.connection door.new }
+        ensures steps { StepsTo result self.new }
     {
         if !self.take_turn(rt, clock, scratch) {
             return Step::Ends;
@@ -133,6 +136,7 @@ impl Peer {
     ) -> Opened
         ensures session { self.new.session ≡ self.old.session }
         ensures opens { Opens (D.called self.old.session) self.old door.old key result self.new door.new }
+        ensures steps { OpensTo result self.new }
     {
         if !self.take_turn(rt, clock, scratch) {
             return Opened::Over(Step::Ends);
@@ -170,6 +174,7 @@ impl Peer {
         requires { IsAnswered ask }
         ensures session { self.new.session ≡ self.old.session }
         ensures sent { HasSent ask.connection self.new.connection }
+        ensures steps { StepsTo result self.new }
         ensures since { SentAt clock.new.now ask.connection self.old.since self.new.connection self.new.since }
         ensures read { IsRead clock.new }
     {
@@ -191,6 +196,7 @@ impl Peer {
         ensures turns { (answering : Answering)
             × Turns (D.called self.old.session) self.old.connection door.old answering self.new.connection door.new }
         ensures since { self.new.since ≡ self.old.since }
+        ensures queued { self.new.is_queued ≡ self.old.is_queued }
         ensures waited { clock.new ≡ after_wait clock.old }
     {
         let _answering = self.connection.answer_asked(door, self.session, asked);
@@ -202,6 +208,7 @@ impl Peer {
     fn take_turn<R: Clock>(&mut self, rt: &R, clock: &mut LoopClock, scratch: &mut [u8]) -> bool
         ensures session { self.new.session ≡ self.old.session }
         ensures taken { HasTaken self.old.connection self.new.connection }
+        ensures queued { self.new.is_queued ≡ false }
         ensures since { TakenAt clock.new.now self.old.connection self.old.since self.new.connection self.new.since }
         ensures read { IsRead clock.new }
     {
@@ -225,6 +232,7 @@ impl Peer {
         ensures sent { HasSent self.old.connection self.new.connection }
         ensures since { SentAt clock.new.now self.old.connection self.old.since self.new.connection self.new.since }
         ensures read { IsRead clock.new }
+        ensures steps { self.old.is_queued ≡ false → StepsTo result self.new }
     {
         let now = clock.now(rt);
         if !self.flush(now) || self.connection.is_done() {
@@ -250,6 +258,7 @@ impl Peer {
         ensures session { self.new.session ≡ self.old.session }
         ensures sent { HasSent self.old.connection self.new.connection }
         ensures since { SentAt now self.old.connection self.old.since self.new.connection self.new.since }
+        ensures queued { self.new.is_queued ≡ self.old.is_queued }
     {
         if self.connection.unsent().is_empty() {
             return true;
@@ -272,6 +281,7 @@ impl Peer {
         ensures session { self.new.session ≡ self.old.session }
         ensures fed { HasFed self.old.connection self.new.connection }
         ensures since { FedAt now self.old.connection self.old.since self.new.connection self.new.since }
+        ensures queued { self.new.is_queued ≡ self.old.is_queued }
     {
         let most = self.connection.room().min(scratch.len());
         if most == 0 || !self.reads {
@@ -318,13 +328,17 @@ impl Peer {
     }
 
     // Whether a whole frame came in that isn't answered, or a length that is too great, where nothing is to be sent.
-    fn is_asked(&self) -> bool {
+    fn is_asked(&self) -> bool
+        ensures { IsTrue result ↔ HoldsMore self.now.connection }
+    {
         self.connection.room() < MOST_INPUT && !self.connection.is_inside_frame()
     }
 }
 
 // Whether the server is asked to end.
-fn asks_to_end(asked: &Asked) -> bool {
+fn asks_to_end(asked: &Asked) -> bool
+    ensures { IsTrue result ↔ (asked.now ≡ Shutdown) }
+{
     matches!(asked, Asked::Shutdown)
 }
 

@@ -1,5 +1,5 @@
 //! One loop.
-ghost use Rattle.std.specs.Prelude.{◌≡◌, ◌≤◌, true, length, IfOk, IsTrue, OnOk};
+ghost use Rattle.std.specs.Prelude.{◌≡◌, ◌≤◌, ◌&&◌, false, true, nat_le, nat_lt, length, IfOk, IsTrue, OnOk};
 ghost use Rattle.mio.specs.Events.{capacity, items};
 ghost use Rattle.xa_reactor.specs.Timing.{after_wait};
 ghost use Rattle.xa_reactor.specs.Believed.Tending.{HasTended, TendsPosting, sessions_of};
@@ -98,7 +98,9 @@ impl Loop {
         common: &Common<'_>,
         index: usize,
         poll: Poll,
-    ) -> io::Result<Loop> {
+    ) -> io::Result<Loop>
+        ensures { IfOk result (λ this. (this.tick ≡ 0) × (this.index ≡ index) × (this.had_few ≡ false)) }
+    {
         let acceptor = begin(rt, common, index, &poll)?;
         Ok(Loop {
             index,
@@ -152,7 +154,10 @@ impl Loop {
 
     // Whether a look for connections that are overdue is due, and the last wait gave all events that there were: what came in
     // on a connection is read before it is looked at.
-    fn is_look(&mut self) -> bool {
+    fn is_look(&mut self) -> bool
+        ensures look { result ≡ (nat_lt (length (items self.old.events)) 256 && nat_le self.old.clock.looks self.old.clock.now) }
+        ensures same { self.new ≡ record self.old { clock = self.new.clock } }
+    {
         self.events.iter().len() < MOST_EVENTS && self.clock.is_look()
     }
 
