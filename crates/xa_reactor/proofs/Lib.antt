@@ -7,3 +7,4 @@ pub mod Each
 pub mod Asking
 pub mod Telling
 pub mod Noticed
+pub mod Looking

@@ -1,9 +1,10 @@
 -- How many connections are accepted, and for how long a loop waits that accepts.
-use Rattle.std.specs.Prelude.{ℕ, ◌≡◌, ◌+◌, ◌-◌, ◌^◌, ◌<◌, ◌≤◌, max, min, zero, suc, Bool, true, false, not, ◌&&◌, ◌||◌, nat_lt, Option, Some, None, IsTrue}
+use Rattle.std.specs.Prelude.{ℕ, ◌≡◌, ◌+◌, ◌-◌, ◌^◌, ◌<◌, ◌≤◌, max, min, zero, suc, Bool, true, false, not, ◌&&◌, ◌||◌, nat_lt, nat_le, ◌==◌, is_some, if◌then◌else◌, Option, Some, None, IsTrue}
 use Rattle.std.specs.VecDeque.{deque_len}
 use Rattle.slab.specs.Slab.{slab_len}
 use Rattle.xa_reactor.specs.Timing.{wait_of}
 use Rattle.xa_reactor.specs.declared.acceptor.Acceptor.{Acceptor}
+use Rattle.xa_reactor.specs.declared.listener.Listener.{Listener}
 use Rattle.xa_reactor.specs.declared.peers.Peers.{Peers}
 
 -- as many as were asked for, or any number where that is 0
@@ -37,3 +38,39 @@ after_one false most turn a = record a { refused = min (a.refused + 1) (2 ^ 64 -
 abbrev pub KeepsFew : Option Acceptor → Option Acceptor → Type 0
 KeepsFew None after = after ≡ None
 KeepsFew (Some a) after = (b : Acceptor) × (after ≡ Some b) × (a.accepted ≤ a.most → b.accepted ≤ a.most)
+
+-- ---- what is told
+
+-- none was accepted, and some may wait
+abbrev pub new_acceptor : Listener → ℕ → Acceptor
+new_acceptor listener connections =
+    record {
+      listener = listener;
+      accepted = 0;
+      most = most_of connections;
+      turn = 0;
+      waits = true;
+      resumes = 0;
+      refused = 0;
+      tells = 0;
+      full = 0;
+      failed = None;
+      tells_failed = 0;
+    }
+
+-- why an accept failed is told where that wasn't within a minute
+abbrev pub after_failure : ℕ → Acceptor → Acceptor
+after_failure now a = if nat_le a.tells_failed now then record a { tells_failed = min (now + 60000) (2 ^ 64 - 1) } else a
+
+-- if one failed that wasn't told, it is told or left out
+abbrev pub after_failures : ℕ → Acceptor → Acceptor
+after_failures now a = if is_some a.failed then after_failure now (record a { failed = None }) else a
+
+-- how many were refused, if any were and that wasn't told within a second
+abbrev pub after_refusals : ℕ → Acceptor → Acceptor
+after_refusals now a =
+    if (a.refused == 0) || nat_lt now a.tells then a
+    else record a { refused = 0; full = 0; tells = min (now + 1000) (2 ^ 64 - 1) }
+
+abbrev pub after_telling : ℕ → Acceptor → Acceptor
+after_telling now a = after_refusals now (after_failures now a)

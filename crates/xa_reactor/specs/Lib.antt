@@ -11,6 +11,7 @@ pub mod Aside
 pub mod Ticks
 pub mod Asking
 pub mod Opening
+pub mod Noted
 pub mod Together
 pub mod Peers
 pub mod Reception

@@ -1,6 +1,6 @@
 -- Since when a connection is quiet.
-use Rattle.std.specs.Prelude.{ℕ, ◌≡◌, ◌⊎◌, ◌↔◌, ◌<◌, ◌≤◌, ◌-◌, Bool, IsTrue, List, [], drop, length, MatchBool, MatchOption, None}
-use Rattle.slab.specs.Slab.{Slab, get}
+use Rattle.std.specs.Prelude.{ℕ, ◌≡◌, ◌⊎◌, ◌↔◌, ◌<◌, ◌≤◌, ◌-◌, Bool, IsTrue, List, [], drop, length, MatchBool, MatchOption, Option, None, Some}
+use Rattle.slab.specs.Slab.{Slab, Updates, get}
 use Rattle.xa_connection.specs.declared.connection.Connection.{Connection}
 use Rattle.xa_connection.specs.Calls.{Feeds}
 use Rattle.xa_connection.specs.Fronts.{IsInsideFrame}
@@ -41,8 +41,18 @@ WasLooked associates settings now p ends =
     (is_inside : Bool) × (IsTrue is_inside ↔ OwesFrame p.connection)
     × IsToEnd (associates p.session) is_inside (now - p.since) settings ends
 
--- so was the one under a key, if there is one
+-- so was the one under a key, if there is one, and no other one
 abbrev pub Looks : (ℕ → Bool → Type 0) → Settings → ℕ → ℕ → Slab Peer → Slab Peer → Type 0
 Looks associates settings now key old new =
     MatchOption (get old key) (new ≡ old)
-    (λ p. (ends : Bool) × WasLooked associates settings now p ends × MatchBool ends (get new key ≡ None) (new ≡ old))
+    (λ p. (ends : Bool) × WasLooked associates settings now p ends × MatchBool ends (Updates old new key None) (new ≡ old))
+
+-- by what is answered at some door, before and after
+abbrev pub IsLooked : {D : Type 0} → (D → ℕ → Bool → Type 0) → Settings → ℕ → Option Peer → Option Peer → Type 0
+IsLooked associates settings now None after = after ≡ None
+IsLooked {D} associates settings now (Some p) after =
+    (d : D) × (ends : Bool) × WasLooked (associates d) settings now p ends × MatchBool ends (after ≡ None) (after ≡ Some p)
+
+-- so was each connection
+abbrev pub LooksAll : {D : Type 0} → (D → ℕ → Bool → Type 0) → Settings → ℕ → Slab Peer → Slab Peer → Type 0
+LooksAll associates settings now old new = (key : ℕ) → IsLooked associates settings now (get old key) (get new key)

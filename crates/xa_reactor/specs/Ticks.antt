@@ -1,5 +1,5 @@
 -- When the loops tell the manager the time.
-use Rattle.std.specs.Prelude.{ℕ, ◌≡◌, ◌⊎◌, ◌-◌, Bool, true, false, ◌||◌, nat_le, nat_lt, List, Option, Some, None, Result}
+use Rattle.std.specs.Prelude.{ℕ, ◌≡◌, ◌⊎◌, ◌+◌, ◌-◌, ◌*◌, ◌^◌, max, min, Bool, true, false, ◌||◌, nat_le, nat_lt, List, Option, Some, None, Result}
 use Rattle.xa_assoc.specs.declared.fault.ConnectFault.{ConnectFault}
 use Rattle.xa_frame.specs.declared.reply.Reply.{Reply}
 use Rattle.xa_frame.specs.declared.question.Question.{Question}
@@ -33,6 +33,10 @@ abbrev pub after_visit : Ticks → ℕ → Visited → Ticks
 after_visit ticks moment (Done marked) = after_tick moment
 after_visit ticks moment (Refused reason) = refused_by ticks
 after_visit ticks moment Down = ticks
+
+-- so many seconds later, by a loop's clock, in milliseconds; not 0, which is the first time
+abbrev pub next_tick : ℕ → ℕ → ℕ
+next_tick now seconds = max (min (now + min (seconds * 1000) (2 ^ 64 - 1)) (2 ^ 64 - 1)) 1
 
 -- by what a connect, a call of a session and its hang-up do at the door
 module _ {D : Type 0} (connected : D → Result ℕ ConnectFault → D → Type 0)

@@ -1,5 +1,5 @@
 -- The times of a loop, in milliseconds.
-use Rattle.std.specs.Prelude.{ℕ, ◌≡◌, ◌⊎◌, ◌*◌, ◌/◌, max, Bool, true, false, ◌&&◌, nat_lt, nat_le, Option, Some, None, if◌then◌else◌}
+use Rattle.std.specs.Prelude.{ℕ, ◌≡◌, ◌⊎◌, ◌+◌, ◌-◌, ◌*◌, ◌/◌, ◌^◌, max, min, Bool, true, false, ◌&&◌, nat_lt, nat_le, Option, Some, None, if◌then◌else◌}
 use Rattle.xa_reactor.specs.declared.clock.LoopClock.{LoopClock}
 use Rattle.xa_reactor.specs.declared.common.Settings.{Settings}
 use Rattle.xa_reactor.specs.declared.timing.TheConstants.{PAUSE, LOOK}
@@ -11,6 +11,14 @@ IsRead clock = clock.is_past ≡ false
 -- the clock of a loop that has waited
 abbrev pub after_wait : LoopClock → LoopClock
 after_wait clock = record clock { is_past = true }
+
+-- a look for connections that are overdue is due
+abbrev pub is_look : LoopClock → Bool
+is_look clock = nat_le clock.looks clock.now
+
+-- where one is, the next one is a second later
+abbrev pub looked : LoopClock → LoopClock
+looked clock = if is_look clock then record clock { looks = min (clock.now + 1000) (2 ^ 64 - 1) } else clock
 
 -- there is a limit, and it was quiet for as many seconds
 abbrev pub is_too_quiet : ℕ → ℕ → Bool

@@ -1,9 +1,9 @@
 -- What a round has lent.
-use Rattle.std.specs.Prelude.{ℕ, ◌≡◌, ◌+◌, ◌≤◌, Bool, ◌&&◌, nat_le, nat_lt, All, List, [], ◌∷◌}
+use Rattle.std.specs.Prelude.{ℕ, ◌≡◌, ◌+◌, ◌≤◌, Bool, ◌&&◌, nat_le, nat_lt, All, List, [], ◌∷◌, ◌++◌, length}
 use Rattle.std.specs.Vec.{vec_capacity, vec_len}
 use Rattle.std.specs.VecDeque.{deque_len}
 use Rattle.xa_reactor.specs.Asking.{IsLent}
-use Rattle.xa_reactor.specs.Believed.Tending.{Table}
+use Rattle.xa_reactor.specs.Believed.Tending.{Table, sessions_of}
 use Rattle.xa_reactor.specs.Peers.{GoesOn}
 use Rattle.xa_reactor.specs.declared.peer.Step.{Step}
 use Rattle.xa_reactor.specs.declared.peers.Peers.{Peers}
@@ -27,6 +27,15 @@ KeepsTurns t peers t' peers' = turns_in t' + deque_len peers'.queue ≡ turns_in
 abbrev pub GoesOnAll : Peers → List (ℕ × Step) → Peers → Type 0
 GoesOnAll old [] new = new ≡ old
 GoesOnAll old (turn ∷ rest) new = (between : Peers) × GoesOn old turn.0 turn.1 between × GoesOnAll between rest new
+
+-- What comes after each turn of a round came, those that were over before first; till then whose turn comes next stayed.
+pub record HaveGone (t : Together) (old new : Peers) : Type 0 where
+  pub between : Peers
+  pub later : List (ℕ × Step)
+  pub count : length later ≡ vec_len t.quick + vec_len t.waiting
+  pub same : sessions_of between.all ≡ sessions_of old.all
+  pub turns : between.queue ≡ old.queue
+  pub goes : GoesOnAll between (t.over.items ++ later) new
 
 -- nothing is lent any more, and each turn is over
 abbrev pub IsOver : Together → Type 0

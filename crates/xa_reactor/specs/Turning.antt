@@ -1,11 +1,16 @@
 -- What a turn of a connection does.
-use Rattle.std.specs.Prelude.{ℕ, ◌≡◌, ◌⊎◌, List, ◌++◌, drop}
+use Rattle.std.specs.Prelude.{ℕ, ◌≡◌, ◌⊎◌, ◌==◌, ◌<◌, false, true, not, List, ◌++◌, drop, length}
 use Rattle.xa_connection.specs.declared.connection.Connection.{Connection}
-use Rattle.xa_connection.specs.Calls.{Feeds}
+use Rattle.xa_connection.specs.declared.connection.TheConstants.{MOST_INPUT}
+use Rattle.xa_connection.specs.Calls.{Feeds, room_of}
 use Rattle.xa_connection.specs.Carries.{Carries}
+use Rattle.xa_connection.specs.Fronts.{IsInsideFrame}
 use Rattle.xa_desk.specs.Believed.Serving.{AnswersAll}
 use Rattle.xa_frame.specs.declared.reply.Reply.{Reply}
 use Rattle.xa_frame.specs.declared.question.Question.{Question}
+use Rattle.xa_reactor.specs.declared.peer.Peer.{Peer}
+use Rattle.xa_reactor.specs.declared.peer.Step.{Step}
+use Rattle.xa_reactor.specs.declared.peer.Step.TheVariants.{Waits, Goes, Ends, Stops}
 
 -- bytes that came in were taken, or none
 abbrev pub HasFed : Connection → Connection → Type 0
@@ -31,3 +36,23 @@ CarriesOn called c d c' e =
     → (asked : List (List ℕ)) × (answered : List Reply) × (more : List ℕ) × (gone : List ℕ)
     × AnswersAll called d asked answered e
     × Carries (contents ++ asked) (replies ++ answered) (fed ++ more) (sent ++ gone) c'
+
+-- ---- what comes behind a turn
+
+-- more came in than the beginning of a frame, or something is to be sent
+abbrev pub HoldsMore : Connection → Type 0
+HoldsMore c = (room_of c < MOST_INPUT) × (IsInsideFrame c.input → ⊥)
+
+-- Nothing is left to do of which no event tells: what is to be sent waits until the socket takes more; where nothing is, all
+-- that came in was read, and no whole frame is left.
+pub record Rests (p : Peer) : Type 0 where
+  pub sends : p.writes ≡ not (length p.connection.output == 0)
+  pub reads : p.writes ≡ false → p.reads ≡ false
+  pub asked : p.writes ≡ false → HoldsMore p.connection → ⊥
+
+-- a connection waits for events only where it rests, and isn't in the queue then; where there is more to do, it is
+abbrev pub StepsTo : Step → Peer → Type 0
+StepsTo Waits p = Rests p × (p.is_queued ≡ false)
+StepsTo Goes p = p.is_queued ≡ true
+StepsTo Ends p = Unit {0}
+StepsTo Stops p = Unit {0}

@@ -1,5 +1,5 @@
-ghost use Rattle.std.specs.Prelude.{◌≡◌, ◌⊎◌, ◌<◌, ◌≤◌, ℕ, IsTrue, false, true};
-ghost use Rattle.xa_reactor.specs.Accepting.{after_one, most_of};
+ghost use Rattle.std.specs.Prelude.{◌≡◌, ◌<◌, ◌≤◌, ℕ, IsTrue, false, true};
+ghost use Rattle.xa_reactor.specs.Accepting.{after_failure, after_one, after_telling, new_acceptor};
 ghost use Rattle.xa_reactor.specs.Admission.{may_admit, most_open};
 
 use crate::admission::Origin;
@@ -41,7 +41,7 @@ pub(crate) struct Acceptor {
 impl Acceptor {
     /// Of so many connections, 0 for any number.
     pub(crate) fn new(listener: Listener, connections: u64) -> Acceptor
-        ensures { (result.most ≡ most_of connections) × (result.accepted ≡ 0) }
+        ensures { result ≡ new_acceptor listener connections }
     {
         Acceptor {
             listener,
@@ -147,9 +147,7 @@ impl Acceptor {
 
     /// Tells why accepting pauses, at most once a minute, and how many were refused, at most once a second.
     pub(crate) fn tell<R: Eprint>(&mut self, rt: &R, now: u64)
-        ensures refused { (self.new.refused ≡ 0) ⊎ ((now < self.old.tells) × (self.new.refused ≡ self.old.refused)) }
-        ensures waits { (self.new.waits ≡ self.old.waits) × (self.new.accepted ≡ self.old.accepted) }
-        ensures most { self.new.most ≡ self.old.most }
+        ensures { self.new ≡ after_telling now self.old }
     {
         if let Some(error) = self.failed.take() {
             self.tell_failed(rt, now, &error);
@@ -166,7 +164,7 @@ impl Acceptor {
 
     // Tells why accepting pauses, unless that was told less than a minute ago.
     fn tell_failed<R: Eprint>(&mut self, rt: &R, now: u64, error: &io::Error)
-        ensures { self.new ≡ record self.old { tells_failed = self.new.tells_failed } }
+        ensures { self.new ≡ after_failure now self.old }
     {
         if now < self.tells_failed {
             return;

@@ -1,8 +1,8 @@
 //! What a loop does between its rounds.
-ghost use Rattle.std.specs.Prelude.{◌≡◌, IfOk, IfSome, IsTrue, false};
+ghost use Rattle.std.specs.Prelude.{◌≡◌, IfOk, IfSome, IsTrue, None, false, true};
 ghost use Rattle.slab.specs.Slab.{slab_len};
 ghost use Rattle.xa_reactor.specs.Accepting.{IsWait, KeepsFew, most_of};
-ghost use Rattle.xa_reactor.specs.{Aside.IsAside, Believed.Tending.Tends};
+ghost use Rattle.xa_reactor.specs.{Aside.IsAside, Believed.Tending.Tends, Since.LooksAll};
 ghost use Rattle.xa_reactor.specs.Believed.Tending.{sessions_of};
 ghost use Rattle.xa_reactor.specs.declared.trimming.TheConstants.{TRIM};
 
@@ -64,7 +64,9 @@ pub(crate) fn look<D: Reception>(
     door: &mut D,
     is_look: bool,
 )
-    ensures { Tends D.connected D.called D.left (sessions_of peers.old.all) door.old (sessions_of peers.new.all) door.new }
+    ensures tends { Tends D.connected D.called D.left (sessions_of peers.old.all) door.old (sessions_of peers.new.all) door.new }
+    ensures looks { is_look ≡ true → LooksAll D.associates common.now.settings now peers.old.all peers.new.all }
+    ensures none { is_look ≡ false → peers.new ≡ peers.old }
 {
     if is_look {
         peers.end_overdue(door, now, &common.settings);
@@ -134,7 +136,8 @@ pub(crate) fn stop<D: Reception, R: AllocGlobal + Clock + Eprint + Wait>(
     door: &mut D,
     now: u64,
 )
-    ensures { IsAside D.connected D.called D.left TRIM door.old door.new }
+    ensures aside { IsAside D.connected D.called D.left TRIM door.old door.new }
+    ensures none { peers.now.stopper ≡ None → door.new ≡ door.old }
 {
     if peers.is_to_stop() {
         common.stop();

@@ -1,5 +1,5 @@
-ghost use Rattle.std.specs.Prelude.{◌≡◌, false, true, IfOk, OnOk, nat_le};
-ghost use Rattle.xa_reactor.specs.Timing.{IsRead, after_wait};
+ghost use Rattle.std.specs.Prelude.{◌≡◌, false, true, IfOk, OnOk};
+ghost use Rattle.xa_reactor.specs.Timing.{IsRead, after_wait, is_look, looked};
 
 use crate::timing::LOOK;
 use std::io;
@@ -37,7 +37,8 @@ impl LoopClock {
     }
 
     pub(crate) fn read<R: Clock>(&mut self, rt: &R) -> io::Result<()>
-        ensures { OnOk result (IsRead self.new) }
+        ensures read { OnOk result (IsRead self.new) }
+        ensures looks { self.new.looks ≡ self.old.looks }
     {
         let elapsed = self.began.elapsed(rt)?;
         self.now = u64::try_from(elapsed.as_millis()).unwrap_or(u64::MAX);
@@ -50,6 +51,7 @@ impl LoopClock {
         ensures now { result ≡ self.new.now }
         ensures read { IsRead self.new }
         ensures same { IsRead self.old → self.new ≡ self.old }
+        ensures looks { self.new.looks ≡ self.old.looks }
     {
         if self.is_past {
             let _ = self.read(rt);
@@ -60,7 +62,8 @@ impl LoopClock {
 
     /// Whether a look is due, and then when the next one is.
     pub(crate) fn is_look(&mut self) -> bool
-        ensures { result ≡ nat_le self.old.looks self.old.now }
+        ensures look { result ≡ is_look self.old }
+        ensures next { self.new ≡ looked self.old }
     {
         if self.now < self.looks {
             return false;

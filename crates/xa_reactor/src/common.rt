@@ -62,7 +62,7 @@ impl<'a> Common<'a> {
         watch: &'a Watch,
         listener: Listener,
     ) -> Common<'a>
-        ensures { (result.settings ≡ settings) × (result.has_path ≡ has_path listener) }
+        ensures { (result.settings ≡ settings) × (result.has_path ≡ has_path listener) × (result.boxes ≡ boxes) }
     {
         let has_path = listener.has_path();
         Common {

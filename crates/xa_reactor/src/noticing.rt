@@ -1,7 +1,9 @@
 //! What events tell of the connections of a loop.
 ghost use Rattle.std.specs.Prelude.{◌≡◌, length};
 ghost use Rattle.mio.specs.Events.{items};
-ghost use Rattle.xa_reactor.specs.{Peers.HasRoom, Believed.Tending.Tends, Believed.Tending.sessions_of};
+ghost use Rattle.xa_reactor.specs.Believed.Tending.{Tends, sessions_of};
+ghost use Rattle.xa_reactor.specs.Peers.{HasRoom, NoticesAll, tells_of};
+ghost use Rattle.xa_reactor.specs.declared.noticing.TheConstants.{LISTENER};
 
 use crate::peers::Peers;
 use crate::reception::Reception;
@@ -15,7 +17,9 @@ pub(crate) const WAKER: Token = Token(usize::MAX - 1);
 /// Whether a connection waits to be accepted. The others that events tell of have a turn, or end where there is no memory
 /// for that.
 pub(crate) fn notice_all<D: Reception>(peers: &mut Peers, door: &mut D, events: &Events) -> bool
-    ensures { Tends D.connected D.called D.left (sessions_of peers.old.all) door.old (sessions_of peers.new.all) door.new }
+    ensures accepts { result ≡ tells_of LISTENER (items events.now) }
+    ensures noticed { NoticesAll peers.old (items events.now) peers.new }
+    ensures tends { Tends D.connected D.called D.left (sessions_of peers.old.all) door.old (sessions_of peers.new.all) door.new }
 {
     let mut accepts = false;
     for event in events.iter() {
@@ -28,7 +32,9 @@ pub(crate) fn notice_all<D: Reception>(peers: &mut Peers, door: &mut D, events: 
 /// The same while connections are lent: none ends, as there is room for their turns.
 pub(crate) fn note_all(peers: &mut Peers, events: &Events) -> bool
     requires { HasRoom peers.old (length (items events.now)) }
-    ensures { sessions_of peers.new.all ≡ sessions_of peers.old.all }
+    ensures accepts { result ≡ tells_of LISTENER (items events.now) }
+    ensures noticed { NoticesAll peers.old (items events.now) peers.new }
+    ensures same { sessions_of peers.new.all ≡ sessions_of peers.old.all }
 {
     let mut accepts = false;
     for event in events.iter() {

@@ -1,12 +1,15 @@
-ghost use Rattle.std.specs.Prelude.{◌≡◌, ◌-◌, ◌↔◌, IsTrue, not, true, if◌then◌else◌};
+ghost use Rattle.std.specs.Prelude.{◌≡◌, ◌-◌, ◌↔◌, IsTrue, None, not, false, true, if◌then◌else◌};
 ghost use Rattle.xa_connection.specs.Calls.{Asks, IsAsked, Turns, new_connection};
 ghost use Rattle.xa_connection.specs.declared.answering.Answering.{Answering};
-ghost use Rattle.xa_reactor.specs.{Asking.IsAnswered, Opening.Opens, Timing.IsRead, Timing.after_wait};
+ghost use Rattle.xa_connection.specs.declared.asked.Asked.TheVariants.{Shutdown};
+ghost use Rattle.xa_reactor.specs.{Asking.IsAnswered, Opening.Opens, Opening.OpensTo, Timing.IsRead, Timing.after_wait};
+ghost use Rattle.xa_reactor.specs.{Noted.IsNoted, Noted.order_of, Peers.noticed};
 ghost use Rattle.xa_reactor.specs.Since.{FedAt, OwesFrame, SentAt, TakenAt};
-ghost use Rattle.xa_reactor.specs.Turning.{CarriesOn, HasAnswered, HasFed, HasSent, HasTaken};
+ghost use Rattle.xa_reactor.specs.Turning.{CarriesOn, HasAnswered, HasFed, HasSent, HasTaken, HoldsMore, StepsTo};
 
 use crate::ask::Ask;
 use crate::clock::LoopClock;
+use crate::noted::{Noted, order_of};
 use crate::round::Round;
 use crate::socket::Socket;
 use mio::Token;
@@ -15,10 +18,10 @@ use std::alloc::Global;
 use std::io::ErrorKind;
 use std::mem;
 use std::rt::Clock;
-use xa_codes::XA_OK;
+use xa_codes::{Code, XA_OK};
 use xa_connection::{Asked, Connection, Front, MOST_INPUT};
 use xa_desk::Door;
-use xa_frame::{Question, Reply};
+use xa_frame::{Question, Reply, Request};
 
 /// A connection with its socket, and the session that is served on it.
 #[derive(Drop)]
@@ -36,6 +39,8 @@ pub(crate) struct Peer {
     is_queued: bool,
     /// When bytes last came or went, by the loop's clock.
     since: u64,
+    /// The order that it gave, while that isn't answered.
+    noted: Option<Noted>,
 }
 
 /// What comes behind a turn.
@@ -64,6 +69,8 @@ impl Peer {
     pub(crate) fn new(alloc: Global, socket: Socket, session: u64, now: u64) -> Peer
         ensures new { (result.session ≡ session) × (result.connection ≡ new_connection) }
         ensures since { result.since ≡ now }
+        ensures queued { (result.is_queued ≡ false) × (result.writes ≡ false) }
+        ensures reads { (result.reads ≡ false) × (result.is_ending ≡ false) × (result.noted ≡ None) }
     {
         Peer {
             socket,
@@ -74,14 +81,14 @@ impl Peer {
             writes: false,
             is_queued: false,
             since: now,
+            noted: None,
         }
     }
 
     /// An event told of the socket. Whether the peer is to be put into the queue of turns, where it isn't yet.
     pub(crate) fn notice(&mut self, event: &Event) -> bool
-        ensures same { (self.new.session ≡ self.old.session) × (self.new.connection ≡ self.old.connection) }
-        ensures since { self.new.since ≡ self.old.since }
-        ensures queued { (result ≡ not self.old.is_queued) × (self.new.is_queued ≡ true) }
+        ensures queued { result ≡ not self.old.is_queued }
+        ensures noticed { self.new ≡ noticed event.now self.old }
     {
         if event.is_read_closed() || event.is_error() {
             self.is_ending = true;
@@ -109,6 +116,7 @@ impl Peer {
         ensures session { self.new.session ≡ self.old.session }
         ensures answers { HasAnswered (D.called self.old.session) door.old door.new }
         ensures carries { CarriesOn (D.called self.old.session) self.old.connection door.old self.new.connection door.new }
+        ensures steps { StepsTo result self.new }
     {
         if !self.take_turn(rt, clock, scratch) {
             return Step::Ends;
@@ -133,6 +141,7 @@ impl Peer {
     ) -> Opened
         ensures session { self.new.session ≡ self.old.session }
         ensures opens { Opens (D.called self.old.session) self.old door.old key result self.new door.new }
+        ensures steps { OpensTo result self.new }
     {
         if !self.take_turn(rt, clock, scratch) {
             return Opened::Over(Step::Ends);
@@ -141,6 +150,7 @@ impl Peer {
             Asked::One(count, Question::Call(request)) => {
                 // no event opens another turn while the connection is lent
                 self.is_queued = true;
+                self.note(&request);
                 Opened::Asks(Ask {
                     key,
                     connection: mem::replace(&mut self.connection, Connection::new(round.alloc)),
@@ -160,7 +170,7 @@ impl Peer {
     }
 
     /// The rest of a turn whose request was answered: the connection is given back, and the reply sent.
-    pub(crate) fn close_turn<R: Clock>(
+    pub(crate) fn close_turn<R: Clock + Eprint>(
         &mut self,
         rt: &R,
         round: Round<'_>,
@@ -170,17 +180,42 @@ impl Peer {
         requires { IsAnswered ask }
         ensures session { self.new.session ≡ self.old.session }
         ensures sent { HasSent ask.connection self.new.connection }
+        ensures steps { StepsTo result self.new }
         ensures since { SentAt clock.new.now ask.connection self.old.since self.new.connection self.new.since }
         ensures read { IsRead clock.new }
     {
         let Ask {
             key,
             connection,
+            reply,
             ..
         } = ask;
         self.connection = connection;
         self.is_queued = false;
+        self.tell(rt, reply.code);
         self.send(rt, round, clock, key)
+    }
+
+    // Notes an order, which is told of once it is answered.
+    fn note(&mut self, request: &Request)
+        ensures same { self.new ≡ record self.old { noted = self.new.noted } }
+        ensures noted { IsNoted self.old.socket (order_of request.now) self.old.noted self.new.noted }
+    {
+        if let Some(order) = order_of(request) {
+            self.noted = Some(Noted {
+                source: self.socket.source(),
+                order,
+            });
+        }
+    }
+
+    // Tells of an order that was answered so.
+    fn tell<R: Eprint>(&mut self, rt: &R, code: Code)
+        ensures { self.new ≡ record self.old { noted = None } }
+    {
+        if let Some(Noted { source, order }) = self.noted.take() {
+            let _ = eprintln!(rt; "xarm: {source}: {order}: {code}");
+        }
     }
 
     // Answers what was asked, for which it may wait.
@@ -191,6 +226,7 @@ impl Peer {
         ensures turns { (answering : Answering)
             × Turns (D.called self.old.session) self.old.connection door.old answering self.new.connection door.new }
         ensures since { self.new.since ≡ self.old.since }
+        ensures queued { self.new.is_queued ≡ self.old.is_queued }
         ensures waited { clock.new ≡ after_wait clock.old }
     {
         let _answering = self.connection.answer_asked(door, self.session, asked);
@@ -202,6 +238,7 @@ impl Peer {
     fn take_turn<R: Clock>(&mut self, rt: &R, clock: &mut LoopClock, scratch: &mut [u8]) -> bool
         ensures session { self.new.session ≡ self.old.session }
         ensures taken { HasTaken self.old.connection self.new.connection }
+        ensures queued { self.new.is_queued ≡ false }
         ensures since { TakenAt clock.new.now self.old.connection self.old.since self.new.connection self.new.since }
         ensures read { IsRead clock.new }
     {
@@ -225,6 +262,7 @@ impl Peer {
         ensures sent { HasSent self.old.connection self.new.connection }
         ensures since { SentAt clock.new.now self.old.connection self.old.since self.new.connection self.new.since }
         ensures read { IsRead clock.new }
+        ensures steps { self.old.is_queued ≡ false → StepsTo result self.new }
     {
         let now = clock.now(rt);
         if !self.flush(now) || self.connection.is_done() {
@@ -250,6 +288,7 @@ impl Peer {
         ensures session { self.new.session ≡ self.old.session }
         ensures sent { HasSent self.old.connection self.new.connection }
         ensures since { SentAt now self.old.connection self.old.since self.new.connection self.new.since }
+        ensures queued { self.new.is_queued ≡ self.old.is_queued }
     {
         if self.connection.unsent().is_empty() {
             return true;
@@ -272,6 +311,7 @@ impl Peer {
         ensures session { self.new.session ≡ self.old.session }
         ensures fed { HasFed self.old.connection self.new.connection }
         ensures since { FedAt now self.old.connection self.old.since self.new.connection self.new.since }
+        ensures queued { self.new.is_queued ≡ self.old.is_queued }
     {
         let most = self.connection.room().min(scratch.len());
         if most == 0 || !self.reads {
@@ -318,13 +358,17 @@ impl Peer {
     }
 
     // Whether a whole frame came in that isn't answered, or a length that is too great, where nothing is to be sent.
-    fn is_asked(&self) -> bool {
+    fn is_asked(&self) -> bool
+        ensures { IsTrue result ↔ HoldsMore self.now.connection }
+    {
         self.connection.room() < MOST_INPUT && !self.connection.is_inside_frame()
     }
 }
 
 // Whether the server is asked to end.
-fn asks_to_end(asked: &Asked) -> bool {
+fn asks_to_end(asked: &Asked) -> bool
+    ensures { IsTrue result ↔ (asked.now ≡ Shutdown) }
+{
     matches!(asked, Asked::Shutdown)
 }
 

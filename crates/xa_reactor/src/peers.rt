@@ -1,11 +1,11 @@
-ghost use Rattle.std.specs.Prelude.{◌≡◌, ◌+◌, ◌++◌, ℕ, None, IsTrue, false, is_some, length, if◌then◌else◌, option_to_list};
-ghost use Rattle.std.specs.VecDeque.{deque_len};
-ghost use Rattle.mio.specs.Event.{event_token};
-ghost use Rattle.slab.specs.Slab.{get, slab_len};
-ghost use Rattle.xa_reactor.specs.{Asking.IsAnswered, Opening.OpensAt};
-ghost use Rattle.xa_reactor.specs.Peers.{GoesOn, HasRoom, IsNews, IsNoticed, turns_of};
+ghost use Rattle.std.specs.Prelude.{◌≡◌, ◌+◌, ◌++◌, [], ◌∷◌, ℕ, List, None, IsTrue, false, is_some, length, if◌then◌else◌, option_to_list};
+ghost use Rattle.std.specs.{Option.option_map, VecDeque.deque_len};
+ghost use Rattle.slab.specs.Slab.{Updates, get, slab_len};
+ghost use Rattle.xa_reactor.specs.{Asking.IsAnswered, Opening.IsOpened, Opening.OpensAt};
+ghost use Rattle.xa_reactor.specs.Peers.{GoesOn, HadTurn, HasParted, HasRoom, IsClosed, IsNews, IsNoticed, IsTurned, turns_of};
 ghost use Rattle.xa_reactor.specs.Believed.Tending.{Tends, nobody, sessions_of};
-ghost use Rattle.xa_reactor.specs.{Since.Looks, Timing.IsToEnd, Timing.after_wait};
+ghost use Rattle.xa_reactor.specs.{Since.Looks, Since.LooksAll, Timing.IsToEnd, Timing.after_wait};
+ghost use Rattle.xa_reactor.specs.declared.peer.Step.{Step};
 
 use crate::ask::Ask;
 use crate::clock::LoopClock;
@@ -35,7 +35,8 @@ pub(crate) struct Peers {
 
 impl Peers {
     pub(crate) fn new(alloc: Global) -> Peers
-        ensures { sessions_of result.all ≡ nobody }
+        ensures nobody { sessions_of result.all ≡ nobody }
+        ensures turns { (turns_of result ≡ []) × (result.stopper ≡ None) }
     {
         Peers {
             all: Slab::new(alloc),
@@ -69,6 +70,7 @@ impl Peers {
     ) -> bool
         ensures tends { Tends D.connected D.called D.left (sessions_of self.old.all) door.old (sessions_of self.new.all) door.new }
         ensures count { slab_len self.new.all ≡ (if result then slab_len self.old.all + 1 else slab_len self.old.all) }
+        ensures turns { (turns_of self.new ≡ turns_of self.old) × (self.new.stopper ≡ self.old.stopper) }
     {
         if self.queue.reserve(1).is_err() || self.all.reserve(1).is_err() {
             return false;
@@ -89,12 +91,11 @@ impl Peers {
 
     /// An event told of a connection, which has a turn.
     pub(crate) fn notice<D: Reception>(&mut self, door: &mut D, event: &Event)
-        ensures turn { IsNoticed self.old (event_token event.now).0 self.new }
+        ensures turn { IsNoticed self.old event.now self.new }
         ensures tends { Tends D.connected D.called D.left (sessions_of self.old.all) door.old (sessions_of self.new.all) door.new }
     {
-        let key = event.token().0;
-        if notice_in(&mut self.all, event, key) {
-            self.go_on(door, key, Step::Goes);
+        if notice_in(&mut self.all, event) {
+            self.go_on(door, event.token().0, Step::Goes);
         }
     }
 
@@ -102,18 +103,18 @@ impl Peers {
     pub(crate) fn note(&mut self, event: &Event)
         requires { HasRoom self.old 1 }
         ensures same { sessions_of self.new.all ≡ sessions_of self.old.all }
-        ensures turn { IsNoticed self.old (event_token event.now).0 self.new }
+        ensures turn { IsNoticed self.old event.now self.new }
         ensures room { (turns : ℕ) → HasRoom self.old (turns + 1) → HasRoom self.new turns }
     {
-        let key = event.token().0;
-        if notice_in(&mut self.all, event, key) {
-            self.queue.push_back_reserved(key);
+        if notice_in(&mut self.all, event) {
+            self.queue.push_back_reserved(event.token().0);
         }
     }
 
     /// Makes room for so many turns more. Whether there was memory for it.
     pub(crate) fn reserve(&mut self, turns: usize) -> bool
-        ensures same { self.new.all ≡ self.old.all }
+        ensures same { (self.new.all ≡ self.old.all) × (self.new.stopper ≡ self.old.stopper) }
+        ensures turns { turns_of self.new ≡ turns_of self.old }
         ensures room { IsTrue result → HasRoom self.new turns }
     {
         self.queue.reserve(turns).is_ok()
@@ -122,6 +123,7 @@ impl Peers {
     /// The key of the next connection that has a turn.
     pub(crate) fn next(&mut self) -> Option<usize>
         ensures same { self.new.all ≡ self.old.all }
+        ensures stopper { self.new.stopper ≡ self.old.stopper }
         ensures turns { turns_of self.old ≡ option_to_list result ++ turns_of self.new }
         ensures count { deque_len self.new.queue + length (option_to_list result) ≡ deque_len self.old.queue }
     {
@@ -139,8 +141,9 @@ impl Peers {
         key: usize,
     ) -> Opened
         ensures same { sessions_of self.new.all ≡ sessions_of self.old.all }
-        ensures turns { self.new.queue ≡ self.old.queue }
+        ensures turns { (self.new.queue ≡ self.old.queue) × (self.new.stopper ≡ self.old.stopper) }
         ensures opens { OpensAt D.connected D.called D.left (sessions_of self.old.all) door.old result door.new }
+        ensures opened { IsOpened self.old.all key result self.new.all }
     {
         match self.all.get_mut(key) {
             Some(peer) => peer.open_turn(rt, round, clock, door, scratch, key),
@@ -149,7 +152,7 @@ impl Peers {
     }
 
     /// Closes the turn of a connection, whose request was answered. What comes behind it.
-    pub(crate) fn close_turn<R: Clock>(
+    pub(crate) fn close_turn<R: Clock + Eprint>(
         &mut self,
         rt: &R,
         round: Round<'_>,
@@ -158,7 +161,8 @@ impl Peers {
     ) -> Step
         requires { IsAnswered ask }
         ensures same { sessions_of self.new.all ≡ sessions_of self.old.all }
-        ensures turns { self.new.queue ≡ self.old.queue }
+        ensures turns { (self.new.queue ≡ self.old.queue) × (self.new.stopper ≡ self.old.stopper) }
+        ensures closed { IsClosed self.old.all ask.key ask.connection result self.new.all }
     {
         match self.all.get_mut(ask.key) {
             Some(peer) => peer.close_turn(rt, round, clock, ask),
@@ -175,7 +179,10 @@ impl Peers {
         scratch: &mut [u8],
         door: &mut D,
     )
-        ensures { Tends D.connected D.called D.left (sessions_of self.old.all) door.old (sessions_of self.new.all) door.new }
+        ensures tends { Tends D.connected D.called D.left (sessions_of self.old.all) door.old (sessions_of self.new.all) door.new }
+        ensures none { turns_of self.old ≡ [] → (self.new.all ≡ self.old.all) × (door.new ≡ door.old) }
+        ensures no_turn { turns_of self.old ≡ [] → turns_of self.new ≡ [] }
+        ensures turn { (key : ℕ) (rest : List ℕ) → turns_of self.old ≡ key ∷ rest → IsTurned self.old key rest self.new }
     {
         let Some(key) = self.queue.pop_front() else {
             return;
@@ -203,7 +210,9 @@ impl Peers {
 
     /// Ends those that are overdue inside a frame, and those that were quiet for too long, by whether they have an association.
     pub(crate) fn end_overdue<D: Reception>(&mut self, door: &mut D, now: u64, settings: &Settings)
-        ensures { Tends D.connected D.called D.left (sessions_of self.old.all) door.old (sessions_of self.new.all) door.new }
+        ensures tends { Tends D.connected D.called D.left (sessions_of self.old.all) door.old (sessions_of self.new.all) door.new }
+        ensures looks { LooksAll D.associates settings.now now self.old.all self.new.all }
+        ensures turns { (self.new.queue ≡ self.old.queue) × (self.new.stopper ≡ self.old.stopper) }
     {
         for key in 0..self.all.capacity() {
             end_if_overdue(&mut self.all, door, key, now, settings);
@@ -219,7 +228,8 @@ impl Peers {
 
     /// Hangs the session of one that asked the server to end up; its socket stays open until it is dropped.
     pub(crate) fn part_stopper<D: Reception>(&mut self, door: &mut D) -> Option<Socket>
-        ensures { Tends D.connected D.called D.left (sessions_of self.old.all) door.old (sessions_of self.new.all) door.new }
+        ensures tends { Tends D.connected D.called D.left (sessions_of self.old.all) door.old (sessions_of self.new.all) door.new }
+        ensures parted { HasParted self.old result self.new }
     {
         part_in(&mut self.all, door, self.stopper?)
     }
@@ -244,12 +254,12 @@ fn connect<D: Reception>(clock: &mut LoopClock, door: &mut D) -> Result<u64, Con
     connected
 }
 
-// Whether the connection under this key is to be put into the queue.
-fn notice_in(all: &mut Slab<Peer>, event: &Event, key: usize) -> bool
+// Whether the connection that an event tells of is to be put into the queue.
+fn notice_in(all: &mut Slab<Peer>, event: &Event) -> bool
     ensures same { (other : ℕ) → sessions_of all.new other ≡ sessions_of all.old other }
-    ensures news { IsNews all.old key result }
+    ensures news { IsNews all.old event.now result all.new }
 {
-    match all.get_mut(key) {
+    match all.get_mut(event.token().0) {
         Some(peer) => peer.notice(event),
         None => false,
     }
@@ -264,7 +274,8 @@ fn turn_in<D: Reception, R: Clock>(
     door: &mut D,
     key: usize,
 ) -> Step
-    ensures { Tends D.connected D.called D.left (sessions_of all.old) door.old (sessions_of all.new) door.new }
+    ensures tends { Tends D.connected D.called D.left (sessions_of all.old) door.old (sessions_of all.new) door.new }
+    ensures turned { HadTurn all.old key result all.new }
 {
     match all.get_mut(key) {
         Some(peer) => peer.turn(rt, round, clock, door, scratch, key),
@@ -324,7 +335,9 @@ fn is_to_end<D: Reception>(
 
 // Hangs the session of the connection under this key up, if there is one, and gives its socket.
 fn part_in<D: Reception>(all: &mut Slab<Peer>, door: &mut D, key: usize) -> Option<Socket>
-    ensures { Tends D.connected D.called D.left (sessions_of all.old) door.old (sessions_of all.new) door.new }
+    ensures tends { Tends D.connected D.called D.left (sessions_of all.old) door.old (sessions_of all.new) door.new }
+    ensures updates { Updates all.old all.new key None }
+    ensures socket { result ≡ option_map (λ p. p.socket) (get all.old key) }
 {
     let peer = all.try_remove(key)?;
     door.hangup(peer.session);
@@ -334,7 +347,7 @@ fn part_in<D: Reception>(all: &mut Slab<Peer>, door: &mut D, key: usize) -> Opti
 // Ends the connection under this key, if there is one, and hangs its session up.
 fn end_in<D: Reception>(all: &mut Slab<Peer>, door: &mut D, key: usize)
     ensures tends { Tends D.connected D.called D.left (sessions_of all.old) door.old (sessions_of all.new) door.new }
-    ensures none { get all.new key ≡ None }
+    ensures updates { Updates all.old all.new key None }
     ensures others { (other : ℕ) → get all.old other ≡ None → get all.new other ≡ None }
     ensures slots { length all.new.slots ≡ length all.old.slots }
 {

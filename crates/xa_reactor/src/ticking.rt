@@ -1,6 +1,6 @@
 //! The loops tell the manager the time, by a session of its own.
-ghost use Rattle.std.specs.Prelude.{◌≡◌, ◌<◌};
-ghost use Rattle.xa_reactor.specs.{Ticks.IsTimed, Ticks.after_visit, Visited.visited_by};
+ghost use Rattle.std.specs.Prelude.{◌≡◌, ◌⊎◌, ◌<◌};
+ghost use Rattle.xa_reactor.specs.{Ticks.IsTimed, Ticks.after_visit, Ticks.next_tick, Visited.visited_by};
 
 use crate::common::Common;
 use crate::reception::Reception;
@@ -27,6 +27,7 @@ pub(crate) fn keep_time<D: Reception, R: AllocGlobal + Clock + Eprint + Wait>(
     ensures timed { IsTimed D.connected D.called D.left door.old door.new }
     ensures never { common.now.settings.tick_seconds ≡ 0 → door.new ≡ door.old }
     ensures early { now < due → door.new ≡ door.old }
+    ensures next { (result ≡ due) ⊎ (result ≡ next_tick now common.now.settings.tick_seconds) }
 {
     let seconds = common.settings.tick_seconds;
     if seconds == 0 || now < due || common.watch.is_down() {

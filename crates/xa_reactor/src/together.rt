@@ -1,10 +1,11 @@
 //! The turns of a round, with one call at the door for the requests that wait for no device, and another for the rest.
-ghost use Rattle.std.specs.Prelude.{ℕ, ◌≡◌, ◌+◌, ◌≤◌, [], All, IfSome};
+ghost use Rattle.std.specs.Prelude.{ℕ, ◌≡◌, ◌+◌, ◌++◌, ◌≤◌, List, [], All, IfSome};
 ghost use Rattle.std.specs.Vec.{vec_capacity, vec_len};
 ghost use Rattle.xa_reactor.specs.Asking.{IsAnswered, IsLent, IsOpen, IsTold, PutsAll, TurnedAll};
 ghost use Rattle.xa_reactor.specs.Believed.Tending.{Table, Tends, TendsPosting, sessions_of};
 ghost use Rattle.xa_reactor.specs.{Timing.after_wait, Together.HasLent, Together.IsOver, Together.may_gather, Together.may_grow};
-ghost use Rattle.xa_reactor.specs.Together.{GoesOnAll, KeepsTurns, turns_in};
+ghost use Rattle.xa_reactor.specs.declared.peer.Step.{Step};
+ghost use Rattle.xa_reactor.specs.Together.{GoesOnAll, HaveGone, KeepsTurns, turns_in};
 
 use crate::ask::Ask;
 use crate::clock::LoopClock;
@@ -36,7 +37,8 @@ pub(crate) struct Together {
 
 impl Together {
     pub(crate) fn new(alloc: Global) -> Together
-        ensures { (table : Table) → HasLent table result }
+        ensures lent { (table : Table) → HasLent table result }
+        ensures none { turns_in result ≡ 0 }
     {
         Together {
             quick: Vec::new(alloc),
@@ -47,7 +49,8 @@ impl Together {
 
     /// Begins a round with room for so many turns. Whether there was memory for it.
     pub(crate) fn begin(&mut self, turns: usize) -> bool
-        ensures { (table : Table) → HasLent table self.new }
+        ensures lent { (table : Table) → HasLent table self.new }
+        ensures none { turns_in self.new ≡ 0 }
     {
         self.quick.clear();
         self.waiting.clear();
@@ -149,7 +152,7 @@ impl Together {
     }
 
     /// Answers the requests that wait for no device, and sends the replies.
-    pub(crate) fn answer_quick<D: Reception, R: Clock>(
+    pub(crate) fn answer_quick<D: Reception, R: Clock + Eprint>(
         &mut self,
         rt: &R,
         peers: &mut Peers,
@@ -160,6 +163,7 @@ impl Together {
         requires { HasLent (sessions_of peers.old.all) self.old }
         ensures tends { Tends D.connected D.called D.left (sessions_of peers.old.all) door.old (sessions_of peers.new.all) door.new }
         ensures lent { HasLent (sessions_of peers.new.all) self.new }
+        ensures answered { (self.new.quick.items ≡ []) × (self.new.waiting ≡ self.old.waiting) }
         ensures turns { KeepsTurns self.old peers.old self.new peers.new }
     {
         give_quick(
@@ -176,7 +180,7 @@ impl Together {
     /// Answers the requests that were brought in, and closes their turns. The replies to those that wait for no device are
     /// sent before the others are answered. What comes after the turns comes last: until then each session stays under its
     /// key.
-    pub(crate) fn close_all<D: Reception, R: Clock>(
+    pub(crate) fn close_all<D: Reception, R: Clock + Eprint>(
         &mut self,
         rt: &R,
         peers: &mut Peers,
@@ -187,6 +191,7 @@ impl Together {
         requires { HasLent (sessions_of peers.old.all) self.old }
         ensures tends { Tends D.connected D.called D.left (sessions_of peers.old.all) door.old (sessions_of peers.new.all) door.new }
         ensures over { IsOver self.new }
+        ensures goes { HaveGone self.old peers.old peers.new }
         ensures settled { D.is_settled door.new }
     {
         give_quick(
@@ -223,7 +228,7 @@ fn may_wait<D: Reception>(door: &D, ask: &Ask) -> bool
 
 // Answers requests that wait for no device at a door, and sends the replies. What comes after their turns is put with the
 // rest of that.
-fn give_quick<D: Reception, R: Clock>(
+fn give_quick<D: Reception, R: Clock + Eprint>(
     rt: &R,
     asks: &mut Vec<Ask>,
     over: &mut Vec<(usize, Step)>,
@@ -239,13 +244,14 @@ fn give_quick<D: Reception, R: Clock>(
     ensures none { asks.new.items ≡ [] }
     ensures turns { (vec_len over.new ≡ vec_len over.old + vec_len asks.old) × (peers.new.queue ≡ peers.old.queue) }
     ensures room { vec_capacity over.new ≡ vec_capacity over.old }
+    ensures over { (later : List (ℕ × Step)) × (over.new.items ≡ over.old.items ++ later) }
 {
     answer_quick(asks, clock, door);
     send_all(rt, asks, over, peers, round, clock);
 }
 
 // The same of requests that may wait for one: none that was posted is left.
-fn give_waiting<D: Reception, R: Clock>(
+fn give_waiting<D: Reception, R: Clock + Eprint>(
     rt: &R,
     asks: &mut Vec<Ask>,
     over: &mut Vec<(usize, Step)>,
@@ -261,6 +267,7 @@ fn give_waiting<D: Reception, R: Clock>(
     ensures none { asks.new.items ≡ [] }
     ensures turns { (vec_len over.new ≡ vec_len over.old + vec_len asks.old) × (peers.new.queue ≡ peers.old.queue) }
     ensures room { vec_capacity over.new ≡ vec_capacity over.old }
+    ensures over { (later : List (ℕ × Step)) × (over.new.items ≡ over.old.items ++ later) }
     ensures settled { D.is_settled door.new }
 {
     answer_all(asks, clock, door);
@@ -268,7 +275,7 @@ fn give_waiting<D: Reception, R: Clock>(
 }
 
 // Gives the connections of asks that were answered back, and sends their replies.
-fn send_all<R: Clock>(
+fn send_all<R: Clock + Eprint>(
     rt: &R,
     asks: &mut Vec<Ask>,
     over: &mut Vec<(usize, Step)>,
@@ -282,6 +289,7 @@ fn send_all<R: Clock>(
     ensures none { asks.new.items ≡ [] }
     ensures turns { (vec_len over.new ≡ vec_len over.old + vec_len asks.old) × (peers.new.queue ≡ peers.old.queue) }
     ensures room { vec_capacity over.new ≡ vec_capacity over.old }
+    ensures over { (later : List (ℕ × Step)) × (over.new.items ≡ over.old.items ++ later) }
 {
     for ask in asks.drain(..) {
         let key = ask.key;

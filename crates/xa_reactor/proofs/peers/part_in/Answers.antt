@@ -4,8 +4,8 @@ use Rattle.xa_reactor.specs.Believed.Tending.{sessions_of}
 use Rattle.xa_reactor.proofs.Doing.{puts_slot, tends_left}
 use Rattle.xa_reactor.proofs.peers.part_in.Goals as goal
 
-pub returns : goal.returns
-returns g c =
+pub returns-clause-tends : goal.returns-clause-tends
+returns-clause-tends g c =
     tends_left g.D.Reception.connected g.D.Door.called g.D.Door.left (sessions_of c.args.all.now) (sessions_of c.try_remove.new.self)
     c.args.door.now c.hangup.new.self c.args.key c.in_ok-peer.peer.session
     (ap (λ slot. option_map (λ p. p.session) slot) (sym c.in_ok-peer.ensures.value)) c.hangup.ensures

@@ -9,10 +9,10 @@ returns g c =
     let after : Table = sessions_of c.run.new.peers.all in
     let ends : Tends g.D.Reception.connected g.D.Door.called g.D.Door.left after c.run.new.door nobody c.end_all.new.door =
     tends_twice g.D.Reception.connected g.D.Door.called g.D.Door.left after (sessions_of c.part_stopper-stopper.new.self.all) nobody
-    c.run.new.door c.part_stopper-stopper.new.door c.end_all.new.door c.part_stopper-stopper.ensures c.end_all.ensures in
+    c.run.new.door c.part_stopper-stopper.new.door c.end_all.new.door c.part_stopper-stopper.ensures.tends c.end_all.ensures in
     record {
       tends =
-          subst (λ (table : Table). TendsPosting g.D.Reception.posted g.D.Reception.connected g.D.Door.called g.D.Door.left table c.args.door.now nobody c.end_all.new.door) c.new-peers.ensures
+          subst (λ (table : Table). TendsPosting g.D.Reception.posted g.D.Reception.connected g.D.Door.called g.D.Door.left table c.args.door.now nobody c.end_all.new.door) c.new-peers.ensures.nobody
           (posting_twice g.D.Reception.posted g.D.Reception.connected g.D.Door.called g.D.Door.left (sessions_of c.new-peers.result.all) after nobody
           c.args.door.now c.run.new.door c.end_all.new.door c.run.ensures.tends
           (posting_tended g.D.Reception.posted g.D.Reception.connected g.D.Door.called g.D.Door.left after nobody c.run.new.door c.end_all.new.door ends));

@@ -1,4 +1,4 @@
-use Rattle.std.proofs.Common.{◌≡◌, ◌∙◌, ◌+◌, ◌-◌, List, ap, arith, length, refl, subst, sym}
+use Rattle.std.proofs.Common.{◌≡◌, ◌∙◌, ◌+◌, ◌++◌, ◌-◌, ℕ, List, [], ◌∷◌, ap, append-nil, append_assoc, arith, length, refl, subst, sym}
 use Rattle.std.specs.Prelude.{All}
 use Rattle.std.specs.Vec.Iter.{drain_items}
 use Rattle.std.specs.Vec.{vec_len}
@@ -6,7 +6,13 @@ use Rattle.std.proofs.lemmas.List.Elements.{All-head, All-same, All-take, All-ta
 use Rattle.std.proofs.lemmas.List.{take_all}
 use Rattle.xa_reactor.specs.Asking.{IsAnswered}
 use Rattle.xa_reactor.specs.declared.ask.Ask.{Ask}
+use Rattle.xa_reactor.specs.declared.peer.Step.{Step}
 use Rattle.xa_reactor.proofs.together.send_all.Goals as goal
+
+-- one more behind those that came later
+one_later : {A : Type 0} (xs ys zs : List A) (one : A) → zs ≡ ys ++ one ∷ [] → (later : List A) → ys ≡ xs ++ later
+    → (more : List A) × (zs ≡ xs ++ more)
+one_later xs ys zs one is later was = (later ++ one ∷ [], is ∙ (ap (λ l. l ++ one ∷ []) was ∙ append_assoc xs later (one ∷ [])))
 
 pub loop-ask-init : goal.loop-ask-init
 loop-ask-init g c =
@@ -18,6 +24,7 @@ loop-ask-init g c =
           (omega (arith, ap (λ (xs : List Ask). length xs) (c.drain-ask-items.ensures.rest ∙ take_all (vec_len c.args.asks.now - 0) c.args.asks.now.items (omega arith))));
       capacity = refl;
       same = refl;
+      over = ([], sym (append-nil c.args.over.now.items));
       turns = refl;
     }
 
@@ -40,7 +47,8 @@ loop-ask-preserved g c =
       count = omega (arith, less, c.loop-ask.invariant.count, c.push_reserved.ensures.len);
       capacity = c.push_reserved.ensures.capacity ∙ c.loop-ask.invariant.capacity;
       same = c.close_turn-step.ensures.same ∙ c.loop-ask.invariant.same;
-      turns = c.close_turn-step.ensures.turns ∙ c.loop-ask.invariant.turns;
+      over = one_later {A = ℕ × Step} _ _ _ _ c.push_reserved.ensures.items c.loop-ask.invariant.over.0 c.loop-ask.invariant.over.1;
+      turns = c.close_turn-step.ensures.turns.0 ∙ c.loop-ask.invariant.turns;
     }
 
 pub returns-clause-same : goal.returns-clause-same
@@ -52,3 +60,6 @@ returns-clause-turns g c =
 
 pub returns-clause-room : goal.returns-clause-room
 returns-clause-room g c = c.loop-ask.invariant.capacity
+
+pub returns-clause-over : goal.returns-clause-over
+returns-clause-over g c = c.loop-ask.invariant.over

@@ -9,7 +9,7 @@ pub loop-key-preserved : goal.loop-key-preserved
 loop-key-preserved g c = record {
   tends = tends_twice g.D.Reception.connected g.D.Door.called g.D.Door.left (sessions_of c.args.self.now.all) (sessions_of c.loop-key.self.all) (sessions_of c.end_in.new.all)
       c.args.door.now c.loop-key.door c.end_in.new.door c.loop-key.invariant.tends c.end_in.ensures.tends;
-  none = below_more (λ key. get c.end_in.new.all key ≡ None) _ (λ key below. c.end_in.ensures.others key (c.loop-key.invariant.none key below)) c.end_in.ensures.none;
+  none = below_more (λ key. get c.end_in.new.all key ≡ None) _ (λ key below. c.end_in.ensures.others key (c.loop-key.invariant.none key below)) c.end_in.ensures.updates.changed;
   slots = c.end_in.ensures.slots ∙ c.loop-key.invariant.slots;
 }
 

@@ -1,8 +1,10 @@
-use Rattle.std.proofs.Common.{ℕ, ap, inl, refl, subst, sym}
+use Rattle.std.proofs.Common.{◌≡◌, ◌∙◌, ◌++◌, Bool, [], ◌∷◌, ap, inl, refl, subst, sym}
+use Rattle.std.specs.VecDeque.{deque_items}
 use Rattle.mio.specs.declared.token.Token.{Token}
-use Rattle.slab.specs.Slab.{get}
+use Rattle.slab.specs.Slab.{Slab, get, with_value}
 use Rattle.xa_reactor.specs.Believed.Tending.{sessions_of}
-use Rattle.xa_reactor.specs.Peers.{IsNews, IsNoticed}
+use Rattle.xa_reactor.specs.Peers.{HasTurn, IsNews, key_of, noticed, with_noticed}
+use Rattle.xa_reactor.specs.declared.peer.Peer.{Peer}
 use Rattle.xa_reactor.proofs.Doing.{same_table}
 use Rattle.xa_reactor.proofs.Noticed.{puts, stays_out}
 use Rattle.xa_reactor.proofs.peers.Peers.note.Goals as goal
@@ -15,13 +17,26 @@ returns-else-notice_in-clause-same c = sym (same_table (sessions_of c.args.self.
 
 pub returns-then-notice_in-clause-turn : goal.returns-then-notice_in-clause-turn
 returns-then-notice_in-clause-turn c =
-    let key = c.token-key.result.0 in
-    subst (λ (k : ℕ). IsNoticed c.args.self.now k (record c.args.self.now { all = c.notice_in.new.all; queue = c.push_back_reserved.new.self })) (ap (λ (t : Token). t.0) c.token-key.ensures)
-    (puts _ _ (get c.args.self.now.all key) (subst (IsNews c.args.self.now.all key) c.if-notice_in.true c.notice_in.ensures.news)
-    (inl c.push_back_reserved.ensures.items))
+    let old = c.args.self.now in
+    let event = c.args.event.now in
+    let all = c.notice_in.new.all in
+    let new = record old { all = all; queue = c.push_back_reserved.new.self } in
+    puts (new ≡ old) (λ p. new ≡ with_noticed old event p) (λ p. HasTurn (with_noticed old event p) (key_of event) new)
+    (λ p. all ≡ with_value old.all (key_of event) (noticed event p)) (all ≡ old.all) (get old.all (key_of event))
+    (subst (λ (puts : Bool). IsNews old.all event puts all) c.if-notice_in.true c.notice_in.ensures.news)
+    (λ p is. inl (record {
+      all = is;
+      turns = c.push_back_reserved.ensures.items ∙ ap (λ (t : Token). deque_items old.queue ++ t.0 ∷ []) c.token.ensures;
+      stopper = refl;
+    }))
 
 pub returns-else-notice_in-clause-turn : goal.returns-else-notice_in-clause-turn
 returns-else-notice_in-clause-turn c =
-    let key = c.token-key.result.0 in
-    subst (λ (k : ℕ). IsNoticed c.args.self.now k (record c.args.self.now { all = c.notice_in.new.all })) (ap (λ (t : Token). t.0) c.token-key.ensures)
-    (stays_out _ _ (get c.args.self.now.all key) (subst (IsNews c.args.self.now.all key) c.if-notice_in.false c.notice_in.ensures.news) refl)
+    let old = c.args.self.now in
+    let event = c.args.event.now in
+    let all = c.notice_in.new.all in
+    let new = record old { all = all } in
+    stays_out (new ≡ old) (λ p. new ≡ with_noticed old event p) (λ p. HasTurn (with_noticed old event p) (key_of event) new)
+    (λ p. all ≡ with_value old.all (key_of event) (noticed event p)) (all ≡ old.all) (get old.all (key_of event))
+    (subst (λ (puts : Bool). IsNews old.all event puts all) c.if-notice_in.false c.notice_in.ensures.news)
+    (λ is. ap (λ (a : Slab Peer). record old { all = a }) is) (λ p is. ap (λ (a : Slab Peer). record old { all = a }) is)

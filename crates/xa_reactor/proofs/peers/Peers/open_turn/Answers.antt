@@ -3,6 +3,7 @@ use Rattle.std.specs.Option.{option_map}
 use Rattle.xa_reactor.specs.Believed.Tending.{sessions_of}
 use Rattle.xa_reactor.proofs.Asking.{opens_at}
 use Rattle.xa_reactor.proofs.Doing.{same_sessions, tends_none}
+use Rattle.xa_reactor.proofs.Noticed.{on_some}
 use Rattle.xa_reactor.proofs.peers.Peers.open_turn.Goals as goal
 
 pub returns-in-Some-clause-same : goal.returns-in-Some-clause-same
@@ -16,3 +17,7 @@ returns-in-Some-clause-opens g c =
 
 pub returns-in-None-clause-opens : goal.returns-in-None-clause-opens
 returns-in-None-clause-opens g c = tends_none g.D.Reception.connected g.D.Door.called g.D.Door.left _ _ c.args.door.now refl
+
+pub returns-in-Some-clause-opened : goal.returns-in-Some-clause-opened
+returns-in-Some-clause-opened g c =
+    on_some _ _ _ c.in-Some.peer.now (sym c.in-Some.ensures.value) (c.open_turn.new.self, c.open_turn.ensures.steps, refl)

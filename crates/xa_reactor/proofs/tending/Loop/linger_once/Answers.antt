@@ -16,33 +16,33 @@ answered posted connected called left a b c d e same tends =
 
 pub open_turns-requires : goal.open_turns-requires
 open_turns-requires g c =
-    let same : sessions_of c.note_all-accepts.new.peers.all ≡ sessions_of c.answer_quick.new.peers.all = c.note_all-accepts.ensures ∙ ap sessions_of c.reserve.ensures.same in
+    let same : sessions_of c.note_all-accepts.new.peers.all ≡ sessions_of c.answer_quick.new.peers.all = c.note_all-accepts.ensures.same ∙ ap sessions_of c.reserve.ensures.same.0 in
     subst (λ (t : Table). HasLent t c.answer_quick.new.self) (sym same) c.answer_quick.ensures.lent
 
 pub returns-then-not-reserve-clause-tends : goal.returns-then-not-reserve-clause-tends
 returns-then-not-reserve-clause-tends g c =
     answered g.D.Reception.posted g.D.Reception.connected g.D.Door.called g.D.Door.left
     (sessions_of c.args.peers.now.all) (sessions_of c.answer_quick.new.peers.all) (sessions_of c.reserve.new.self.all)
-    c.args.door.now c.answer_quick.new.door (ap sessions_of c.reserve.ensures.same) c.answer_quick.ensures.tends
+    c.args.door.now c.answer_quick.new.door (ap sessions_of c.reserve.ensures.same.0) c.answer_quick.ensures.tends
 
 pub returns-in_err-look_for-clause-tends : goal.returns-in_err-look_for-clause-tends
 returns-in_err-look_for-clause-tends g c =
     answered g.D.Reception.posted g.D.Reception.connected g.D.Door.called g.D.Door.left
     (sessions_of c.args.peers.now.all) (sessions_of c.answer_quick.new.peers.all) (sessions_of c.reserve.new.self.all)
-    c.args.door.now c.answer_quick.new.door (ap sessions_of c.reserve.ensures.same) c.answer_quick.ensures.tends
+    c.args.door.now c.answer_quick.new.door (ap sessions_of c.reserve.ensures.same.0) c.answer_quick.ensures.tends
 
 pub returns-then-is_empty-clause-tends : goal.returns-then-is_empty-clause-tends
 returns-then-is_empty-clause-tends g c =
     answered g.D.Reception.posted g.D.Reception.connected g.D.Door.called g.D.Door.left
     (sessions_of c.args.peers.now.all) (sessions_of c.answer_quick.new.peers.all) (sessions_of c.reserve.new.self.all)
-    c.args.door.now c.answer_quick.new.door (ap sessions_of c.reserve.ensures.same) c.answer_quick.ensures.tends
+    c.args.door.now c.answer_quick.new.door (ap sessions_of c.reserve.ensures.same.0) c.answer_quick.ensures.tends
 
 pub returns-clause-tends : goal.returns-clause-tends
 returns-clause-tends g c =
     let before : Table = sessions_of c.args.peers.now.all in
     let mid : Table = sessions_of c.answer_quick.new.peers.all in
     let after : Table = sessions_of c.open_turns.new.peers.all in
-    let same : sessions_of c.note_all-accepts.new.peers.all ≡ mid = c.note_all-accepts.ensures ∙ ap sessions_of c.reserve.ensures.same in
+    let same : sessions_of c.note_all-accepts.new.peers.all ≡ mid = c.note_all-accepts.ensures.same ∙ ap sessions_of c.reserve.ensures.same.0 in
     posting_twice g.D.Reception.posted g.D.Reception.connected g.D.Door.called g.D.Door.left before mid after
     c.args.door.now c.answer_quick.new.door c.open_turns.new.door
     (posting_tended g.D.Reception.posted g.D.Reception.connected g.D.Door.called g.D.Door.left before mid c.args.door.now c.answer_quick.new.door c.answer_quick.ensures.tends)

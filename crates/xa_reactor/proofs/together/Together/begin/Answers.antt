@@ -3,8 +3,8 @@ use Rattle.std.proofs.lemmas.List.Elements.{All-nil, All-same}
 use Rattle.xa_reactor.specs.Asking.{IsLent}
 use Rattle.xa_reactor.proofs.together.Together.begin.Goals as goal
 
-pub returns : goal.returns
-returns c = λ table.
+pub returns-clause-lent : goal.returns-clause-lent
+returns-clause-lent c = λ table.
     c.reserve.ensures.lent table
     (record {
       quick = All-same (IsLent table) _ [] c.clear.ensures.items (All-nil (IsLent table));
