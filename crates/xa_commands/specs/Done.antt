@@ -9,6 +9,7 @@ use Rattle.xa_commands.specs.declared.scanning_fault.ScanningFault.{ScanningFaul
 use Rattle.xa_commands.specs.declared.scanning_fault.ScanningFault.TheVariants.{InUse, File, Scan}
 use Rattle.xa_disk.specs.declared.file_fault.FileFault.{FileFault}
 use Rattle.xa_disk.specs.declared.file_fault.FileFault.TheVariants as file
+use Rattle.xa_operate.specs.Confirms.{Confirms}
 use Rattle.xa_operate.specs.Courses.{Operates, Prints}
 use Rattle.xa_operate.specs.Scripts.{script_of}
 use Rattle.xa_operate.specs.declared.fault.OperateFault.{OperateFault}
@@ -76,6 +77,14 @@ abbrev pub HasOperated : {C X : Type 0} → Format → Task → (C → Option (L
     → Result X OperateFault → Type 0
 HasOperated format task sent left name end =
     (output : Option (List ℕ)) × (output' : Option (List ℕ)) × Operates format task sent left name end output output'
+
+-- the same, once a line that a reader gave has said yes
+abbrev pub HasConfirmed : {I C X : Type 0} → Format → Task → (I → Option (List ℕ)) → (C → Option (List ℕ))
+    → (C → Option (List ℕ)) → List ℕ → Result X OperateFault → Type 0
+HasConfirmed {I} format task remaining sent left name end =
+    (reader : I) × (reader' : I) × (errors : Option (List ℕ)) × (errors' : Option (List ℕ))
+    × (output : Option (List ℕ)) × (output' : Option (List ℕ))
+    × Confirms format task sent left name end (remaining reader) (remaining reader') errors errors' output output'
 
 -- the script of a task was printed, or there was no memory
 abbrev pub HasShown : {X : Type 0} → List ℕ → Task → Result X OperateFault → Type 0

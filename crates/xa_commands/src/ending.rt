@@ -85,7 +85,7 @@ pub fn checked<R: Eprint, F: Display>(rt: &R, end: &Result<bool, F>) -> ExitCode
 }
 
 /// The status of a task that a server was asked, and its line on standard error where it isn't done: 0 where it is, 1 where
-/// the server refused it, 3 where neither is known.
+/// the server refused it or wasn't asked, 3 where that isn't known.
 pub fn operated<R: Eprint>(
     rt: &R,
     end: &Result<(), OperateFault>,

@@ -9,7 +9,8 @@
 //!   it; `mistakes`: `Mistakes`, standard error, which is told of lines that ask nothing
 //! - `ticking`: `tick`, a server is told what the clock says; `Watch`, the clock and standard error
 //! - `shutting`: `shutdown`, a server is asked to end
-//! - `operating`: `operate`, a server is asked what an operator wants; `show_script`, the script that asks the same is printed
+//! - `operating`: `operate`, a server is asked what an operator wants; `confirm`, the same once a line has said yes;
+//!   `show_script`, the script that asks the same is printed; `errors`: standard error as a writer
 //! - `ending`: `ended`, `ended_at`, `served`, `checked`, `operated` and `words_fault`, the status of an end, and its line on standard error
 #![tactic(auto)]
 
@@ -18,6 +19,7 @@ mod accepting_fault;
 mod checking;
 mod checking_fault;
 mod ending;
+mod errors;
 mod keeping;
 mod mistakes;
 mod operating;
@@ -37,7 +39,7 @@ pub use checking::check;
 pub use checking_fault::CheckingFault;
 pub use ending::{checked, ended, ended_at, operated, served, words_fault};
 pub use mistakes::Mistakes;
-pub use operating::{operate, show_script};
+pub use operating::{confirm, operate, show_script};
 pub use playing::play;
 pub use scanning::scan;
 pub use scanning_fault::ScanningFault;

@@ -1,13 +1,14 @@
 ghost use Rattle.std.specs.Prelude.{◌≤◌, length};
-ghost use Rattle.xa_commands.specs.Done.{HasOperated, HasShown};
+ghost use Rattle.xa_commands.specs.Done.{HasConfirmed, HasOperated, HasShown};
 ghost use Rattle.xa_limits.specs.declared.TheConstants.{MOST_INFO};
 ghost use Rattle.xa_talk.specs.declared.dial.Connection.{Connection};
 
+use crate::errors::Errors;
 use crate::server::Server;
 use crate::stream::Stream;
 use std::io::{self, Read, Write};
 use std::net::{Net, TcpStream};
-use xa_operate::{Format, OperateFault, Task, operate_run, print_text, script_text};
+use xa_operate::{Format, OperateFault, Task, confirm_run, operate_run, print_text, script_text};
 
 /// Asks a server what an operator wants, and prints its answers.
 pub fn operate<R: AllocGlobal + Print + Net<Stream = TcpStream>>(
@@ -24,6 +25,35 @@ pub fn operate<R: AllocGlobal + Print + Net<Stream = TcpStream>>(
 {
     let mut writer = io::writer(rt);
     operate_run(rt.alloc(), &mut writer, server, name, task, format)
+}
+
+/// The same of what can't be taken back, once a line of standard input has said yes. What it is about is shown on standard
+/// error, and there it is asked whether to do it.
+pub fn confirm<R: AllocGlobal + Input + Print + Eprint + Net<Stream = TcpStream>>(
+    rt: &R,
+    server: &mut Server<'_, '_, R>,
+    name: &str,
+    task: &Task,
+    format: Format,
+) -> Result<(), OperateFault>
+    requires { length name.now ≤ MOST_INFO }
+    ensures { HasConfirmed {C = Connection Stream Stream} format task.now R.Reader.remaining
+        (λ c. ⟦<Stream as Write>⟧.contents c.writer)
+        (λ c. ⟦<Stream as Read>⟧.remaining c.reader) name.now result }
+{
+    let mut reader = rt.reader();
+    let mut errors = Errors { rt };
+    let mut writer = io::writer(rt);
+    confirm_run(
+        rt.alloc(),
+        &mut reader,
+        &mut errors,
+        &mut writer,
+        server,
+        name,
+        task,
+        format,
+    )
 }
 
 /// Prints the script that asks a server the same.

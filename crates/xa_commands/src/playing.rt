@@ -27,6 +27,7 @@ pub fn play<R: AllocGlobal + Input + Print + Eprint>(
     let mut mistakes = Mistakes {
         rt,
         has_disks: true,
+        is_typed: false,
     };
     play_run(
         rt.alloc(),

@@ -9,7 +9,8 @@ use std::net::{Net, TcpStream};
 use xa_talk::{Manner, TalkFault, talk_run};
 
 /// Sends the calls of standard input to a server. Its replies are printed one by one, so that nothing
-/// waits in a buffer. Of a line that asks nothing it is told on standard error what is wrong.
+/// waits in a buffer. Of a line that asks nothing it is told on standard error what is wrong; where the script is typed,
+/// each line is asked for there.
 pub fn talk<R: AllocGlobal + Input + Print + Eprint + Net<Stream = TcpStream>>(
     rt: &R,
     server: &mut Server<'_, '_, R>,
@@ -29,6 +30,7 @@ pub fn talk<R: AllocGlobal + Input + Print + Eprint + Net<Stream = TcpStream>>(
         &mut Mistakes {
             rt,
             has_disks: false,
+            is_typed: manner.is_typed,
         },
         manner,
     )

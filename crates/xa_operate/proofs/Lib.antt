@@ -1,2 +1,4 @@
 pub mod Asking
 pub mod Talking
+pub mod Pieces
+pub mod Confirming

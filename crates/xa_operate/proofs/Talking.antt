@@ -23,7 +23,7 @@ use Rattle.xa_script.specs.Lines.{line_of, said_of}
 use Rattle.xa_operate.specs.Agendas.{question_of}
 use Rattle.xa_operate.specs.Scripts.{NamesXid, TalkReads, call_text, open_line, said}
 use Rattle.xa_operate.specs.declared.task.Task.{Task}
-use Rattle.xa_operate.specs.declared.task.Task.TheVariants.{Status, Branches, Recover, RollbackMarked, Commit, Rollback, Forget, Decide, Doom, Trim, Restart}
+use Rattle.xa_operate.specs.declared.task.Task.TheVariants.{Status, Metrics, AtWork, Branches, Branch, Abandoned, Recover, RollbackMarked, Commit, Rollback, Forget, Decide, Doom, Trim, Restart}
 
 -- no blank, and no end of a line
 abbrev IsInk : ℕ → Type 0
@@ -131,7 +131,11 @@ module _ (xid_of : List ℕ → Option Triple) (each : ReadsTexts xid_of) where
 
   asks : (task : Task) → NamesXid task → line_of xid_of (call_text task) ≡ said (question_of task)
   asks Status h = refl
+  asks Metrics h = refl
+  asks AtWork h = refl
   asks Branches h = refl
+  asks (Branch xid) h = refl
+  asks Abandoned h = refl
   asks Recover h = refl
   asks RollbackMarked h = refl
   asks (Commit xid) h = about (codes "1 commit TMNOFLAGS ") xid refl h ∙ rw (xid_word xid h, each.each xid h) refl

@@ -16,12 +16,16 @@ use Rattle.xa_frame.specs.declared.reply.Reply.{Reply}
 use Rattle.xa_frame.specs.declared.request.Request.TheVariants as request
 use Rattle.xa_operate.specs.declared.agenda.TheConstants.{PAGE}
 use Rattle.xa_operate.specs.declared.task.Task.{Task}
-use Rattle.xa_operate.specs.declared.task.Task.TheVariants.{Status, Branches, Recover, RollbackMarked, Commit, Rollback, Forget, Decide, Doom, Trim, Restart}
+use Rattle.xa_operate.specs.declared.task.Task.TheVariants.{Status, Metrics, AtWork, Branches, Branch, Abandoned, Recover, RollbackMarked, Commit, Rollback, Forget, Decide, Doom, Trim, Restart}
 use Rattle.xa_operate.specs.Tasks.{opens_session}
 
 abbrev pub question_of : Task → Question
 question_of Status = question.Status
+question_of Metrics = question.Status
+question_of AtWork = question.Status
 question_of Branches = question.Call (request.Branches PAGE None)
+question_of (Branch xid) = question.Call (request.Branches PAGE None)
+question_of Abandoned = question.Call (request.Branches PAGE None)
 question_of RollbackMarked = question.Call (request.Branches PAGE None)
 question_of Recover = question.Call (request.Recover TMSTARTRSCAN PAGE)
 question_of (Commit xid) = question.Call (request.Commit TMNOFLAGS xid)
@@ -74,6 +78,8 @@ rollbacks_of branches = flat_map rollback_of branches
 abbrev pub behind_body : Task → Body → List Question
 behind_body Recover (body.Xids xids) = after_scan (length xids)
 behind_body Branches (body.Branches branches) = after_page branches
+behind_body (Branch xid) (body.Branches branches) = after_page branches
+behind_body Abandoned (body.Branches branches) = after_page branches
 behind_body RollbackMarked (body.Branches branches) = rollbacks_of branches ++ after_page branches
 behind_body _ _ = []
 

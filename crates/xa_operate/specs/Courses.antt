@@ -11,14 +11,15 @@ use Rattle.xa_operate.specs.Agendas.{asked_first, behind}
 use Rattle.xa_operate.specs.Answers.{answers}
 use Rattle.xa_operate.specs.Shown.{shown}
 use Rattle.xa_operate.specs.declared.fault.OperateFault.{OperateFault}
-use Rattle.xa_operate.specs.declared.fault.OperateFault.TheVariants.{Refused, Talk}
+use Rattle.xa_operate.specs.declared.fault.OperateFault.TheVariants.{Declined, Refused, Talk}
 use Rattle.xa_operate.specs.declared.format.Format.{Format}
 use Rattle.xa_operate.specs.declared.task.Task.{Task}
 
--- the program's status: 0 where a task is done, 1 where the server refused it, 3 where neither is known
+-- the program's status: 0 where a task is done, 1 where the server refused it or it wasn't asked for, 3 where that isn't known
 abbrev pub status_of : {X : Type 0} → Result X OperateFault → ℕ
 status_of (Ok x) = 0
 status_of (Err (Refused code detail)) = 1
+status_of (Err Declined) = 1
 status_of (Err (Talk fault)) = 3
 
 -- a text is printed whole, or some first bytes of it

@@ -2,6 +2,9 @@ pub mod Tasks
 pub mod Agendas
 pub mod Answers
 pub mod Lines
+pub mod Metrics
 pub mod Shown
 pub mod Courses
+pub mod Previews
+pub mod Confirms
 pub mod Scripts

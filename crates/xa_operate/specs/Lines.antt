@@ -1,6 +1,6 @@
 -- The lines that are printed of what a server answers: in words, or each a JSON object.
 use Rattle.std.specs.Fmt.{decimal, signed_decimal}
-use Rattle.std.specs.Prelude.{ℕ, ℤ, List, [], ◌∷◌, ◌++◌, codes, flat_map}
+use Rattle.std.specs.Prelude.{ℕ, ℤ, ◌-◌, List, [], ◌∷◌, ◌++◌, codes, flat_map}
 use Rattle.xa_frame.specs.declared.known_branch.AssociationCounts.{AssociationCounts}
 use Rattle.xa_frame.specs.declared.known_branch.KnownBranch.{KnownBranch}
 use Rattle.xa_frame.specs.declared.status.Status.{Status}
@@ -55,9 +55,6 @@ branch_line format b =
 abbrev pub xid_lines : Format → List Triple → List ℕ
 xid_lines format xids = flat_map (xid_line format) xids
 
-abbrev pub branch_lines : Format → List KnownBranch → List ℕ
-branch_lines format branches = flat_map (branch_line format) branches
-
 abbrev pub count_line : List ℕ → List ℕ → List ℕ
 count_line name digits = (name ++ 32 ∷ digits) ++ 10 ∷ []
 
@@ -77,6 +74,13 @@ counts_end Json = 125 ∷ 10 ∷ []
 -- where the log ends
 abbrev pub end_text : Format → ℕ → List ℕ
 end_text format n = count format 123 (codes "end") n ++ counts_end format
+
+-- how many branches are at work: those that are neither prepared nor completed
+abbrev pub at_work : Status → ℕ
+at_work s = (s.branches - s.prepared) - s.completed
+
+abbrev pub at_work_text : Format → Status → List ℕ
+at_work_text format s = count format 123 (codes "branches at work") (at_work s) ++ counts_end format
 
 abbrev pub log_counts : Format → Status → List ℕ
 log_counts format s =

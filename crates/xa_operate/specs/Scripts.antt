@@ -12,7 +12,7 @@ use Rattle.xa_script.specs.declared.line.Line.TheVariants as line
 use Rattle.xa_operate.specs.Agendas.{question_of}
 use Rattle.xa_operate.specs.Tasks.{opens_session}
 use Rattle.xa_operate.specs.declared.task.Task.{Task}
-use Rattle.xa_operate.specs.declared.task.Task.TheVariants.{Status, Branches, Recover, RollbackMarked, Commit, Rollback, Forget, Decide, Doom, Trim, Restart}
+use Rattle.xa_operate.specs.declared.task.Task.TheVariants.{Status, Metrics, AtWork, Branches, Branch, Abandoned, Recover, RollbackMarked, Commit, Rollback, Forget, Decide, Doom, Trim, Restart}
 use Rattle.xa_xid.specs.Spelling.{text_of}
 use Rattle.xa_xid.specs.Triple.{IsWithinLimits, Triple}
 
@@ -23,7 +23,11 @@ direction_text direction.Rollback = codes "rollback"
 -- what session 1 asks
 abbrev pub call_text : Task → List ℕ
 call_text Status = codes "1 status"
+call_text Metrics = codes "1 status"
+call_text AtWork = codes "1 status"
 call_text Branches = codes "1 branches 256"
+call_text (Branch xid) = codes "1 branches 256"
+call_text Abandoned = codes "1 branches 256"
 call_text RollbackMarked = codes "1 branches 256"
 call_text Recover = codes "1 recover TMSTARTRSCAN 256"
 call_text (Commit xid) = codes "1 commit TMNOFLAGS " ++ text_of xid
@@ -48,6 +52,8 @@ marked_comments =
 -- what the answers lead to, as comments
 abbrev pub comments_text : Task → List ℕ
 comments_text Branches = ended more_branches
+comments_text (Branch xid) = ended more_branches
+comments_text Abandoned = ended more_branches
 comments_text RollbackMarked = marked_comments
 comments_text Recover = ended (codes "# while 256 are listed: 1 recover TMNOFLAGS 256")
 comments_text _ = []

@@ -1,7 +1,7 @@
 -- What kinds of tasks there are.
 use Rattle.std.specs.Prelude.{Bool, true, false}
 use Rattle.xa_operate.specs.declared.task.Task.{Task}
-use Rattle.xa_operate.specs.declared.task.Task.TheVariants.{Status, Branches, Recover, RollbackMarked, Commit, Rollback, Forget, Decide, Doom, Trim, Restart}
+use Rattle.xa_operate.specs.declared.task.Task.TheVariants.{Status, Metrics, AtWork, Branches, Branch, Abandoned, Recover, RollbackMarked, Commit, Rollback, Forget, Decide, Doom, Trim, Restart}
 
 -- a transaction manager's calls are asked in a session that is opened
 abbrev pub opens_session : Task → Bool
@@ -15,7 +15,11 @@ opens_session _ = false
 -- it can't be taken back
 abbrev pub decides : Task → Bool
 decides Status = false
+decides Metrics = false
+decides AtWork = false
 decides Branches = false
+decides (Branch xid) = false
+decides Abandoned = false
 decides Recover = false
 decides Trim = false
 decides _ = true

@@ -41,11 +41,13 @@ fn question_of(task: &Task) -> Question
 {
     let flags = TMNOFLAGS;
     Question::Call(match task {
-        Task::Status => return Question::Status,
-        Task::Branches | Task::RollbackMarked => Request::Branches {
-            count: PAGE,
-            after: None,
-        },
+        Task::Status | Task::Metrics | Task::AtWork => return Question::Status,
+        Task::Branches | Task::Branch(_) | Task::Abandoned | Task::RollbackMarked => {
+            Request::Branches {
+                count: PAGE,
+                after: None,
+            }
+        }
         Task::Recover => Request::Recover {
             flags: TMSTARTRSCAN,
             count: PAGE,
@@ -84,7 +86,9 @@ pub(crate) fn push_behind(
 {
     match (task, &reply.body) {
         (Task::Recover, Body::Xids(xids)) => push_scan(agenda, xids.as_slice().len()),
-        (Task::Branches, Body::Branches(branches)) => push_page(agenda, branches.as_slice()),
+        (Task::Branches | Task::Branch(_) | Task::Abandoned, Body::Branches(branches)) => {
+            push_page(agenda, branches.as_slice())
+        }
         (Task::RollbackMarked, Body::Branches(branches)) => {
             push_rollbacks(agenda, branches.as_slice())?;
             push_page(agenda, branches.as_slice())
@@ -156,7 +160,7 @@ fn push_rollback(agenda: &mut VecDeque<Question>, branch: &KnownBranch) -> Resul
 }
 
 /// Whether a branch is marked, so that it can only be rolled back, and nobody is at work for it.
-fn is_abandoned(branch: &KnownBranch) -> bool
+pub(crate) fn is_abandoned(branch: &KnownBranch) -> bool
     ensures { result ≡ is_abandoned branch.now }
 {
     branch.state == BranchState::Working

@@ -13,6 +13,8 @@ use xa_talk::TalkFault;
 pub enum OperateFault {
     /// The server refused a question so.
     Refused(Code, Detail),
+    /// It wasn't asked for, since who was asked back didn't say yes.
+    Declined,
     /// The connection couldn't be opened, or broke, or brought what is no reply; or an answer couldn't be printed; or memory
     /// ran out.
     Talk(TalkFault),
@@ -29,6 +31,7 @@ impl fmt::Display for OperateFault {
             OperateFault::Refused(code, detail) => {
                 write!(f, "{code} {} {detail:?}", code_name(*code))
             }
+            OperateFault::Declined => f.write_str("not done"),
             OperateFault::Talk(fault) => write!(f, "{fault}"),
         }
     }

@@ -1,4 +1,7 @@
-ghost use Rattle.std.specs.Prelude.{◌≡◌, ℕ, List, Option, true};
+ghost use Rattle.std.specs.Prelude.{◌≡◌, ℕ, All, List, Option, true};
+ghost use Rattle.xa_frame.specs.declared.reply.Reply.{Reply};
+ghost use Rattle.xa_operate.specs.Agendas.{asked_first, behind};
+ghost use Rattle.xa_operate.specs.Previews.{LooksOnly, preview_of};
 ghost use Rattle.xa_operate.specs.Scripts.{NamesXid, TalkReads};
 ghost use Rattle.xa_operate.specs.declared.task.Task.{Task};
 ghost use Rattle.xa_script.specs.Requests.{ReadsTexts, is_name};
@@ -8,4 +11,10 @@ ghost use Rattle.xa_xid.specs.Triple.{Triple};
 pub fn talk_reads()
     ensures { (xid_of : List ℕ → Option Triple) → ReadsTexts xid_of → (name : List ℕ) (task : Task)
         → is_name name ≡ true → NamesXid task → TalkReads xid_of name task }
+{}
+
+/// What is asked before who is asked has said yes changes nothing.
+pub fn previews_look_only()
+    ensures first { (name : List ℕ) (task : Task) → All LooksOnly (asked_first name (preview_of task)) }
+    ensures further { (task : Task) (reply : Reply) → All LooksOnly (behind (preview_of task) reply) }
 {}

@@ -3,21 +3,28 @@
 //!
 //! - `task`: `Task`, what is asked; `opens_session`, `decides`
 //! - `name`: `is_name`, whether a script can name a resource manager so
+//! - `preview`: `preview_of`, what is shown before it is asked whether a task is to be done; `question`: how that is asked
 //! - `agenda`: the questions of a task, and those that an answer leads to; `PAGE`
 //! - `answer`: whether a reply is what was asked for
-//! - `shown`: what is printed of an answer, in a `format`: `Format`
+//! - `shown`: what is printed of an answer, in a `format`: `Format`; `metrics`: a server's numbers for Prometheus
 //! - `run`: `operate_run`, which asks a server; `print_text`; `fault`: `OperateFault`, why the task isn't done
+//! - `confirm`: `confirm_run`, which asks back before it asks a server
 //! - `status`: `operate_status`, the program's status by that end
-//! - `script`: `script_text`, the script of `xarm talk` that asks the same; `laws`: `talk_reads`, it is read so
+//! - `script`: `script_text`, the script of `xarm talk` that asks the same; `laws`: `talk_reads`, it is read so;
+//!   `previews_look_only`, what is shown before changes nothing
 #![tactic(auto)]
 
 mod agenda;
 mod answer;
+mod confirm;
 mod fault;
 mod format;
 mod laws;
 mod line;
+mod metrics;
 mod name;
+mod preview;
+mod question;
 mod run;
 mod script;
 mod shown;
@@ -25,9 +32,10 @@ mod status;
 mod task;
 
 pub use agenda::PAGE;
+pub use confirm::confirm_run;
 pub use fault::OperateFault;
 pub use format::Format;
-pub use laws::talk_reads;
+pub use laws::{previews_look_only, talk_reads};
 pub use name::is_name;
 pub use run::{operate_run, print_text};
 pub use script::script_text;

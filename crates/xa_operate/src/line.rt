@@ -1,7 +1,7 @@
 //! The lines of branches and of counts, in a format.
 ghost use Rattle.std.specs.Fmt.{decimal, signed_decimal};
 ghost use Rattle.std.specs.Prelude.{◌≡◌, ◌++◌, OnOk, codes};
-ghost use Rattle.xa_operate.specs.Lines.{branch_counts, branch_line, branch_lines, count, count_line, count_member, counts_end, counts_text, end_text, line_end, member, quoted};
+ghost use Rattle.xa_operate.specs.Lines.{at_work, at_work_text, branch_counts, branch_line, count, count_line, count_member, counts_end, counts_text, end_text, line_end, member, quoted};
 ghost use Rattle.xa_operate.specs.Lines.{log_counts, rolled_line, server_counts, status_text, word, xid_front, xid_line, xid_lines};
 ghost use Rattle.xa_script.specs.Replies.{state_name};
 
@@ -29,22 +29,8 @@ fn push_xid(line: &mut Vec<u8>, format: Format, xid: &Xid) -> Result<(), AllocEr
     push_end(line, format)
 }
 
-/// Adds a line of each branch.
-pub(crate) fn push_branches(
-    alloc: Global,
-    line: &mut Vec<u8>,
-    format: Format,
-    branches: &[KnownBranch],
-) -> Result<(), AllocError>
-    ensures { OnOk result (line.new.items ≡ line.old.items ++ branch_lines format branches.now) }
-{
-    for branch in branches {
-        push_branch(alloc, line, format, branch)?;
-    }
-    Ok(())
-}
-
-fn push_branch(
+/// Adds the line of a branch.
+pub(crate) fn push_branch(
     alloc: Global,
     line: &mut Vec<u8>,
     format: Format,
@@ -258,6 +244,35 @@ pub(crate) fn push_log_end(
 {
     push_count(alloc, line, format, b'{', "end", end)?;
     push_counts_end(line, format)
+}
+
+/// Adds how many branches are at work.
+pub(crate) fn push_at_work(
+    alloc: Global,
+    line: &mut Vec<u8>,
+    format: Format,
+    status: Status,
+) -> Result<(), AllocError>
+    ensures { OnOk result (line.new.items ≡ line.old.items ++ at_work_text format status) }
+{
+    push_count(
+        alloc,
+        line,
+        format,
+        b'{',
+        "branches at work",
+        at_work(status),
+    )?;
+    push_counts_end(line, format)
+}
+
+fn at_work(status: Status) -> u64
+    ensures { result ≡ at_work status }
+{
+    status
+        .branches
+        .saturating_sub(status.prepared)
+        .saturating_sub(status.completed)
 }
 
 /// Adds how a server is doing.

@@ -47,8 +47,10 @@ fn push_call(text: &mut Vec<u8>, task: &Task) -> Result<(), AllocError>
     ensures { OnOk result (text.new.items ≡ text.old.items ++ ended (call_text task.now)) }
 {
     match task {
-        Task::Status => push_line(text, "1 status"),
-        Task::Branches | Task::RollbackMarked => push_line(text, "1 branches 256"),
+        Task::Status | Task::Metrics | Task::AtWork => push_line(text, "1 status"),
+        Task::Branches | Task::Branch(_) | Task::Abandoned | Task::RollbackMarked => {
+            push_line(text, "1 branches 256")
+        }
         Task::Recover => push_line(text, "1 recover TMSTARTRSCAN 256"),
         Task::Commit(xid) => push_about(text, "1 commit TMNOFLAGS ", xid),
         Task::Rollback(xid) => push_about(text, "1 rollback TMNOFLAGS ", xid),
@@ -86,7 +88,7 @@ fn push_comments(text: &mut Vec<u8>, task: &Task) -> Result<(), AllocError>
     ensures { OnOk result (text.new.items ≡ text.old.items ++ comments_text task.now) }
 {
     match task {
-        Task::Branches => push_more(text),
+        Task::Branches | Task::Branch(_) | Task::Abandoned => push_more(text),
         Task::RollbackMarked => push_marked(text),
         Task::Recover => push_line(text, "# while 256 are listed: 1 recover TMNOFLAGS 256"),
         _ => Ok(()),

@@ -9,8 +9,16 @@ use xa_xid::Xid;
 pub enum Task {
     /// How it is doing.
     Status,
+    /// The same, for Prometheus.
+    Metrics,
+    /// How many branches are at work.
+    AtWork,
     /// Which branches it knows.
     Branches,
+    /// How one of them is.
+    Branch(Xid),
+    /// Which of them are marked, and have nobody at work for them.
+    Abandoned,
     /// Which branches are prepared, or completed by the operator.
     Recover,
     /// That it roll back each branch that is marked rollback-only, and that no session and no loose association is at work
@@ -44,7 +52,11 @@ impl Task {
             | Task::Rollback(_)
             | Task::Forget(_) => true,
             Task::Status
+            | Task::Metrics
+            | Task::AtWork
             | Task::Branches
+            | Task::Branch(_)
+            | Task::Abandoned
             | Task::Decide(..)
             | Task::Doom(_)
             | Task::Trim
@@ -57,7 +69,14 @@ impl Task {
         ensures { result ≡ decides self.now }
     {
         match self {
-            Task::Status | Task::Branches | Task::Recover | Task::Trim => false,
+            Task::Status
+            | Task::Metrics
+            | Task::AtWork
+            | Task::Branches
+            | Task::Branch(_)
+            | Task::Abandoned
+            | Task::Recover
+            | Task::Trim => false,
             Task::RollbackMarked
             | Task::Commit(_)
             | Task::Rollback(_)

@@ -3,7 +3,7 @@ use Rattle.std.specs.Io.{StopsAt}
 use Rattle.std.specs.Io.BufRead.{strip_last, take_through}
 use Rattle.std.specs.Io.KnownBytes.{Appends, Consumes, IsAtEnd, Keeps}
 use Rattle.std.specs.Ordering.{int_eq}
-use Rattle.std.specs.Prelude.{ℕ, ◌≡◌, ◌<◌, ◌⊎◌, pos, Bool, true, false, not, ◌&&◌, List, [], ◌∷◌, ◌++◌, length, Option, Some, None, IfSome, Result, Ok, Err, IsErrOf}
+use Rattle.std.specs.Prelude.{ℕ, ◌≡◌, ◌<◌, ◌⊎◌, pos, Bool, true, false, not, ◌&&◌, List, [], ◌∷◌, ◌++◌, length, Option, Some, None, IfSome, Result, Ok, Err, IsErrOf, MatchBool}
 use Rattle.xa_codes.specs.declared.codes.TheConstants.{XA_RDONLY}
 use Rattle.xa_frame.specs.declared.body.Body.{Body}
 use Rattle.xa_frame.specs.declared.body.Body.TheVariants.{Xids}
@@ -17,6 +17,7 @@ use Rattle.xa_talk.specs.declared.fault.TalkFault.{TalkFault}
 use Rattle.xa_talk.specs.declared.fault.TalkFault.TheVariants.{Memory, Read, Refused, Write}
 use Rattle.xa_talk.specs.declared.manner.Manner.{Manner}
 use Rattle.xa_talk.specs.Answers.{LineAnswered}
+use Rattle.xa_talk.specs.Help.{asks_help, help_text}
 
 abbrev pub is_listing : Body → Bool
 is_listing (Xids xids) = true
@@ -49,14 +50,27 @@ ShowsAnswer manner (Ok (Some reply)) end text = Shows manner reply end text
 ShowsAnswer manner (Err fault) (Ok x) text = ⊥
 ShowsAnswer manner (Err fault) (Err told) text = (told ≡ fault) × (text ≡ [])
 
+-- the calls are written whole, or some first bytes
+abbrev pub Helps : {X : Type 0} → Result X TalkFault → List ℕ → Type 0
+Helps (Ok x) text = text ≡ help_text
+Helps (Err Write) text = IsFront text help_text
+Helps (Err fault) text = ⊥
+
 -- A line is answered as its definition says, and the answer is shown; or there was no memory to read it.
-abbrev pub LineTalked : {C X : Type 0} → Manner → (C → Option (List ℕ)) → (C → Option (List ℕ)) → List ℕ → Result X TalkFault
+abbrev pub LineAsked : {C X : Type 0} → Manner → (C → Option (List ℕ)) → (C → Option (List ℕ)) → List ℕ → Result X TalkFault
     → List ℕ → List (Option C) → List (Option C) → Type 0
-LineTalked manner sent left line end text numbered numbered' =
+LineAsked manner sent left line end text numbered numbered' =
     (IsErrOf end Memory × (text ≡ []) × (numbered' ≡ numbered))
     ⊎ ((answer : Result (Option Reply) TalkFault) × ShowsAnswer manner answer end text
     × ((xid_of : List ℕ → Option Triple) → ReadsTexts xid_of
     → LineAnswered sent left (lines.line_of xid_of line) answer numbered numbered'))
+
+-- the same, but that who types a script is shown its calls
+abbrev pub LineTalked : {C X : Type 0} → Manner → (C → Option (List ℕ)) → (C → Option (List ℕ)) → List ℕ → Result X TalkFault
+    → List ℕ → List (Option C) → List (Option C) → Type 0
+LineTalked manner sent left line end text numbered numbered' =
+    MatchBool (asks_help manner.is_typed line) (Helps end text × (numbered' ≡ numbered))
+    (LineAsked manner sent left line end text numbered numbered')
 
 -- The next line is read, with the line feed that ends it, which the last one may lack. What is known of the input
 -- begins so.

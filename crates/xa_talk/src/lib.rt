@@ -1,8 +1,9 @@
 //! The lines of a script against a live server, moments that it is told, and its end.
 //!
 //! - `talk`: `talk_run`, which reads a script line by line, sends each line's question over a connection, and writes the
-//!   line of its reply as soon as it is there
-//! - `manner`: `Manner`, how a script is talked
+//!   line of its reply as soon as it is there; `read_next`, one line; `without_end`
+//! - `manner`: `Manner`, how a script is talked; `prompter`: `Prompter`, who is told that a line is awaited; `help`: the calls, as
+//!   who types a script is shown them
 //! - `answer`: what one line is answered; `MOST_CONNECTIONS`
 //! - `connections`: the script's connections by their numbers
 //! - `exchanging`: `exchange`, a question that goes over a connection, and its reply that comes back; `ask_end`, what asks
@@ -22,7 +23,9 @@ mod connections;
 mod dial;
 mod exchanging;
 mod fault;
+mod help;
 mod manner;
+mod prompter;
 mod refusal;
 mod shutdown;
 mod shutdown_fault;
@@ -36,10 +39,11 @@ pub use dial::{Connection, Dial};
 pub use exchanging::{ask_end, exchange};
 pub use fault::TalkFault;
 pub use manner::Manner;
+pub use prompter::Prompter;
 pub use refusal::refusal_text;
 pub use shutdown::shutdown_run;
 pub use shutdown_fault::ShutdownFault;
-pub use talk::talk_run;
+pub use talk::{read_next, talk_run, without_end};
 pub use tick::{MOST_EVERY, tick_run};
 pub use tick_fault::TickFault;
 pub use ticker::Ticker;

@@ -7,4 +7,6 @@ pub struct Manner {
     pub style: Style,
     /// The first reply that is an error ends the script, once it is written.
     pub is_strict: bool,
+    /// It is typed at a terminal: the line `help` is answered with the calls.
+    pub is_typed: bool,
 }

@@ -4,13 +4,15 @@ ghost use Rattle.std.specs.Io.KnownBytes.{Appends};
 ghost use Rattle.std.specs.IoError.{error_kind};
 ghost use Rattle.std.specs.Prelude.{◌≡◌, ◌≢◌, List, ℕ};
 ghost use Rattle.xa_talk.specs.declared.dial.Connection.{Connection};
-ghost use Rattle.xa_talk.specs.Talks.{LineTalked, NextRead, Shows, Talks, ends_at, is_error, is_listing};
+ghost use Rattle.xa_talk.specs.Talks.{Helps, LineTalked, NextRead, Shows, Talks, ends_at, is_error, is_listing};
 
 use crate::answer::answer;
 use crate::connections::Connections;
 use crate::dial::Dial;
 use crate::fault::TalkFault;
+use crate::help::{asks_help, help_text};
 use crate::manner::Manner;
+use crate::prompter::Prompter;
 use std::alloc::Global;
 use std::io::{BufRead, Error, ErrorKind, Read, Write};
 use xa_codes::{XA_OK, XA_RDONLY};
@@ -19,7 +21,7 @@ use xa_output::write_text;
 use xa_script::{Line, Teller, read_line, styled_line};
 
 /// Reads a script line by line. Each line is answered, and its reply written in a style and flushed, before the next one
-/// is read.
+/// is read. Where the script is typed, the line `help` is answered with the calls. Before each line the prompter is told.
 ///
 /// It ends with the input, or with the first fault: a line that couldn't be read, or beyond which none can be counted
 /// (`Read`); no memory; no connection where the line asks for one (`Connect`); one that broke (`Broken`), or brought
@@ -31,7 +33,7 @@ pub fn talk_run<
     R: Read + Drop,
     W: Write + Drop,
     D: Dial<R, W>,
-    T: Teller,
+    T: Teller + Prompter,
 >(
     alloc: Global,
     input: &mut I,
@@ -46,6 +48,7 @@ pub fn talk_run<
     let mut connections = Connections::new(alloc);
     let mut line = Vec::new(alloc);
     for index in 0..u64::MAX {
+        teller.prompt();
         if !read_next(input, &mut line)? {
             return Ok(());
         }
@@ -64,7 +67,7 @@ pub fn talk_run<
 }
 
 /// Reads the next line with the line feed that ends it, and says whether there is one.
-fn read_next<I: BufRead>(input: &mut I, line: &mut Vec<u8>) -> Result<bool, TalkFault>
+pub fn read_next<I: BufRead>(input: &mut I, line: &mut Vec<u8>) -> Result<bool, TalkFault>
     ensures { NextRead result (I.remaining input.old) line.new.items (I.remaining input.new) }
 {
     line.clear();
@@ -90,6 +93,9 @@ fn talk_line<O: Write, R: Read + Drop, W: Write + Drop, D: Dial<R, W>, T: Teller
         × LineTalked manner (λ c. W.contents c.writer) (λ c. R.remaining c.reader) line.now result text
         connections.old.numbered.items connections.new.numbered.items }
 {
+    if asks_help(manner, line) {
+        return write_help(output);
+    }
     let said = read_line(alloc, line)?;
     tell_unasked(teller, index, line, &said);
     let Some(reply) = answer(alloc, dial, connections, said)? else {
@@ -107,6 +113,19 @@ fn tell_unasked<T: Teller>(teller: &mut T, index: u64, line: &[u8], said: &Line)
     | Line::Crash { .. } = said
     {
         teller.tell(index, line);
+    }
+}
+
+/// Writes the calls, and flushes them.
+fn write_help<O: Write>(output: &mut O) -> Result<(), TalkFault>
+    ensures { (text : List ℕ) × Appends (O.contents output.old) (O.contents output.new) text × Helps result text }
+{
+    if !write_text(output, help_text().as_bytes()) {
+        return Err(TalkFault::Write);
+    }
+    match output.flush() {
+        Ok(()) => Ok(()),
+        Err(_) => Err(TalkFault::Write),
     }
 }
 
@@ -161,7 +180,7 @@ fn is_listing(body: &Body) -> bool
 }
 
 /// A line without the line feed that ends it.
-fn without_end(line: &[u8]) -> &[u8]
+pub fn without_end(line: &[u8]) -> &[u8]
     ensures { result.now ≡ strip_last 10 line.now }
 {
     let length = line.len();

@@ -12,9 +12,10 @@ use Rattle.xa_service.specs.declared.at.At.TheVariants as at
 use Rattle.xa_service.specs.declared.service.TheConstants.{MOST_SERVED}
 pub use Rattle.xa_words.specs.Rows.{text_in}
 use Rattle.xa_operate.specs.Tasks.{decides}
+use Rattle.xa_operate.specs.declared.format.Format.{Format}
 use Rattle.xa_operate.specs.declared.task.Task.{Task}
 use Rattle.xa_words.specs.Conflicts.{conflict_in}
-use Rattle.xa_words.specs.Orders.{IsMalformedIn, IsNameIn, IsTaskIn, format_named}
+use Rattle.xa_words.specs.Orders.{IsMalformedIn, IsNameIn, IsTaskIn, format_by, format_fault, format_named}
 use Rattle.xa_words.specs.Verbs.{verb_of}
 use Rattle.xa_words.specs.declared.malformed.Malformed.TheVariants as malformed
 use Rattle.xa_words.specs.declared.verb.Verb.{Verb}
@@ -91,6 +92,12 @@ IsNowhere command rows =
 abbrev pub IsOrder : Text → List Row → Task → Type 0
 IsOrder command rows task = (verb : Verb) × (verb_of command ≡ Some verb) × IsTaskIn verb rows task
 
+-- the same, and how its answers are printed
+abbrev pub IsPrinted : Text → List Row → Task → Format → Type 0
+IsPrinted command rows task format =
+    (verb : Verb) × (verb_of command ≡ Some verb) × IsTaskIn verb rows task
+    × (format_by verb (text_in rows (codes "format") (codes "text")) ≡ Some format)
+
 -- what can't be taken back was confirmed
 abbrev pub IsConfirmed : List Row → Task → Type 0
 IsConfirmed rows task = decides task ≡ true → IsSet (one_of (codes "yes") rows) true
@@ -110,12 +117,12 @@ AsksBy command rows (Scan path format) =
 AsksBy command rows (Check path log_bytes) =
     (command ≡ codes "check") × (path.now ≡ text_in rows (codes "path") [])
     × (log_bytes ≡ number_in rows (codes "log-bytes") most_64 MOST_LOG)
-AsksBy command rows (Talk reach seconds manner) =
+AsksBy command rows (Talk reach seconds style strict) =
     (command ≡ codes "talk") × IsReachIn rows (Some reach)
     × (seconds ≡ number_in rows (codes "seconds") most_64 0)
-    × IsSet (one_of (codes "names") rows) manner.style.has_names
-    × IsSet (one_of (codes "text") rows) manner.style.has_texts
-    × IsSet (one_of (codes "strict") rows) manner.is_strict
+    × IsSet (one_of (codes "names") rows) style.has_names
+    × IsSet (one_of (codes "text") rows) style.has_texts
+    × IsSet (one_of (codes "strict") rows) strict
 AsksBy command rows (Tick reach every) =
     (command ≡ codes "tick") × IsReachIn rows (Some reach)
     × (every ≡ number_in rows (codes "every") most_64 1)
@@ -154,17 +161,22 @@ AsksBy command rows (Loop service accepts) =
 AsksBy command rows (Script name task) =
     IsOrder command rows task × IsNameIn rows name.now × IsSet (one_of (codes "print-script") rows) true
 -- what can't be taken back isn't confirmed
-AsksBy command rows (Unconfirmed task xid) =
-    IsOrder command rows task × (xid.now ≡ text_in rows (codes "xid") [])
+AsksBy command rows (Unconfirmed reach seconds format name task xid) =
+    IsPrinted command rows task format × IsNameIn rows name.now × IsReachIn rows reach
+    × (seconds ≡ number_in rows (codes "seconds") most_64 10)
+    × (xid.now ≡ text_in rows (codes "xid") [])
     × IsSet (one_of (codes "print-script") rows) false × IsUnconfirmed rows task
 -- that a task be done
 AsksBy command rows (Operate reach seconds format name task) =
-    IsOrder command rows task × IsNameIn rows name.now × IsReachIn rows (Some reach)
+    IsPrinted command rows task format × IsNameIn rows name.now × IsReachIn rows (Some reach)
     × (seconds ≡ number_in rows (codes "seconds") most_64 10)
-    × (format_named (text_in rows (codes "format") (codes "text")) ≡ Some format)
     × IsSet (one_of (codes "print-script") rows) false × IsConfirmed rows task
 AsksBy command rows (Malformed what) =
-    (IsSome (verb_of command) ⊎ ((command ≡ codes "scan") × (what ≡ malformed.Format))) × IsMalformedIn rows what
+    (IsSome (verb_of command) × IsMalformedIn rows what)
+    ⊎ (((verb : Verb) × (verb_of command ≡ Some verb)
+    × (format_by verb (text_in rows (codes "format") (codes "text")) ≡ None) × (what ≡ format_fault verb))
+    ⊎ ((command ≡ codes "scan") × (what ≡ malformed.Format)
+    × (format_named (text_in rows (codes "format") (codes "text")) ≡ None)))
 -- of options that act by loops alone, beside workers, the first one
 AsksBy command rows (Conflict option) =
     (command ≡ codes "serve") × (number_in rows (codes "workers") most_64 0 ≢ 0) × (conflict_in rows ≡ Some option)

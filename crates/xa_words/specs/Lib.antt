@@ -4,4 +4,5 @@ pub mod Line
 pub mod Orders
 pub mod Conflicts
 pub mod Asks
+pub mod Terminals
 pub mod Runs

@@ -1,11 +1,11 @@
 -- Which task the words behind an operator's command name.
-use Rattle.std.specs.Prelude.{◌≡◌, true, false, List, [], Option, Some, None, codes, bytes_eq, if◌then◌else◌}
+use Rattle.std.specs.Prelude.{◌≡◌, Bool, true, false, List, [], Option, Some, None, codes, bytes_eq, if◌then◌else◌}
 use Rattle.clap.specs.Walk.{Row, Text}
 use Rattle.xa_codes.specs.declared.direction.Direction.{Direction}
 use Rattle.xa_operate.specs.declared.format.Format.{Format}
 use Rattle.xa_operate.specs.declared.format.Format.TheVariants as format
 use Rattle.xa_operate.specs.declared.task.Task.{Task}
-use Rattle.xa_operate.specs.declared.task.Task.TheVariants.{Status, Branches, Recover, RollbackMarked, Commit, Rollback, Forget, Decide, Doom, Trim, Restart}
+use Rattle.xa_operate.specs.declared.task.Task.TheVariants.{Status, Metrics, AtWork, Branches, Branch, Abandoned, Recover, RollbackMarked, Commit, Rollback, Forget, Decide, Doom, Trim, Restart}
 use Rattle.xa_script.specs.Requests.{direction_of, is_name}
 use Rattle.xa_words.specs.Rows.{text_in}
 use Rattle.xa_words.specs.declared.malformed.Malformed.{Malformed}
@@ -20,6 +20,24 @@ format_named word =
     if bytes_eq word (codes "text") then Some format.Text
     else if bytes_eq word (codes "json") then Some format.Json
     else None
+
+-- a server's numbers are to be printed for Prometheus
+abbrev pub is_metrics : List Row → Bool
+is_metrics rows = bytes_eq (text_in rows (codes "format") (codes "text")) (codes "prometheus")
+
+-- the same of a status: for Prometheus there is one format
+abbrev pub status_format : Text → Option Format
+status_format word = if bytes_eq word (codes "prometheus") then Some format.Text else format_named word
+
+-- the format of a command's answers
+abbrev pub format_by : Verb → Text → Option Format
+format_by verb.Status word = status_format word
+format_by _ word = format_named word
+
+-- what is told of a word that is no format
+abbrev pub format_fault : Verb → Malformed
+format_fault verb.Status = malformed.StatusFormat
+format_fault _ = malformed.Format
 
 -- the XID that is given
 pub record IsXidIn (rows : List Row) (xid : Triple) : Type 0 where
@@ -36,7 +54,12 @@ pub record IsNameIn (rows : List Row) (name : Text) : Type 0 where
   pub graphic : is_name name ≡ true
 
 abbrev pub IsTaskIn : Verb → List Row → Task → Type 0
-IsTaskIn command rows Status = command ≡ verb.Status
+IsTaskIn command rows Status = (command ≡ verb.Status) × (is_metrics rows ≡ false)
+IsTaskIn command rows Metrics = (command ≡ verb.Status) × (is_metrics rows ≡ true)
+-- no command names one of these
+IsTaskIn command rows AtWork = ⊥
+IsTaskIn command rows (Branch xid) = ⊥
+IsTaskIn command rows Abandoned = ⊥
 IsTaskIn command rows Branches = command ≡ verb.Branches
 IsTaskIn command rows Recover = command ≡ verb.Recover
 IsTaskIn command rows RollbackMarked = command ≡ verb.RollbackMarked
@@ -49,9 +72,9 @@ IsTaskIn command rows (Doom xid) = (command ≡ verb.Doom) × IsXidIn rows xid
 IsTaskIn command rows Trim = command ≡ verb.Trim
 IsTaskIn command rows Restart = command ≡ verb.Restart
 
--- the word that isn't as it has to be
+-- the word that isn't as it has to be, other than the format
 abbrev pub IsMalformedIn : List Row → Malformed → Type 0
 IsMalformedIn rows malformed.Xid = (xid : Triple) → IsXidIn rows xid → ⊥
 IsMalformedIn rows malformed.Direction = direction_of (text_in rows (codes "direction") []) ≡ None
 IsMalformedIn rows malformed.Name = is_name (text_in rows (codes "name") (codes "xarm")) ≡ false
-IsMalformedIn rows malformed.Format = format_named (text_in rows (codes "format") (codes "text")) ≡ None
+IsMalformedIn rows _ = ⊥

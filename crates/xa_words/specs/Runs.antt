@@ -1,5 +1,5 @@
 -- What is done of a command line.
-use Rattle.std.specs.Prelude.{◌≡◌, ◌≢◌, ◌⊎◌, ℕ, Bool, true, List, [], Option, Result, Ok, Err, IsErrOf}
+use Rattle.std.specs.Prelude.{◌≡◌, ◌≢◌, ◌⊎◌, ℕ, Bool, true, false, List, [], Option, None, IsSome, Result, Ok, Err, IsErrOf}
 use Rattle.std.specs.declared.io.ErrorKind.{ErrorKind as IoKind}
 use Rattle.std.specs.declared.io.ErrorKind.TheVariants as io
 use Rattle.std.specs.Process.{exit_status}
@@ -9,13 +9,16 @@ use Rattle.clap.specs.Simple.{subcommand_of}
 use Rattle.clap.specs.Walk.{Text}
 use Rattle.clap.specs.declared.error.kind.ErrorKind.{ErrorKind}
 use Rattle.clap.specs.declared.error.kind.ErrorKind.TheVariants.{OutOfMemory, DisplayHelp, DisplayVersion}
-use Rattle.xa_commands.specs.Done.{Checked, HasOperated, HasPlayed, HasShown, HasTalked, HasTicked, Scanned, checked_status, scan_format}
+use Rattle.xa_commands.specs.Done.{Checked, HasConfirmed, HasOperated, HasPlayed, HasShown, HasTalked, HasTicked, Scanned, checked_status, scan_format}
 use Rattle.xa_commands.specs.declared.checking_fault.CheckingFault.{CheckingFault}
 use Rattle.xa_commands.specs.declared.scanning_fault.ScanningFault.{ScanningFault}
+use Rattle.xa_commands.specs.declared.server.Reach.{Reach}
 use Rattle.xa_disk.specs.declared.file_fault.FileFault.{FileFault}
 use Rattle.xa_manager.specs.Believed.Opening.{IsBadSetting}
 use Rattle.xa_operate.specs.Courses as operate
 use Rattle.xa_operate.specs.declared.fault.OperateFault.{OperateFault}
+use Rattle.xa_operate.specs.declared.format.Format.{Format}
+use Rattle.xa_operate.specs.declared.task.Task.{Task}
 use Rattle.xa_script.specs.Requests.{is_name}
 use Rattle.xa_play.specs.declared.fault.PlayFault.{PlayFault}
 use Rattle.xa_play.specs.declared.fault.PlayFault.TheVariants as play
@@ -25,10 +28,12 @@ use Rattle.xa_talk.specs.declared.shutdown_fault.ShutdownFault.{ShutdownFault}
 use Rattle.xa_talk.specs.declared.tick_fault.TickFault.{TickFault}
 use Rattle.xa_words.specs.Asks.{AsksOf}
 use Rattle.xa_words.specs.Line.{xarm}
+use Rattle.xa_words.specs.Terminals.{are_both}
 use Rattle.xa_words.specs.declared.asked.Asked.{Asked}
 use Rattle.xa_words.specs.declared.asked.Asked.TheVariants.{Play, Scan, Check, Serve, Loop, Talk, Tick, Shutdown, Operate, Script, Unconfirmed, Malformed, Conflict, Nowhere}
 use Rattle.xa_words.specs.declared.ran.Ran.{Ran}
 use Rattle.xa_words.specs.declared.ran.Ran.TheVariants.{Ended, Serves, Loops}
+use Rattle.xa_words.specs.declared.terminals.Terminals.{Terminals}
 
 -- the status of an end: 0 where all is done, else 1
 abbrev pub status_of : {X E : Type 0} → Result X E → ℕ
@@ -46,6 +51,7 @@ IsRefusal kind status = status ≡ 2
 -- a resource manager is named as scripts can
 abbrev pub NamesWell : Asked → Type 0
 NamesWell (Operate reach seconds format name task) = is_name name.now ≡ true
+NamesWell (Unconfirmed reach seconds format name task xid) = is_name name.now ≡ true
 NamesWell _ = Unit {0}
 
 -- a script was played under this name, with files of this size
@@ -55,9 +61,19 @@ pub record IsPlayed {I X : Type 0} (remaining : I → Option Text) (name : Text)
   pub bad : IsBadSetting name log_bytes → IsErrOf end play.Setting ⊎ IsErrOf end play.Memory
   pub played : IsErrOf end play.Memory ⊎ HasPlayed remaining name log_bytes end
 
--- by what the runtime's readers, disks, connections and clocks are
-module _ {I D C : Type 0} (T : Type 0) (remaining : I → Option Text) (honest : Type 0) (seen : D → Text)
+-- by which streams are terminals, and what the runtime's readers, disks, connections and clocks are
+module _ {I D C : Type 0} (terminals : Terminals) (T : Type 0) (remaining : I → Option Text) (honest : Type 0) (seen : D → Text)
     (opened : D → Text → Type 0) (refused : Text → FileFault → Type 0) (sent left : C → Option Text) where
+  -- What can't be taken back wasn't confirmed by the words: where nobody types, it is told what would be done; where
+  -- somebody does, it is done once he has said yes, if it is known where.
+  abbrev pub HasAsked : Option Reach → Format → Text → Task → ℕ → Type 0
+  HasAsked reach format name task status =
+      ((terminals.input ≡ false) × (status ≡ 2))
+      ⊎ (((reach ≡ None) × (status ≡ 2))
+      ⊎ ((terminals.input ≡ true) × IsSome reach
+      × ((end : Result (Unit {0}) OperateFault) × HasConfirmed format task remaining sent left name end
+      × (status ≡ operate.status_of end))))
+
   -- The command that was asked for was done, and that end's status is told; a server is handed on, unless it was to open
   -- what stands of a damaged log, and that failed.
   abbrev pub HasDone : Asked → Ran → Type 0
@@ -69,8 +85,10 @@ module _ {I D C : Type 0} (T : Type 0) (remaining : I → Option Text) (honest :
   HasDone (Check path log_bytes) (Ended code) =
       (end : Result Bool CheckingFault) × Checked honest seen opened refused path.now log_bytes end
       × (exit_status code ≡ checked_status end)
-  HasDone (Talk reach seconds manner) (Ended code) =
-      (end : Result (Unit {0}) TalkFault) × HasTalked manner remaining sent left end × (exit_status code ≡ status_of end)
+  HasDone (Talk reach seconds style strict) (Ended code) =
+      (end : Result (Unit {0}) TalkFault) × (typed : Bool) × (typed ≡ are_both terminals)
+      × HasTalked (record { style = style; is_strict = strict; is_typed = typed }) remaining sent left end
+      × (exit_status code ≡ status_of end)
   HasDone (Tick reach every) (Ended code) =
       (end : Result (Unit {0}) TickFault) × HasTicked T sent left end × (exit_status code ≡ status_of end)
   HasDone (Shutdown reach) (Ended code) =
@@ -80,7 +98,8 @@ module _ {I D C : Type 0} (T : Type 0) (remaining : I → Option Text) (honest :
       × (exit_status code ≡ operate.status_of end)
   HasDone (Script name task) (Ended code) =
       (end : Result (Unit {0}) OperateFault) × HasShown name.now task end × (exit_status code ≡ operate.status_of end)
-  HasDone (Unconfirmed task xid) (Ended code) = exit_status code ≡ 2
+  HasDone (Unconfirmed reach seconds format name task xid) (Ended code) =
+      HasAsked reach format name.now task (exit_status code)
   HasDone (Malformed what) (Ended code) = exit_status code ≡ 2
   HasDone (Conflict option) (Ended code) = exit_status code ≡ 2
   HasDone Nowhere (Ended code) = exit_status code ≡ 2

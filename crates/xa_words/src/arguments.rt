@@ -4,8 +4,7 @@ ghost use Rattle.xa_words.specs.Line.{HasRule, accept_damage_rule, branch_second
 ghost use Rattle.xa_words.specs.Line.{exit_when_down_rule};
 ghost use Rattle.xa_words.specs.Line.{frame_seconds_rule, idle_seconds_rule, listen_rule, log_bytes_rule};
 ghost use Rattle.xa_words.specs.Line.{first_path_rule, log_rule, loops_rule, name_rule, names_rule, path_rule, play_name_rule};
-ghost use Rattle.xa_words.specs.Line.{direction_rule, format_rule, host_rule, print_script_rule, seconds_rule, strict_rule};
-ghost use Rattle.xa_words.specs.Line.{talk_seconds_rule, text_rule, xid_rule, yes_rule};
+ghost use Rattle.xa_words.specs.Line.{host_rule, strict_rule, text_rule};
 ghost use Rattle.xa_words.specs.Line.{port_rule, serve_log_bytes_rule, socket_rule, tick_rule, trim_rule, workers_rule};
 
 use clap::builder::ValueParser;
@@ -23,9 +22,6 @@ const MOST_FRAME_SECONDS: u64 = 3_600;
 
 /// The most seconds that a connection may be quiet between frames, where that has an end: a day.
 const MOST_IDLE_SECONDS: u64 = 86_400;
-
-/// The most seconds that an answer may be waited for.
-const MOST_SECONDS: u64 = 3_600;
 
 pub fn play_name<'a>(alloc: Global) -> Arg<'a>
     ensures { HasRule play_name_rule result }
@@ -333,90 +329,4 @@ pub fn every<'a>(alloc: Global) -> Arg<'a>
         .value_parser(ValueParser::unsigned(1, MOST_EVERY))
         .action(ArgAction::Set)
         .default_value("1")
-}
-
-pub fn direction<'a>(alloc: Global) -> Arg<'a>
-    ensures { HasRule direction_rule result }
-{
-    Arg::new(alloc, "direction")
-        .value_name("DIRECTION")
-        .help("What becomes of the branch: commit or rollback")
-        .required(true)
-        .action(ArgAction::Set)
-}
-
-pub fn xid<'a>(alloc: Global) -> Arg<'a>
-    ensures { HasRule xid_rule result }
-{
-    Arg::new(alloc, "xid")
-        .value_name("XID")
-        .help(
-            "The branch, as 1:aa:bb: its format number in decimal, and both parts of its XID in lower case hexadecimal",
-        )
-        .required(true)
-        .action(ArgAction::Set)
-}
-
-pub fn open_name<'a>(alloc: Global) -> Arg<'a>
-    ensures { HasRule play_name_rule result }
-{
-    Arg::new(alloc, "name")
-        .long("name")
-        .value_name("NAME")
-        .help("The name under which the resource manager is opened: 1 to 255 bytes from ! to ~")
-        .action(ArgAction::Set)
-        .default_value("xarm")
-}
-
-pub fn seconds<'a>(alloc: Global) -> Arg<'a>
-    ensures { HasRule seconds_rule result }
-{
-    Arg::new(alloc, "seconds")
-        .long("seconds")
-        .value_name("S")
-        .help("How many seconds each answer is waited for: 1 to 3600")
-        .value_parser(ValueParser::unsigned(1, MOST_SECONDS))
-        .action(ArgAction::Set)
-        .default_value("10")
-}
-
-pub fn talk_seconds<'a>(alloc: Global) -> Arg<'a>
-    ensures { HasRule talk_seconds_rule result }
-{
-    Arg::new(alloc, "seconds")
-        .long("seconds")
-        .value_name("S")
-        .help("How many seconds each answer is waited for: 0 (without end) to 3600")
-        .value_parser(ValueParser::unsigned(0, MOST_SECONDS))
-        .action(ArgAction::Set)
-        .default_value("0")
-}
-
-pub fn format<'a>(alloc: Global) -> Arg<'a>
-    ensures { HasRule format_rule result }
-{
-    Arg::new(alloc, "format")
-        .long("format")
-        .value_name("FORMAT")
-        .help("How it is printed: text, or json, an object a line")
-        .action(ArgAction::Set)
-        .default_value("text")
-}
-
-pub fn print_script<'a>(alloc: Global) -> Arg<'a>
-    ensures { HasRule print_script_rule result }
-{
-    Arg::new(alloc, "print-script")
-        .long("print-script")
-        .help("Prints the script of xarm talk that asks the same, and does nothing else")
-        .action(ArgAction::SetTrue)
-}
-
-pub fn yes<'a>(alloc: Global) -> Arg<'a>
-    ensures { HasRule yes_rule result }
-{
-    Arg::new(alloc, "yes")
-        .long("yes")
-        .help("Does it, which can't be taken back; without it, it is told what would be done")
-        .action(ArgAction::SetTrue)
 }

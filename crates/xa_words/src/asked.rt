@@ -2,8 +2,8 @@ use crate::loop_option::LoopOption;
 use crate::malformed::Malformed;
 use xa_commands::Reach;
 use xa_operate::{Format, Task};
+use xa_script::Style;
 use xa_service::{LoopService, Service};
-use xa_talk::Manner;
 
 /// What a command line asks for.
 #[derive(Debug, Drop)]
@@ -27,7 +27,9 @@ pub enum Asked<'a> {
         reach: Reach<'a>,
         /// How many seconds an answer may be waited for: 0 for no end.
         seconds: u64,
-        manner: Manner,
+        style: Style,
+        /// The first reply that is an error ends it.
+        is_strict: bool,
     },
     Tick {
         reach: Reach<'a>,
@@ -62,8 +64,13 @@ pub enum Asked<'a> {
         name: &'a str,
         task: Task,
     },
-    /// A task can't be taken back, and wasn't confirmed.
+    /// A server is to be asked a task that can't be taken back, and that wasn't confirmed.
     Unconfirmed {
+        /// None where neither a port nor a path was given.
+        reach: Option<Reach<'a>>,
+        seconds: u64,
+        format: Format,
+        name: &'a str,
         task: Task,
         /// As it was given, where the task names one.
         xid: &'a str,

@@ -12,6 +12,7 @@ use crate::asked::Asked;
 use crate::loop_option::LoopOption;
 use crate::malformed::Malformed;
 use crate::ran::Ran;
+use crate::terminals::Terminals;
 use crate::words::read_words;
 use clap::Error;
 use clap::error::ErrorKind;
@@ -23,21 +24,23 @@ use std::rt::{Clock, Env};
 use std::{env, io};
 use xa_codes::Direction;
 use xa_commands::{
-    Server, Stream, accept_damage, check, checked, ended, ended_at, operate, operated, play, scan,
-    show_script, shutdown, talk, tick, words_fault,
+    Server, Stream, accept_damage, check, checked, confirm, ended, ended_at, operate, operated,
+    play, scan, show_script, shutdown, talk, tick, words_fault,
 };
 use xa_disk::Opens;
 use xa_operate::{OperateFault, Task, operate_status};
 use xa_play::PlayFault;
+use xa_talk::Manner;
 
 /// Does what the command line says, but that it serves. Status 0: done. 1: a fault, its line on standard error. 2: the
 /// command line was refused. Of a check 1: a server doesn't open the files; 2: a fault, too. Of a task that a server is
-/// asked 1: the server refused it; 3: it isn't known to be done.
+/// asked 1: the server refused it; 3: it isn't known to be done. Where standard input is a terminal, it is asked whether to
+/// do what can't be taken back; where standard error is one, too, the lines of a talk are asked for.
 pub fn run<
     'a,
     R: AllocGlobal + Input + Print + Eprint + Opens + Files + Clock + Net<Stream = TcpStream>,
->(rt: &R, words: &'a io::Result<Vec<String>>) -> Ran<'a>
-    ensures run { IfOk words.now (λ words. HasRun {C = Connection Stream Stream} (Watch R) R.Reader.remaining
+>(rt: &R, words: &'a io::Result<Vec<String>>, terminals: Terminals) -> Ran<'a>
+    ensures run { IfOk words.now (λ words. HasRun {C = Connection Stream Stream} terminals (Watch R) R.Reader.remaining
         R.Disk.honest R.Disk.seen R.opened R.refused (λ c. ⟦<Stream as Write>⟧.contents c.writer)
         (λ c. ⟦<Stream as Read>⟧.remaining c.reader) (map string_bytes words.items) result) }
     ensures unread { IfErr words.now (λ error. IsUnread (error_kind error) result) }
@@ -47,7 +50,7 @@ pub fn run<
         Err(error) => return Ran::Ended(words_fault(rt, error)),
     };
     match read_words(rt.alloc(), words.as_slice()) {
-        Ok(asked) => done(rt, asked),
+        Ok(asked) => done(rt, asked, terminals),
         Err(error) => Ran::Ended(refused(rt, &error)),
     }
 }
@@ -56,9 +59,9 @@ pub fn run<
 fn done<
     'a,
     R: AllocGlobal + Input + Print + Eprint + Opens + Files + Clock + Net<Stream = TcpStream>,
->(rt: &R, asked: Asked<'a>) -> Ran<'a>
+>(rt: &R, asked: Asked<'a>, terminals: Terminals) -> Ran<'a>
     requires { NamesWell asked }
-    ensures { HasDone {C = Connection Stream Stream} (Watch R) R.Reader.remaining R.Disk.honest R.Disk.seen
+    ensures { HasDone {C = Connection Stream Stream} terminals (Watch R) R.Reader.remaining R.Disk.honest R.Disk.seen
         R.opened R.refused (λ c. ⟦<Stream as Write>⟧.contents c.writer)
         (λ c. ⟦<Stream as Read>⟧.remaining c.reader) asked.entry result }
 {
@@ -83,9 +86,15 @@ fn done<
         Asked::Talk {
             reach,
             seconds,
-            manner,
+            style,
+            is_strict,
         } => {
             let mut server = Server::new(rt, reach, seconds);
+            let manner = Manner {
+                style,
+                is_strict,
+                is_typed: terminals.are_both(),
+            };
             let end = talk(rt, &mut server, manner);
             ended_at(rt, &end, &server)
         }
@@ -111,7 +120,24 @@ fn done<
             operated(rt, &end, Some(&server))
         }
         Asked::Script { name, task } => shown(rt, &show_script(rt, name, &task)),
-        Asked::Unconfirmed { task, xid } => unconfirmed(rt, &task, xid),
+        Asked::Unconfirmed {
+            reach,
+            seconds,
+            format,
+            name,
+            task,
+            xid,
+        } => {
+            if !terminals.input {
+                unconfirmed(rt, &task, xid)
+            } else if let Some(reach) = reach {
+                let mut server = Server::new(rt, reach, seconds);
+                let end = confirm(rt, &mut server, name, &task, format);
+                operated(rt, &end, Some(&server))
+            } else {
+                nowhere(rt)
+            }
+        }
         Asked::Malformed(malformed) => told(rt, &malformed),
         Asked::Conflict(option) => conflicting(rt, option),
         Asked::Nowhere => nowhere(rt),
@@ -151,7 +177,14 @@ fn unconfirmed<R: Eprint>(rt: &R, task: &Task, xid: &str) -> ExitCode
         Task::RollbackMarked =>
             "roll back every branch that is marked and that nobody is at work for",
         Task::Restart => "have the server reread its log, and end all work that isn't prepared",
-        Task::Status | Task::Branches | Task::Recover | Task::Trim => "do what can't be taken back",
+        Task::Status
+        | Task::Metrics
+        | Task::AtWork
+        | Task::Branches
+        | Task::Branch(_)
+        | Task::Abandoned
+        | Task::Recover
+        | Task::Trim => "do what can't be taken back",
     };
     let _ = eprintln!(rt;
         "error: nothing was done: this would {would}{xid}\n\nGive --yes to do it."

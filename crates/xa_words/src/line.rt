@@ -2,14 +2,16 @@
 ghost use Rattle.std.specs.Prelude.{IfOk};
 ghost use Rattle.clap.specs.Simple.{App};
 ghost use Rattle.clap.specs.Walk.{Rule};
-ghost use Rattle.xa_words.specs.Line.{HasRule, HasShape, IsApp, asking, bare, check_shape, others, verb_shape, with_given, play_shape, scan_shape, serve_shape};
+ghost use Rattle.xa_words.specs.Line.{HasRule, HasShape, format_rule, IsApp, asking, bare, check_shape, others, verb_shape, with_given, play_shape, scan_shape, serve_shape};
 ghost use Rattle.xa_words.specs.Line.{shutdown_shape, talk_shape, tick_shape, xarm};
 
 use crate::arguments::{
-    accept_damage, branch_seconds, connections, direction, every, exit_when_down, first_path,
-    format, frame_seconds, host, idle_seconds, listen, log, log_bytes, loops, name, names,
-    open_name, path, play_name, port, print_script, seconds, serve_log_bytes, serve_socket, socket,
-    strict, talk_seconds, text, tick, trim, workers, xid, yes,
+    accept_damage, branch_seconds, connections, every, exit_when_down, first_path, frame_seconds,
+    host, idle_seconds, listen, log, log_bytes, loops, name, names, path, play_name, port,
+    serve_log_bytes, serve_socket, socket, strict, text, tick, trim, workers,
+};
+use crate::operator_arguments::{
+    direction, format, open_name, print_script, seconds, status_format, talk_seconds, xid, yes,
 };
 use crate::verb::Verb;
 use clap::{Arg, Command};
@@ -77,9 +79,19 @@ fn verb_command<'a>(alloc: Global, verb: Verb) -> Result<Command<'a>, AllocError
         .arg(socket(alloc))?;
     let command = with_argument(command, open_name(alloc), verb.opens_session())?;
     let command = command.arg(seconds(alloc))?;
-    let command = with_argument(command, format(alloc), verb.lists())?;
+    let command = with_argument(command, format_of(alloc, verb), verb.lists())?;
     let command = command.arg(print_script(alloc))?;
     with_argument(command, yes(alloc), verb.decides())
+}
+
+// How a command's answers are printed.
+fn format_of<'a>(alloc: Global, verb: Verb) -> Arg<'a>
+    ensures { HasRule format_rule result }
+{
+    match verb {
+        Verb::Status => status_format(alloc),
+        _ => format(alloc),
+    }
 }
 
 // The command with one argument more, if it is given.

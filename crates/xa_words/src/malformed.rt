@@ -11,4 +11,6 @@ pub enum Malformed {
     Name,
     #[error("invalid value for '--format <FORMAT>': it is text or json")]
     Format,
+    #[error("invalid value for '--format <FORMAT>': it is text, json or prometheus")]
+    StatusFormat,
 }

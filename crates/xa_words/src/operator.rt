@@ -4,7 +4,7 @@ ghost use Rattle.clap.specs.Matches.{found_of};
 ghost use Rattle.clap.specs.Walk.{rows_of};
 ghost use Rattle.xa_words.specs.Asks.{AsksBy, IsConfirmed, IsUnconfirmed, text_in};
 ghost use Rattle.xa_script.specs.Requests.{direction_of, is_name};
-ghost use Rattle.xa_words.specs.Orders.{IsDirectionIn, IsMalformedIn, IsTaskIn, IsXidIn, format_named};
+ghost use Rattle.xa_words.specs.Orders.{IsDirectionIn, IsMalformedIn, IsTaskIn, IsXidIn, format_by, format_fault, format_named, is_metrics, status_format};
 ghost use Rattle.xa_words.specs.Verbs.{verb_of};
 
 use crate::asked::Asked;
@@ -24,8 +24,8 @@ pub(crate) fn operator_of<'a>(verb: Verb, matches: &ArgMatches<'a>) -> Asked<'a>
     if !is_name(name) {
         return Asked::Malformed(Malformed::Name);
     }
-    let Some(format) = read_format(text_of(matches, "format", "text")) else {
-        return Asked::Malformed(Malformed::Format);
+    let Some(format) = format_by(verb, text_of(matches, "format", "text")) else {
+        return Asked::Malformed(format_fault(verb));
     };
     match task_of(verb, matches) {
         Ok(task) => order_of(verb, matches, name, task, format),
@@ -43,7 +43,7 @@ fn order_of<'a>(
 ) -> Asked<'a>
     requires named { name.now ≡ text_in (rows_of (found_of matches.now)) (codes "name") (codes "xarm") }
     requires graphic { is_name name.now ≡ true }
-    requires format { format_named (text_in (rows_of (found_of matches.now)) (codes "format") (codes "text")) ≡ Some format }
+    requires format { format_by verb (text_in (rows_of (found_of matches.now)) (codes "format") (codes "text")) ≡ Some format }
     requires task { IsTaskIn verb (rows_of (found_of matches.now)) task }
     ensures { (command : List ℕ) → verb_of command ≡ Some verb → AsksBy command (rows_of (found_of matches.now)) result }
 {
@@ -52,6 +52,10 @@ fn order_of<'a>(
     }
     if !is_confirmed(matches, &task) {
         return Asked::Unconfirmed {
+            reach: reach_of(matches),
+            seconds: number_of(matches, "seconds", 10),
+            format,
+            name,
             task,
             xid: text_of(matches, "xid", ""),
         };
@@ -80,12 +84,41 @@ fn is_confirmed(matches: &ArgMatches<'_>, task: &Task) -> bool
     }
 }
 
+// How a command's answers are to be printed.
+fn format_by(verb: Verb, word: &str) -> Option<Format>
+    ensures { result ≡ format_by verb word.now }
+{
+    match verb {
+        Verb::Status => status_format(word),
+        _ => read_format(word),
+    }
+}
+
+// The same of a status: for Prometheus there is one format.
+fn status_format(word: &str) -> Option<Format>
+    ensures { result ≡ status_format word.now }
+{
+    match word {
+        "prometheus" => Some(Format::Text),
+        _ => read_format(word),
+    }
+}
+
+fn format_fault(verb: Verb) -> Malformed
+    ensures { result ≡ format_fault verb }
+{
+    match verb {
+        Verb::Status => Malformed::StatusFormat,
+        _ => Malformed::Format,
+    }
+}
+
 fn task_of(verb: Verb, matches: &ArgMatches<'_>) -> Result<Task, Malformed>
     ensures task { IfOk result (IsTaskIn verb (rows_of (found_of matches.now))) }
     ensures malformed { IfErr result (IsMalformedIn (rows_of (found_of matches.now))) }
 {
     match verb {
-        Verb::Status => Ok(Task::Status),
+        Verb::Status => Ok(status_of(matches)),
         Verb::Branches => Ok(Task::Branches),
         Verb::Recover => Ok(Task::Recover),
         Verb::Commit => Ok(Task::Commit(xid_of(matches)?)),
@@ -97,6 +130,23 @@ fn task_of(verb: Verb, matches: &ArgMatches<'_>) -> Result<Task, Malformed>
         Verb::Restart => Ok(Task::Restart),
         Verb::RollbackMarked => Ok(Task::RollbackMarked),
     }
+}
+
+fn status_of(matches: &ArgMatches<'_>) -> Task
+    ensures { IsTaskIn Verb.Status (rows_of (found_of matches.now)) result }
+{
+    if is_metrics(matches) {
+        Task::Metrics
+    } else {
+        Task::Status
+    }
+}
+
+// Whether a server's numbers are to be printed for Prometheus.
+fn is_metrics(matches: &ArgMatches<'_>) -> bool
+    ensures { result ≡ is_metrics (rows_of (found_of matches.now)) }
+{
+    text_of(matches, "format", "text") == "prometheus"
 }
 
 fn decision_of(matches: &ArgMatches<'_>) -> Result<Task, Malformed>

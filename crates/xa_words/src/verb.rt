@@ -160,21 +160,21 @@ impl Verb {
             Verb::Recover =>
                 "Example: xarm recover --port 4187 --name bank\nStatus 0: done. 1: the server refused it. 2: the words are wrong. 3: no connection, or it was lost.",
             Verb::Commit =>
-                "Example: xarm commit --port 4187 --name bank --yes 1:aa:bb\nAn XID with a negative format number stands behind --.\nStatus 0: done. 1: the server refused it. 2: the words are wrong. 3: no connection, or it was lost; the call may have been done.",
+                "Example: xarm commit --port 4187 --name bank --yes 1:aa:bb\nAn XID with a negative format number stands behind --.\nStatus 0: done. 1: the server refused it, or the answer wasn't yes. 2: the words are wrong. 3: no connection, or it was lost; the call may have been done.",
             Verb::Rollback =>
-                "Example: xarm rollback --port 4187 --name bank --yes 1:aa:bb\nAn XID with a negative format number stands behind --.\nStatus 0: done. 1: the server refused it. 2: the words are wrong. 3: no connection, or it was lost; the call may have been done.",
+                "Example: xarm rollback --port 4187 --name bank --yes 1:aa:bb\nAn XID with a negative format number stands behind --.\nStatus 0: done. 1: the server refused it, or the answer wasn't yes. 2: the words are wrong. 3: no connection, or it was lost; the call may have been done.",
             Verb::Forget =>
-                "Example: xarm forget --port 4187 --name bank --yes 1:aa:bb\nAn XID with a negative format number stands behind --.\nStatus 0: done. 1: the server refused it. 2: the words are wrong. 3: no connection, or it was lost; the call may have been done.",
+                "Example: xarm forget --port 4187 --name bank --yes 1:aa:bb\nAn XID with a negative format number stands behind --.\nStatus 0: done. 1: the server refused it, or the answer wasn't yes. 2: the words are wrong. 3: no connection, or it was lost; the call may have been done.",
             Verb::Decide =>
-                "Example: xarm decide --port 4187 --yes commit 1:aa:bb\nAn XID with a negative format number stands behind --.\nStatus 0: done. 1: the server refused it. 2: the words are wrong. 3: no connection, or it was lost; the call may have been done.",
+                "Example: xarm decide --port 4187 --yes commit 1:aa:bb\nAn XID with a negative format number stands behind --.\nStatus 0: done. 1: the server refused it, or the answer wasn't yes. 2: the words are wrong. 3: no connection, or it was lost; the call may have been done.",
             Verb::Doom =>
-                "Example: xarm doom --port 4187 --yes 1:aa:bb\nAn XID with a negative format number stands behind --.\nStatus 0: done. 1: the server refused it. 2: the words are wrong. 3: no connection, or it was lost; the call may have been done.",
+                "Example: xarm doom --port 4187 --yes 1:aa:bb\nAn XID with a negative format number stands behind --.\nStatus 0: done. 1: the server refused it, or the answer wasn't yes. 2: the words are wrong. 3: no connection, or it was lost; the call may have been done.",
             Verb::Trim =>
                 "Example: xarm trim --port 4187\nStatus 0: done. 1: the server refused it. 2: the words are wrong. 3: no connection, or it was lost; the call may have been done.",
             Verb::Restart =>
-                "Example: xarm restart --port 4187 --yes\nStatus 0: done. 1: the server refused it. 2: the words are wrong. 3: no connection, or it was lost; the call may have been done.",
+                "Example: xarm restart --port 4187 --yes\nStatus 0: done. 1: the server refused it, or the answer wasn't yes. 2: the words are wrong. 3: no connection, or it was lost; the call may have been done.",
             Verb::RollbackMarked =>
-                "Example: xarm rollback-marked --port 4187 --name bank --yes\nA line has the XID and the code of the rollback, which is the branch's mark.\nStatus 0: done. 1: the server refused one. 2: the words are wrong. 3: no connection, or it was lost.",
+                "Example: xarm rollback-marked --port 4187 --name bank --yes\nA line has the XID and the code of the rollback, which is the branch's mark.\nStatus 0: done. 1: the server refused one, or the answer wasn't yes. 2: the words are wrong. 3: no connection, or it was lost.",
         }
     }
 }

@@ -17,7 +17,6 @@ use xa_commands::Reach;
 use xa_limits::MOST_LOG;
 use xa_script::Style;
 use xa_service::{At, LoopService, MOST_SERVED, Service};
-use xa_talk::Manner;
 
 /// What the words of a command line ask for, the program's name first.
 pub fn read_words<'a>(alloc: Global, words: &'a [String]) -> Result<Asked<'a>, Error>
@@ -167,13 +166,11 @@ fn talk_of<'a>(matches: &ArgMatches<'a>) -> Asked<'a>
     Asked::Talk {
         reach,
         seconds: number_of(matches, "seconds", 0),
-        manner: Manner {
-            style: Style {
-                has_names: flag_of(matches, "names"),
-                has_texts: flag_of(matches, "text"),
-            },
-            is_strict: flag_of(matches, "strict"),
+        style: Style {
+            has_names: flag_of(matches, "names"),
+            has_texts: flag_of(matches, "text"),
         },
+        is_strict: flag_of(matches, "strict"),
     }
 }
 

@@ -10,14 +10,19 @@
 //! `xa_words` reads the command line, and does what it asks for, except to serve, which `xa_server` does.
 #![tactic(auto)]
 
+use std::io::IsTerminal;
 use std::process::ExitCode;
 use xa_commands::served;
 use xa_server::{serve, serve_loops};
-use xa_words::{Ran, given_words, run};
+use xa_words::{Ran, Terminals, given_words, run};
 
 fn main(rt: HostRuntime) -> ExitCode {
     let words = given_words(&rt);
-    match run(&rt, &words) {
+    let terminals = Terminals {
+        input: rt.stdin().is_terminal(),
+        errors: rt.stderr().is_terminal(),
+    };
+    match run(&rt, &words, terminals) {
         Ran::Ended(status) => status,
         Ran::Serves(service) => served(&rt, &serve(&rt, &service)),
         Ran::Loops(service) => served(&rt, &serve_loops(&rt, &service)),

@@ -19,7 +19,7 @@ returns c =
     let four = adds_rule c.in_ok-arg-2.field-0 c.socket.result c.in_ok-command-3.command _ socket_rule reached c.socket.ensures c.in_ok-command-3.ensures in
     let five = given_as _ _ c.opens_session.ensures play_name_rule _ c.in_ok-command-4.command (c.in_ok-command-4.ensures _ play_name_rule four c.open_name.ensures) in
     let six = adds_rule c.in_ok-command-4.command c.seconds.result c.in_ok-command-5.command _ seconds_rule five c.seconds.ensures c.in_ok-command-5.ensures in
-    let seven = given_as _ _ c.lists.ensures format_rule _ c.in_ok-command-6.command (c.in_ok-command-6.ensures _ format_rule six c.format.ensures) in
+    let seven = given_as _ _ c.lists.ensures format_rule _ c.in_ok-command-6.command (c.in_ok-command-6.ensures _ format_rule six c.format_of.ensures) in
     let eight = adds_rule c.in_ok-command-6.command c.print_script.result c.in_ok-command-7.command _ print_script_rule seven c.print_script.ensures c.in_ok-command-7.ensures in
     shaped c.with_argument-5.result (built_app c.args.verb) (verb_shape c.args.verb) (built_shape c.args.verb)
     (given_ok _ _ c.decides.ensures yes_rule _ c.with_argument-5.result (c.with_argument-5.ensures _ yes_rule eight c.yes.ensures))
