@@ -89,6 +89,7 @@ impl Branches {
             → option_copied active.entry ≡ active_of s.associations n
             → BranchesStandFor self.old s → BranchesStandFor self.new (hang_up_by s n).after }
         ensures moment { moment_of self.new ≡ moment_of self.old }
+        ensures rooms { rooms_of self.new ≡ rooms_of self.old }
     {
         take_all_due(&self.working, &mut self.due, own);
         leave_all(&mut self.working, own, active);

@@ -2,6 +2,7 @@ ghost use Rattle.std.specs.Prelude.{◌≡◌, nat_lt, is_err, IfOk, IfErr, OnOk
 ghost use Rattle.xa_codes.specs.declared.codes.TheConstants.{XAER_INVAL};
 ghost use Rattle.xa_model.specs.{State.count, TimeLimits.runs_out, TimeLimits.ticked};
 ghost use Rattle.xa_branch.specs.Follows.{Follows, InEach, InSound};
+ghost use Rattle.xa_branch.specs.Room.{rooms_of};
 
 use crate::branches::Branches;
 use crate::changes::mark_working;
@@ -19,6 +20,7 @@ impl Branches {
         ensures err { OnErr result (self.new ≡ self.old) }
         ensures number { InSound self.old (λ s. IfOk result (λ n. n ≡ count (runs_out moment) s.branches)) }
         ensures ok { OnOk result (Follows self.old (λ s. ticked s moment) self.new) }
+        ensures rooms { rooms_of self.new ≡ rooms_of self.old }
     {
         if moment < self.moment {
             return Err(XAER_INVAL);

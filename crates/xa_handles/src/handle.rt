@@ -3,7 +3,7 @@ ghost use Rattle.xa_assoc.specs.Refusals.{is_memory};
 ghost use Rattle.xa_frame.specs.Limits.{IsReply, IsRequest};
 ghost use Rattle.xa_handles.specs.Believed.Accounts.{Ends, Posts, asking, next_ask, told_of};
 ghost use Rattle.xa_handles.specs.Mail.{IsCall, put_at};
-ghost use Rattle.xa_handles.specs.Believed.Shared.{CalledBy, ConnectedBy, DidCall, IsTold};
+ghost use Rattle.xa_handles.specs.Believed.Shared.{CalledBy, ConnectedBy, DidCall, IsTold, LeftBy};
 ghost use Rattle.xa_model.specs.declared.event.Event.TheVariants as Event;
 ghost use Rattle.xa_sequencer.specs.{Associates.AssociatedBy, Associates.EndedBy, Believed.GroupManager.pending_of};
 ghost use Rattle.xa_tokens.specs.{Believed.Account.Owes, Believed.Receipts.IsInOrder};
@@ -73,7 +73,7 @@ impl<'a, M: GroupCommits, S: Start, B: Book, R: Wait> Handle<'a, M, S, B, R> {
     {
         let sequencer = self.sequencer;
         sequencer
-            .take_settled(self.rt)
+            .take(self.rt)
             .connect(&sequencer.tokens, &mut self.asker)
     }
 
@@ -224,7 +224,7 @@ impl<'a, M: GroupCommits, S: Start, B: Book, R: Wait> Handle<'a, M, S, B, R> {
     pub fn status(&self) -> Status
         ensures { IsTold M.manages S.start S.base result }
     {
-        self.sequencer.take_settled(self.rt).status()
+        self.sequencer.take(self.rt).status()
     }
 
     /// The share.
@@ -239,16 +239,14 @@ impl<'a, M: GroupCommits, S: Start, B: Book, R: Wait> Handle<'a, M, S, B, R> {
     pub fn has_association(&self, session: u64) -> bool
         ensures { AssociatedBy M.manages S.start S.base session result }
     {
-        self.sequencer
-            .take_settled(self.rt)
-            .has_association(session)
+        self.sequencer.take(self.rt).has_association(session)
     }
 
-    /// Where the log's next record begins, while the manager is up.
+    /// Where the log's next record begins, while the manager is up: while a group is pending, its first one.
     pub fn log_end(&self) -> u64
         ensures { EndedBy M.manages S.start S.base result }
     {
-        self.sequencer.take_settled(self.rt).log_end()
+        self.sequencer.take(self.rt).log_end()
     }
 }
 
@@ -272,9 +270,12 @@ impl<M: GroupCommits, S: Start, B: Book, R: Wait> Door for Handle<'_, M, S, B, R
 
     fn hangup(&mut self, session: u64) {
         let sequencer = self.sequencer;
-        let _was_connected = sequencer
-            .take_settled(self.rt)
-            .hangup(&sequencer.tokens, &mut self.asker, session);
+        let mut locked = sequencer.take(self.rt);
+        let left = locked.hangup(&sequencer.tokens, &mut self.asker, session);
+        drop(locked);
+        if left.is_none() {
+            let _was_connected = hang_up_settled(self.rt, sequencer, &mut self.asker, session);
+        }
     }
 }
 
@@ -310,6 +311,24 @@ fn carry_out<'a, M: GroupCommits, S: Start, B: Book, R: Wait>(
             (call_settled(rt, sequencer, asker, posted), None)
         }
     }
+}
+
+// Hangs a session up that asks for a call of the pending group, once that is finished. Returns whether it was connected.
+fn hang_up_settled<M: GroupCommits, S: Start, B: Book, R: Wait>(
+    rt: &R,
+    sequencer: &SharedSequencer<M, S, B>,
+    asker: &mut Asker<'_, B>,
+    session: u64,
+) -> bool
+    ensures { LeftBy M.manages S.start S.base session asker.old result asker.new }
+{
+    let Some(was_connected) = sequencer
+        .take_settled(rt)
+        .hangup(&sequencer.tokens, asker, session)
+    else {
+        unreachable!()
+    };
+    was_connected
 }
 
 // Carries a call out, once no group is pending.

@@ -1,11 +1,11 @@
-ghost use Rattle.std.specs.Prelude.{◌≡◌, ◌≢◌, ◌⊎◌, ◌<◌, ◌≤◌, [], None, is_none, length, IfErr, IfOk, MatchBool, MatchOption, OnErr, OnOk};
+ghost use Rattle.std.specs.Prelude.{◌≡◌, ◌≢◌, ◌⊎◌, ◌<◌, ◌≤◌, [], None, is_none, length, IfErr, IfNone, IfOk, IfSome, MatchBool, MatchOption, OnErr, OnOk};
 ghost use Rattle.xa_assoc.specs.Refusals.{is_memory};
 ghost use Rattle.xa_frame.specs.Limits.{IsReply};
 ghost use Rattle.xa_handles.specs.Believed.Accounts.{Ends};
 ghost use Rattle.xa_handles.specs.Mail.{IsCall, put_at};
 ghost use Rattle.xa_handles.specs.Believed.Shared.{ConnectedBy, DidCall, HoldsAt, IsTold, LeftBy};
 ghost use Rattle.xa_handles.specs.Believed.Standing.{HasBook, KeepsMail, LeavesMail, TellsMail};
-ghost use Rattle.xa_sequencer.specs.Associates.{AssociatedBy, EndedBy};
+ghost use Rattle.xa_sequencer.specs.{Associates.AssociatedBy, Associates.EndedBy, GroupCommits.AsksOne};
 ghost use Rattle.xa_sequencer.specs.Believed.{GroupManager.pending_of, Stands.Stands};
 
 use crate::asker::Asker;
@@ -99,7 +99,6 @@ impl<M: GroupCommits, S: Start, B: Book> Locked<M, S, B> {
         tokens: &Tokens<B>,
         asker: &mut Asker<'_, B>,
     ) -> Result<u64, ConnectFault>
-        requires settled { pending_of self.old.at.now ≡ None }
         ensures connected { ConnectedBy M.manages S.start S.base asker.old result asker.new }
         ensures mail { LeavesMail self.old self.new }
     {
@@ -158,15 +157,16 @@ impl<M: GroupCommits, S: Start, B: Book> Locked<M, S, B> {
         Ok(reply)
     }
 
-    /// Hangs a session up. Returns whether it was connected.
+    /// Hangs a session up. Returns whether it was connected; None, and nothing changes, if it asks for a call of the
+    /// pending group.
     pub(crate) fn hangup(
         &mut self,
         tokens: &Tokens<B>,
         asker: &mut Asker<'_, B>,
         session: u64,
-    ) -> bool
-        requires settled { pending_of self.old.at.now ≡ None }
-        ensures left { LeftBy M.manages S.start S.base session asker.old result asker.new }
+    ) -> Option<bool>
+        ensures left { IfSome result (λ was. LeftBy M.manages S.start S.base session asker.old was asker.new) }
+        ensures waits { IfNone result ((asker.new ≡ asker.old) × AsksOne session (pending_of self.old.at.now)) }
         ensures mail { LeavesMail self.old self.new }
     {
         let Locked {
@@ -175,12 +175,15 @@ impl<M: GroupCommits, S: Start, B: Book> Locked<M, S, B> {
             ..
         } = self;
         sequencer.promises();
-        if !sequencer.hangup(session) {
-            return false;
+        let Some(was_connected) = sequencer.hangup(session) else {
+            return None;
+        };
+        if !was_connected {
+            return Some(false);
         }
         let reply = placed(Reply::plain(XA_OK), sequencer.count());
         note(tokens, keeper, asker, &Event::Hangup(session), &reply);
-        true
+        Some(true)
     }
 
     /// A tray for the letters of a thread, with room for `letters` of them.
@@ -298,7 +301,6 @@ impl<M: GroupCommits, S: Start, B: Book> Locked<M, S, B> {
     }
 
     pub(crate) fn status(&self) -> Status
-        requires { pending_of self.now.at.now ≡ None }
         ensures { IsTold M.manages S.start S.base result }
     {
         self.sequencer.promises();
@@ -306,7 +308,6 @@ impl<M: GroupCommits, S: Start, B: Book> Locked<M, S, B> {
     }
 
     pub(crate) fn has_association(&self, session: u64) -> bool
-        requires { pending_of self.now.at.now ≡ None }
         ensures { AssociatedBy M.manages S.start S.base session result }
     {
         self.sequencer.promises();
@@ -314,7 +315,6 @@ impl<M: GroupCommits, S: Start, B: Book> Locked<M, S, B> {
     }
 
     pub(crate) fn log_end(&self) -> u64
-        requires { pending_of self.now.at.now ≡ None }
         ensures { EndedBy M.manages S.start S.base result }
     {
         self.sequencer.promises();

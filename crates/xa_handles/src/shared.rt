@@ -83,7 +83,7 @@ impl<M: GroupCommits, S: Start, B: Book> SharedSequencer<M, S, B> {
     /// Takes the lock for several calls.
     pub(crate) fn hold<R: Wait>(&self, rt: &R) -> Held<'_, M, S, B> {
         self.waiting.fetch_add(1, Ordering::SeqCst);
-        let locked = take(rt, &self.lock);
+        let locked = self.take(rt);
         self.waiting.fetch_sub(1, Ordering::SeqCst);
         Held::new(locked)
     }
@@ -128,13 +128,18 @@ impl<M: GroupCommits, S: Start, B: Book> SharedSequencer<M, S, B> {
         }
     }
 
+    /// Takes the lock, whether a group is pending or not.
+    pub(crate) fn take<R: Wait>(&self, rt: &R) -> MutexGuard<'_, Locked<M, S, B>> {
+        take(rt, &self.lock)
+    }
+
     /// Takes the lock when no group is pending.
     pub(crate) fn take_settled<R: Wait>(&self, rt: &R) -> MutexGuard<'_, Locked<M, S, B>>
         ensures { pending_of result.value.at.now ≡ None }
     {
         let mut tries = 0u32;
         for _ in rt.forever() {
-            let locked = take(rt, &self.lock);
+            let locked = self.take(rt);
             if locked.is_settled() {
                 return locked;
             }
@@ -186,7 +191,7 @@ impl<M: GroupCommits, S: Start, B: Book> SharedSequencer<M, S, B> {
         ensures holds { (c : Numbered (GroupManager M)) × HoldsAt M.manages S.start S.base c share }
         ensures same { result ≡ share }
     {
-        take(rt, &self.lock).look(&self.tokens, share)
+        self.take(rt).look(&self.tokens, share)
     }
 
     /// The sequencer. Its history is what the share of all parts was told, each entry once, since no call is owed an answer.

@@ -337,12 +337,16 @@ module _ {D : Type 0} (disks : Ghosts D) where
   }
 
   -- an event without a request
+  pub event_done : (m m' : Manager D) (e : Event) (act : State → Answer) (reply : Reply) → IsEvent e → begins_boot e ≡ false → ((s : State) → respond s e ≡ Now (act s)) → m'.log ≡ m.log → m'.up ≡ m.up → m'.doubt ≡ m.doubt
+      → Follows (view m) act reply (view m') → FollowsDown (view m) act reply (view m') → HasDone disks m e reply Quiet m'
+  event_done m m' e act reply event other is log up doubt f d =
+      has_done disks m m' e reply Quiet event other f.served
+      (λ s st. subst (λ (t : Turn). Takes disks m t reply Quiet m') (sym (is s)) (takes_either m m' act reply Quiet refl log up doubt f d s st))
+
   pub event_answered : (m m' : Manager D) (e : Event) (act : State → Answer) (reply : Reply) → IsEvent e → begins_boot e ≡ false → ((s : State) → respond s e ≡ Now (act s)) → m'.log ≡ m.log → m'.up ≡ m.up → m'.doubt ≡ m.doubt
       → Follows (view m) act reply (view m') → FollowsDown (view m) act reply (view m') → FullyAnswered disks m e reply (record m' { outcome = Quiet })
   event_answered m m' e act reply event other is log up doubt f d =
-      done_answered m m' e reply Quiet
-      (has_done disks m m' e reply Quiet event other f.served
-      (λ s st. subst (λ (t : Turn). Takes disks m t reply Quiet m') (sym (is s)) (takes_either m m' act reply Quiet refl log up doubt f d s st)))
+      done_answered m m' e reply Quiet (event_done m m' e act reply event other is log up doubt f d)
 
   pub connect_wanted : (m m' : Manager D) → StaysFor disks m m' → m'.outcome ≡ m.outcome → m'.log ≡ m.log → FullyAnswered disks m Connect (connect_reply (Err Memory)) m'
   connect_wanted m m' stays outcome log =

@@ -70,4 +70,4 @@ pub mod Driving
 pub mod Promised
 pub mod Finished
 pub mod PendingCrash
-pub mod BesideWork
+pub mod Besides

@@ -11,7 +11,7 @@ use Rattle.xa_branch.specs.Room.{IsApart}
 use Rattle.xa_branch.proofs.Rooms.{no_rooms_yet}
 use Rattle.xa_model.specs.declared.outcome.Appending.{Appending}
 use Rattle.xa_model.specs.declared.outcome.Appending.TheVariants.{Kept, Refused, Lost}
-use Rattle.xa_model.specs.State.{State, Branch, Up}
+use Rattle.xa_model.specs.State.{State, Branch, Up, known_of}
 use Rattle.xa_model.specs.Associations.{timestamp_by}
 use Rattle.xa_model.specs.Fold.{size_of}
 use Rattle.xa_model.specs.Logging.{applied, writes_by}
@@ -19,7 +19,7 @@ use Rattle.xa_model.specs.Phases.{rolled_back}
 use Rattle.xa_model.specs.Turn.{Asked}
 use Rattle.xa_model.specs.Invariants.Loggable.{IsRecoverable}
 use Rattle.xa_model.specs.Invariants.MayLog.{MayLog}
-use Rattle.xa_model.specs.Laws.Together.{IsSameFor, Part, AppendsOf, AreApart, HaveRoom, left_by}
+use Rattle.xa_model.specs.Laws.Together.{Part, AppendsOf, AreApart, HaveRoom, left_by}
 use Rattle.xa_model.proofs.GroupSteps as keeping
 use Rattle.xa_model.proofs.Recoveries.{logged_record}
 use Rattle.xa_model.proofs.RefusedSteps as refusing
@@ -55,8 +55,8 @@ with_no_rooms m s st = record {
 }
 
 -- the record of a row is the same where its branch is
-pub record_same : (row : Row) (xid : Triple) (s w : State) → IsSameFor xid s w → record_of row xid w ≡ record_of row xid s
-record_same (Writes writing) xid s w same = ap (λ (o : Option Branch). written_record writing xid (timestamp_by o) (writes_by o)) same.known
+pub record_same : (row : Row) (xid : Triple) (s w : State) → known_of w.branches xid ≡ known_of s.branches xid → record_of row xid w ≡ record_of row xid s
+record_same (Writes writing) xid s w same = ap (λ (o : Option Branch). written_record writing xid (timestamp_by o) (writes_by o)) same
 record_same CommitTwoPhase xid s w same = refl
 record_same Rollback xid s w same = refl
 record_same (Decide direction) xid s w same = refl
@@ -200,7 +200,7 @@ took_kept t t' s all c cs up takes first took =
     let w = took.at in
     let now = keeping.next_turn s w took.records p (parts_of s cs) up took.walk took.appends.0 took.room.0 in
     let next = keeping.next_walk s w took.records p (parts_of s cs) took.walk took.appends.0 now took.apart.0 in
-    let same : record_of c.row c.xid w ≡ p.appended = record_same c.row c.xid s w took.walk.same.0 in
+    let same : record_of c.row c.xid w ≡ p.appended = record_same c.row c.xid s w took.walk.same.0.known in
     goes_on Kept s (applied p.appended w) all c cs (view_of t) (view_of t') took next (by (is_prepare c.row) refl next.recovers same now.last.may) took.comes
   where
     by : (b : Bool) → is_prepare c.row ≡ b → IsRecoverable (applied (record_of c.row c.xid s) took.at) → record_of c.row c.xid took.at ≡ record_of c.row c.xid s → MayLog took.at (record_of c.row c.xid s)
@@ -219,7 +219,7 @@ took_refused t t' s all c cs up takes first took =
     let w = took.at in
     let now = refusing.next_turn s w took.records p (parts_of s cs) up took.walk took.appends.0 took.room.0 in
     let next = refusing.next_walk s w p (parts_of s cs) took.walk took.appends.0 now took.apart.0 in
-    let same : record_of c.row c.xid w ≡ p.appended = record_same c.row c.xid s w took.walk.same.0 in
+    let same : record_of c.row c.xid w ≡ p.appended = record_same c.row c.xid s w took.walk.same.0.known in
     let left : rows.left_by c.row c.xid w ≡ left_by c.request w = left_same c.request c.row c.xid w took.rows.0 in
     let last = logged_record w (Asked (keeping.asked_by p)) p.appended now.after took.appends.0.event took.walk.recovers now.appends in
     let tables = subst (λ (u : State). StandsWithRooms (prepares_of cs) (view_of t') u) left (by (is_prepare c.row) refl (subst IsRecoverable (sym left) next.recovers) same last.may) in

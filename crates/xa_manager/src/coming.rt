@@ -4,6 +4,7 @@ ghost use Rattle.xa_model.specs.Associations.{connect_by, open_by, close_by, han
 ghost use Rattle.xa_manager.specs.Believed.Answered.{connect_reply};
 ghost use Rattle.xa_assoc.specs.Company.{company_of, Gains, Loses};
 ghost use Rattle.xa_assoc.specs.Refusals.{IsBare};
+ghost use Rattle.xa_branch.specs.Room.{rooms_of};
 ghost use Rattle.xa_manager.specs.Tables.{TablesFollow, TablesFollowDown, TablesStay, TablesStayDown};
 
 use crate::tables::Tables;
@@ -24,6 +25,7 @@ impl Tables {
         ensures memory_down { result ≡ Err ConnectFault.Memory → TablesStayDown self.old self.new }
         ensures came { IfOk result (λ n. Gains (company_of self.old.sessions) n (company_of self.new.sessions)) }
         ensures same { OnErr result (company_of self.new.sessions ≡ company_of self.old.sessions) }
+        ensures rooms { rooms_of self.new.branches ≡ rooms_of self.old.branches }
     {
         self.sessions.connect()
     }
@@ -33,6 +35,7 @@ impl Tables {
         ensures up { TablesFollow self.old (λ s. hang_up_by s session) (plain (pos 0)) self.new }
         ensures down { TablesFollowDown self.old (λ s. hang_up_by s session) (plain (pos 0)) self.new }
         ensures gone { Loses (company_of self.old.sessions) session (company_of self.new.sessions) }
+        ensures rooms { rooms_of self.new.branches ≡ rooms_of self.old.branches }
     {
         if let Some(seat) = self.sessions.hangup(session) {
             self.branches.hang_up(&seat.own, seat.active.as_ref());
@@ -43,6 +46,7 @@ impl Tables {
         ensures up { TablesFollow self.old (λ s. open_by s session) result self.new }
         ensures down { TablesFollowDown self.old (λ s. open_by s session) result self.new }
         ensures company { company_of self.new.sessions ≡ company_of self.old.sessions }
+        ensures rooms { rooms_of self.new.branches ≡ rooms_of self.old.branches }
         ensures bare { IsBare result }
     {
         self.sessions.open(session);
@@ -54,6 +58,7 @@ impl Tables {
         ensures up { TablesFollow self.old (λ s. close_by s session) result self.new }
         ensures down { TablesFollowDown self.old (λ s. close_by s session) result self.new }
         ensures company { company_of self.new.sessions ≡ company_of self.old.sessions }
+        ensures rooms { rooms_of self.new.branches ≡ rooms_of self.old.branches }
         ensures bare { IsBare result }
     {
         match self.sessions.close(session) {

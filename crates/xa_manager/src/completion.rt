@@ -3,6 +3,7 @@ ghost use Rattle.xa_xid.specs.Triple.{IsWithinLimits};
 ghost use Rattle.xa_model.specs.Phases.{doom_by};
 ghost use Rattle.xa_manager.specs.{Plans.IsPlan, Tables.TablesFollow};
 ghost use Rattle.xa_assoc.specs.{Refusals.IsBare, Company.company_of};
+ghost use Rattle.xa_branch.specs.Room.{rooms_of};
 
 use crate::manager::Manager;
 use crate::plan::{Logging, Plan};
@@ -92,6 +93,7 @@ impl Tables {
     pub fn doom(&mut self, xid: &Xid) -> Reply
         ensures follows { TablesFollow self.old (λ s. doom_by s xid.now) result self.new }
         ensures company { company_of self.new.sessions ≡ company_of self.old.sessions }
+        ensures rooms { rooms_of self.new.branches ≡ rooms_of self.old.branches }
         ensures bare { IsBare result }
     {
         if let Some(reply) = self.doom_refusal(xid) {

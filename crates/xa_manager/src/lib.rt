@@ -13,8 +13,8 @@
 //!   that the log keeps free; `doubt`: `Doubt`, what is kept of a record that was lost; `done`, what a call comes to
 //! - calls that are asked together, and share one append: `together`, `Asked`, and how a group is answered; `gathering`,
 //!   which calls form one; `prepares`, the rooms of its prepares; `answers`, what becomes of its branches
-//! - a group whose sync is made apart: `pending`, `PendingGroup`, whose records are written; `beside`, what sessions are
-//!   answered meanwhile (`working`, the rows of their work); `finish`, how its calls are answered
+//! - a group whose sync is made apart: `pending`, `PendingGroup`, whose records are written; `beside`, what is answered
+//!   meanwhile (`working`, the rows of calls that log nothing); `finish`, how its calls are answered
 //! - a boot: `settings`, `Settings`; `opening`, `restarting` or `trimming`, how it begins; `boots`, what is made
 //!   ready for it, and `rebuilding` its tables, of writes that are freed many together (`spent`); `first_records`, how an
 //!   opening logs it; `fault`: `ManagerFault`, why there is no manager, and `refused`: `RefusedOpening`, with the disks

@@ -8,7 +8,8 @@ ghost use Rattle.xa_manager.specs.Believed.Answered.{FullyAnswered, AnswersAll, 
 ghost use Rattle.xa_assoc.specs.Company.{Gains, Loses};
 ghost use Rattle.xa_manager.specs.{Drained.HasGivenBack, Connected.connected_to};
 ghost use Rattle.xa_manager.specs.{Believed.Promises.PromisesAll, Believed.Counted.CountsAll, Believed.Parts.log_of};
-ghost use Rattle.xa_manager.specs.{Believed.Parts.outcome_of, Status.versions_of};
+ghost use Rattle.xa_manager.specs.{Believed.Parts.outcome_of, Believed.Pending.IsPending, Status.versions_of};
+ghost use Rattle.xa_manager.specs.declared.pending.PendingGroup.{PendingGroup};
 ghost use Rattle.xa_frame.specs.Limits.{IsReply};
 
 use crate::done::Done;
@@ -118,15 +119,18 @@ impl<D: Disk> Manager<D> {
 
     /// Whether a session has an association of its own: it is at work for a branch, or has suspended its work for one.
     pub fn has_association(&self, session: u64) -> bool
-        ensures { (s : State) → ManagerStandsFor D.Disk self.now s
+        ensures alone { (s : State) → ManagerStandsFor D.Disk self.now s
+            → result ≡ list_any (is_of_session session) s.associations }
+        ensures beside { (f : PendingGroup) (s : State) → IsPending D.Disk self.now f s
             → result ≡ list_any (is_of_session session) s.associations }
     {
         self.tables.sessions.holds_any(session)
     }
 
-    /// Where the log's next record begins, if the manager is up.
+    /// Where the log's next record begins, if the manager is up: while a group is pending, its first one.
     pub fn log_end(&self) -> u64
-        ensures { (s : State) → ManagerStandsFor D.Disk self.now s → s.standing ≡ Up → result ≡ s.end }
+        ensures alone { (s : State) → ManagerStandsFor D.Disk self.now s → s.standing ≡ Up → result ≡ s.end }
+        ensures beside { (f : PendingGroup) (s : State) → IsPending D.Disk self.now f s → result ≡ s.end }
     {
         self.log.end()
     }

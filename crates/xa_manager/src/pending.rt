@@ -36,8 +36,8 @@ impl PendingGroup {
 impl<D: Disk> Manager<D> {
     /// Begins a group of calls of different sessions: those that log, each on an XID of its own, the prepares first. Their
     /// records share one write, which is made here, and one sync, which is left to whoever has the `syncer`. Until the group
-    /// is finished (`finish_group`), the manager answers sessions' work on other branches (`work`), and nothing else. All
-    /// memory that finishing it needs is taken before the write.
+    /// is finished (`finish_group`), the manager is asked by `call_beside`, `connect_beside` and `hangup_beside` alone, which
+    /// answer what leaves the group as it is. All memory that finishing it needs is taken before the write.
     ///
     /// # Errors
     /// Gives the calls back if none of them logs, or out of memory: then nothing changed.

@@ -2,6 +2,7 @@ ghost use Rattle.std.specs.Prelude.{◌≡◌, ◌≤◌, IfOk, OnErr, length, f
 ghost use Rattle.xa_limits.specs.declared.TheConstants.{MOST_XIDS};
 ghost use Rattle.xa_model.specs.Recovering.{listing, recover_by};
 ghost use Rattle.xa_assoc.specs.{Refusals.is_memory, Company.company_of};
+ghost use Rattle.xa_branch.specs.Room.{rooms_of};
 ghost use Rattle.xa_manager.specs.{Replies.IsFresh, Tables.TablesFollow, Tables.TablesStay};
 
 use crate::tables::Tables;
@@ -20,6 +21,7 @@ impl Tables {
         ensures ok { IfOk result (λ r. TablesFollow self.old (λ s. recover_by s session flags count) r self.new) }
         ensures err { OnErr result (TablesStay self.old self.new) }
         ensures company { company_of self.new.sessions ≡ company_of self.old.sessions }
+        ensures rooms { rooms_of self.new.branches ≡ rooms_of self.old.branches }
         ensures fresh { IfOk result IsFresh }
     {
         let cursor = match self.sessions.recover_from(session, flags) {

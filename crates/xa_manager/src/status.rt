@@ -1,7 +1,8 @@
 ghost use Rattle.std.specs.Prelude.{◌≡◌, is_some};
 ghost use Rattle.mv_rules.specs.Records.{versions_in};
 ghost use Rattle.xa_model.specs.{State.State, Step.opened_of};
-ghost use Rattle.xa_manager.specs.Managed.{ManagerStandsFor};
+ghost use Rattle.xa_manager.specs.{Believed.Pending.IsPending, Managed.ManagerStandsFor};
+ghost use Rattle.xa_manager.specs.declared.pending.PendingGroup.{PendingGroup};
 ghost use Rattle.xa_manager.specs.Status.{status_of, status_down, versions_of};
 ghost use Rattle.xa_manager.specs.{Tables.TablesSay, View.view_of};
 
@@ -11,10 +12,12 @@ use xa_disk::Disk;
 use xa_frame::Status;
 
 impl<D: Disk> Manager<D> {
-    /// How it is doing, also while it is down. Each number is a count that is kept. `calls` and `seconds` are 0: whoever
-    /// serves it counts them. Changes nothing, and takes no memory.
+    /// How it is doing, also while it is down. Each number is a count that is kept. While a group is pending they are those
+    /// before it. `calls` and `seconds` are 0: whoever serves it counts them. Changes nothing, and takes no memory.
     pub fn status(&self) -> Status
-        ensures { (s : State) → ManagerStandsFor D.Disk self.now s
+        ensures alone { (s : State) → ManagerStandsFor D.Disk self.now s
+            → result ≡ status_of s (versions_of self.now) }
+        ensures beside { (f : PendingGroup) (s : State) → IsPending D.Disk self.now f s
             → result ≡ status_of s (versions_of self.now) }
     {
         if self.up {

@@ -28,7 +28,7 @@ use Rattle.xa_model.proofs.LastLogged.{LogsLast}
 use Rattle.xa_model.proofs.LoggedEvents.{events_log_what_lasts}
 use Rattle.xa_model.proofs.Recoveries.{keeps_recoverable, turn_logs_last}
 use Rattle.xa_model.proofs.RoomTogether.{room_where_kept}
-use Rattle.xa_model.proofs.Together.{leaves_others, appends_the_same}
+use Rattle.xa_model.proofs.Together.{leaves_others, appends_the_same, finds_same}
 
 abbrev pub asked_by : Part → Event
 asked_by p = event.Call p.session p.request
@@ -72,7 +72,7 @@ pub next_turn : (s w : State) (rs : List Record) (p : Part) (ps : List Part) →
 next_turn s w rs p ps up walk a room =
     let there : has_room_for w p.appended ≡ true
     = subst (λ (t : State). has_room_for t p.appended ≡ true) (sym walk.is) (room_where_kept s rs p.appended walk.follow walk.group room) in
-    let (again, is) = appends_the_same s w p.session p.request p.xid p.appended a.after a.of_xid walk.same.0 up a.appends there in
+    let (again, is) = appends_the_same s w p.session p.request p.xid p.appended a.after a.of_xid (finds_same p.session p.xid s w walk.same.0) up a.appends there in
     let here : respond w (asked_by p) ≡ Appends p.appended again = sym (turns_up w (asked_by p) walk.up) ∙ is in
     let l : LogsWhatLasts w (Appends p.appended again)
     = subst (LogsWhatLasts w) here (events_log_what_lasts w (asked_by p) walk.recovers.sound (begins_none p.request p.xid a.of_xid)) in

@@ -18,7 +18,8 @@ found_map_by p f b bs false false e rest = rest
 found_map_by p f b bs true false e rest = absurd (cc e)
 found_map_by p f b bs false true e rest = absurd (cc e)
 
-found_map : (p : Branch → Bool) (f : Branch → Branch) → ((b : Branch) → p (f b) ≡ p b) → (bs : List Branch) → find p (map f bs) ≡ option_map f (find p bs)
+-- what is found after a change of all that keeps who passes
+pub found_map : (p : Branch → Bool) (f : Branch → Branch) → ((b : Branch) → p (f b) ≡ p b) → (bs : List Branch) → find p (map f bs) ≡ option_map f (find p bs)
 found_map p f same [] = refl
 found_map p f same (b ∷ bs) = found_map_by p f b bs (p (f b)) (p b) (same b) (found_map p f same bs)
 

@@ -95,6 +95,7 @@ pub mod RefusedSteps
 pub mod GroupsBacked
 pub mod StillTogether
 pub mod WorkBeside
+pub mod Beside
 pub mod Crashes
 pub mod LeftMeanwhile
 pub mod LeftOfTwo

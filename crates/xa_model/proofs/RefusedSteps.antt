@@ -40,7 +40,7 @@ use Rattle.xa_model.proofs.LoggedTurns.{itself}
 use Rattle.xa_model.proofs.OfTurns.{OfAppend, unless_append, marked_append, cond_append}
 use Rattle.xa_model.proofs.Recoveries.{keeps_recoverable}
 use Rattle.xa_model.proofs.RoomTogether.{room_where_refused}
-use Rattle.xa_model.proofs.Together.{leaves_others, appends_the_same}
+use Rattle.xa_model.proofs.Together.{leaves_others, appends_the_same, finds_same}
 
 -- what is answered where a record is refused, and what is left
 
@@ -161,7 +161,7 @@ pub next_turn : (s w : State) (rs : List Record) (p : Part) (ps : List Part) →
     → has_room_after rs s p.appended ≡ true → RefusesNow w p
 next_turn s w rs p ps up walk a room =
     let there = room_where_refused s w rs p.appended walk.log_bytes walk.keeps.end walk.keeps.lasts room in
-    let (again, is) = appends_the_same s w p.session p.request p.xid p.appended a.after a.of_xid walk.same.0 up a.appends there in
+    let (again, is) = appends_the_same s w p.session p.request p.xid p.appended a.after a.of_xid (finds_same p.session p.xid s w walk.same.0) up a.appends there in
     let still : w.standing ≡ Up = walk.keeps.standing ∙ up in
     let refuses = refused_alone w p.session p.request p.xid p.appended again a.of_xid still is in
     let l : LogsWhatLasts w (Appends p.appended again)

@@ -11,13 +11,13 @@ use Rattle.xa_model.specs.Fold.{size_of, sizes}
 use Rattle.xa_model.specs.Logging.{log_room, prepared_count}
 use Rattle.xa_model.specs.Turn.{Now}
 use Rattle.xa_model.specs.Laws.Logging.{KeepsLog, LogsWhatLasts}
-use Rattle.xa_model.specs.Laws.Together.{IsSameFor, is_preparing, has_room_after, Part, AppendsOf, HaveRoom, StillTogether}
+use Rattle.xa_model.specs.Laws.Together.{FindsSame, is_preparing, has_room_after, Part, AppendsOf, HaveRoom, StillTogether}
 use Rattle.xa_model.proofs.Further.{turns_up}
 use Rattle.xa_model.proofs.GroupSteps.{begins_none}
 use Rattle.xa_model.proofs.LoggedEvents.{events_log_what_lasts}
 use Rattle.xa_model.proofs.Rooms.{prepared_lasting, decided_lasting}
 use Rattle.xa_model.proofs.RoomTogether.{room_where_refused}
-use Rattle.xa_model.proofs.Together.{appends_the_same, at_once_leaves}
+use Rattle.xa_model.proofs.Together.{appends_the_same, at_once_leaves, finds_same}
 
 -- the same room
 
@@ -47,7 +47,7 @@ module _ (s t : State) (bytes : t.log_bytes ≡ s.log_bytes) (keeps : KeepsLog s
   rooms_still before (p ∷ ps) room =
       (same_room s t before p.appended bytes keeps.end as_many_prepared as_many_decided ∙ room.0, rooms_still (before ++ p.appended ∷ []) ps room.1)
 
-  pub appends_still : (before : List Record) (ps : List Part) → s.standing ≡ Up → AllByRecursion (λ (p : Part). IsSameFor p.xid s t) ps
+  pub appends_still : (before : List Record) (ps : List Part) → s.standing ≡ Up → AllByRecursion (λ (p : Part). FindsSame p.session p.xid s t) ps
       → AllByRecursion (AppendsOf s) ps → HaveRoom s before ps → AllByRecursion (AppendsOf t) ps
   appends_still before [] up same appends room = tt
   appends_still before (p ∷ ps) up same appends room =
@@ -71,6 +71,7 @@ still_together s n request xid a p ps h up e apart now m =
     }
   where
     all_same : (qs : List Part) → AllByRecursion (λ (q : Part). xid_eq xid q.xid ≡ false) qs
-        → AllByRecursion (λ (q : Part). IsSameFor q.xid s a.after) qs
+        → AllByRecursion (λ (q : Part). FindsSame q.session q.xid s a.after) qs
     all_same [] others = tt
-    all_same (q ∷ qs) others = ((at_once_leaves s n request xid q.xid a e others.0 up now).0, all_same qs others.1)
+    all_same (q ∷ qs) others =
+        (finds_same q.session q.xid s a.after (at_once_leaves s n request xid q.xid a e others.0 up now).0, all_same qs others.1)

@@ -25,9 +25,9 @@ use Rattle.xa_model.specs.Completions.{prepare_turn, commit_one_phase_turn, comm
 use Rattle.xa_model.specs.Early.{Context, early_refusal}
 use Rattle.xa_model.specs.Fold.{is_empty}
 use Rattle.xa_model.specs.Logging.{applied, logs, has_room, log_full, writes_by, writes_in}
-use Rattle.xa_model.specs.Step.{turn, row, respond, is_up, context_of, record_in}
+use Rattle.xa_model.specs.Step.{turn, row, respond, is_up, context_of, opened_of, record_in}
 use Rattle.xa_model.specs.Turn.{Asked, Turn, Now, Appends, unless_now, marked_now}
-use Rattle.xa_model.specs.Laws.Together.{xid_of, IsSameFor, has_room_for, LeavesOthers, AtOnceLeavesOthers, AppendsTheSame}
+use Rattle.xa_model.specs.Laws.Together.{xid_of, IsSameFor, FindsSame, has_room_for, LeavesOthers, AtOnceLeavesOthers, AppendsTheSame}
 use Rattle.xa_model.proofs.Doubts.{prepared_known}
 use Rattle.xa_model.proofs.Finds.{find_without}
 use Rattle.xa_model.proofs.Further.{recorded, turns_up}
@@ -200,7 +200,7 @@ at_once_leaves_others s n request xid other a e apart up now = (at_once_leaves s
 
 -- what a call finds the same
 
-module _ (xid : Triple) (s t : State) (h : IsSameFor xid s t) where
+module _ (n : ℕ) (xid : Triple) (s t : State) (h : FindsSame n xid s t) where
   same_known : known_as t xid ≡ known_as s xid
   same_known =
       ap (λ (o : Option Branch). known_among o (decided_of t.decided xid)) h.known
@@ -212,16 +212,36 @@ module _ (xid : Triple) (s t : State) (h : IsSameFor xid s t) where
   same_writes : writes_in t xid ≡ writes_in s xid
   same_writes = ap writes_by h.known
 
-abbrev context_by : Standing → List ℕ → ℕ → List Session → ℕ → Context
-context_by standing name moment sessions n =
-    record { up = is_up standing; name = name; moment = moment; session = option_map (λ x. x.opened) (session_of sessions n) }
+-- the call's refusals look at no moment
+timeless : (c : Context) (moment : ℕ) (request : Request) (xid : Triple) → xid_of request ≡ Some xid
+    → early_refusal (record c { moment = moment }) request ≡ early_refusal c request
+timeless c moment (Prepare flags x) xid e = refl
+timeless c moment (Commit flags x) xid e = refl
+timeless c moment (Rollback flags x) xid e = refl
+timeless c moment (Forget flags x) xid e = refl
+timeless c moment (Decide way x) xid e = refl
+timeless c moment request xid e = absurd (cc e)
 
-same_context : (xid : Triple) (s t : State) (n : ℕ) → IsSameFor xid s t → context_of t n ≡ context_of s n
-same_context xid s t n h =
-    ap (λ (p : Standing). context_by p t.name t.moment t.sessions n) h.standing
-    ∙ ap (λ (name : List ℕ). context_by s.standing name t.moment t.sessions n) h.name
-    ∙ ap (λ (moment : ℕ). context_by s.standing s.name moment t.sessions n) h.moment
-    ∙ ap (λ (sessions : List Session). context_by s.standing s.name s.moment sessions n) h.sessions
+abbrev context_by : Standing → List ℕ → ℕ → Option Bool → Context
+context_by standing name moment session = record { up = is_up standing; name = name; moment = moment; session = session }
+
+same_early : (n : ℕ) (xid : Triple) (s t : State) (request : Request) → xid_of request ≡ Some xid → FindsSame n xid s t
+    → early_refusal (context_of t n) request ≡ early_refusal (context_of s n) request
+same_early n xid s t request e h =
+    ap (λ (p : Standing). early_refusal (context_by p t.name t.moment (opened_of t n)) request) h.standing
+    ∙ ap (λ (name : List ℕ). early_refusal (context_by s.standing name t.moment (opened_of t n)) request) h.name
+    ∙ ap (λ (o : Option Bool). early_refusal (context_by s.standing s.name t.moment o) request) h.opened
+    ∙ timeless (context_of s n) t.moment request xid e
+
+pub finds_same : (n : ℕ) (xid : Triple) (s t : State) → IsSameFor xid s t → FindsSame n xid s t
+finds_same n xid s t h = record {
+  known = h.known;
+  decided = h.decided;
+  associated = h.associated;
+  opened = ap (λ (xs : List Session). option_map (λ x. x.opened) (session_of xs n)) h.sessions;
+  name = h.name;
+  standing = h.standing;
+}
 
 -- and appends
 
@@ -260,15 +280,15 @@ one_phase_by t x k held time ws =
     (cond (is_empty ws) (Now (ok (committed t x)))
     (cond (has_room t (logged.Committed x time ws) 0) (logs t (logged.Committed x time ws) XAER_RMERR (rolled_back t x)) (Now (log_full t x)))))
 
-module _ (s t : State) (x : Triple) (h : IsSameFor x s t) where
+module _ (n : ℕ) (s t : State) (x : Triple) (h : FindsSame n x s t) where
   -- of what is the same comes the same
   turns_alike : (f : Known → Bool → ℕ → List Write → Turn)
       → f (known_as s x) (is_associated s x) (timestamp_in s x) (writes_in s x) ≡ f (known_as t x) (is_associated t x) (timestamp_in t x) (writes_in t x)
   turns_alike f =
-      ap (λ (k : Known). f k (is_associated s x) (timestamp_in s x) (writes_in s x)) (sym (same_known x s t h))
+      ap (λ (k : Known). f k (is_associated s x) (timestamp_in s x) (writes_in s x)) (sym (same_known n x s t h))
       ∙ ap (λ (c : Bool). f (known_as t x) c (timestamp_in s x) (writes_in s x)) (sym h.associated)
-      ∙ ap (λ (time : ℕ). f (known_as t x) (is_associated t x) time (writes_in s x)) (sym (same_time x s t h))
-      ∙ ap (f (known_as t x) (is_associated t x) (timestamp_in t x)) (sym (same_writes x s t h))
+      ∙ ap (λ (time : ℕ). f (known_as t x) (is_associated t x) time (writes_in s x)) (sym (same_time n x s t h))
+      ∙ ap (f (known_as t x) (is_associated t x) (timestamp_in t x)) (sym (same_writes n x s t h))
 
   prepare_again : Again t (prepare_turn s x) (prepare_turn t x)
   prepare_again =
@@ -294,7 +314,7 @@ module _ (s t : State) (x : Triple) (h : IsSameFor x s t) where
       let r = logged.Completed x direction.Commit in
       subst
       (λ (k : Known). Again t (commit_two_phase_turn s x) (unless_now (two_phase_refusal k) t (unless_now (heuristic_refusal k) t (logs t r XA_RETRY t))))
-      (sym (same_known x s t h))
+      (sym (same_known n x s t h))
       (unless_again (two_phase_refusal (known_as s x)) s t _ _ (unless_again (heuristic_refusal (known_as s x)) s t (logs s r XA_RETRY s) (logs t r XA_RETRY t) (λ room. refl)))
 
   roll_back_again : (k : Known) → Again t (roll_back_turn s x k) (roll_back_turn t x k)
@@ -308,7 +328,7 @@ module _ (s t : State) (x : Triple) (h : IsSameFor x s t) where
   rollback_again =
       subst
       (λ (k : Known). Again t (rollback_turn s x) (unless_now (rollback_refusal k (is_associated t x)) t (unless_now (heuristic_refusal k) t (roll_back_turn t x k))))
-      (sym (same_known x s t h))
+      (sym (same_known n x s t h))
       (subst
       (λ (c : Bool).
       Again t (rollback_turn s x)
@@ -320,34 +340,34 @@ module _ (s t : State) (x : Triple) (h : IsSameFor x s t) where
   decide_again : (way : Direction) → Again t (decide_turn s way x) (decide_turn t way x)
   decide_again way =
       let r = logged.Decided x way in
-      subst (λ (k : Known). Again t (decide_turn s way x) (unless_now (decide_refusal k) t (logs t r XAER_RMERR t))) (sym (same_known x s t h))
+      subst (λ (k : Known). Again t (decide_turn s way x) (unless_now (decide_refusal k) t (logs t r XAER_RMERR t))) (sym (same_known n x s t h))
       (unless_again (decide_refusal (known_as s x)) s t (logs s r XAER_RMERR s) (logs t r XAER_RMERR t) (λ room. refl))
 
   forget_again : Again t (forget_turn s x) (forget_turn t x)
   forget_again =
       let r = logged.Forgotten x in
-      subst (λ (k : Known). Again t (forget_turn s x) (unless_now (forget_refusal k) t (logs t r XAER_RMERR t))) (sym (same_known x s t h))
+      subst (λ (k : Known). Again t (forget_turn s x) (unless_now (forget_refusal k) t (logs t r XAER_RMERR t))) (sym (same_known n x s t h))
       (unless_again (forget_refusal (known_as s x)) s t (logs s r XAER_RMERR s) (logs t r XAER_RMERR t) (λ room. refl))
 
-same_of : (x xid : Triple) (s t : State) → Some x ≡ Some xid → IsSameFor xid s t → IsSameFor x s t
-same_of x xid s t e h = let same : x ≡ xid = cc e in subst (λ (y : Triple). IsSameFor y s t) (sym same) h
+same_of : (n : ℕ) (x xid : Triple) (s t : State) → Some x ≡ Some xid → FindsSame n xid s t → FindsSame n x s t
+same_of n x xid s t e h = let same : x ≡ xid = cc e in subst (λ (y : Triple). FindsSame n y s t) (sym same) h
 
-row_again : (s t : State) (n : ℕ) (request : Request) (xid : Triple) → xid_of request ≡ Some xid → IsSameFor xid s t
+row_again : (s t : State) (n : ℕ) (request : Request) (xid : Triple) → xid_of request ≡ Some xid → FindsSame n xid s t
     → Again t (row s n request) (row t n request)
-row_again s t n (Prepare flags x) xid e h = prepare_again s t x (same_of x xid s t e h)
+row_again s t n (Prepare flags x) xid e h = prepare_again n s t x (same_of n x xid s t e h)
 row_again s t n (Commit flags x) xid e h =
     cond_again (has flags TMONEPHASE) t (commit_one_phase_turn s x) (commit_two_phase_turn s x) (commit_one_phase_turn t x) (commit_two_phase_turn t x)
-    (one_phase_again s t x (same_of x xid s t e h)) (two_phase_again s t x (same_of x xid s t e h))
-row_again s t n (Rollback flags x) xid e h = rollback_again s t x (same_of x xid s t e h)
-row_again s t n (Forget flags x) xid e h = forget_again s t x (same_of x xid s t e h)
-row_again s t n (Decide way x) xid e h = decide_again s t x (same_of x xid s t e h) way
+    (one_phase_again n s t x (same_of n x xid s t e h)) (two_phase_again n s t x (same_of n x xid s t e h))
+row_again s t n (Rollback flags x) xid e h = rollback_again n s t x (same_of n x xid s t e h)
+row_again s t n (Forget flags x) xid e h = forget_again n s t x (same_of n x xid s t e h)
+row_again s t n (Decide way x) xid e h = decide_again n s t x (same_of n x xid s t e h) way
 row_again s t n request xid e h = absurd (cc e)
 
 pub appends_the_same : AppendsTheSame
 appends_the_same s t n request xid r after e h up appends room =
     let call = event.Call n request in
     let same : early_refusal (context_of s n) request ≡ early_refusal (context_of t n) request
-    = ap (λ (c : Context). early_refusal c request) (sym (same_context xid s t n h)) in
+    = sym (same_early n xid s t request e h) in
     let first : Again t (respond s call) (respond t call)
     = subst (λ (o : Option Reply). Again t (respond s call) (unless_now o t (row t n request))) same
     (unless_again (early_refusal (context_of s n) request) s t (row s n request) (row t n request) (row_again s t n request xid e h)) in

@@ -1,87 +1,53 @@
--- Work on other branches leaves a group as it is.
+-- What work on other branches, and marks of them, leave of a group's branch.
 use Rattle.std.proofs.Common.{◌≡◌, ℕ, ℤ, ◌≤◌, Bool, true, false, cond, List, [], ◌∷◌, Option, Some, None, refl, sym}
 use Rattle.std.proofs.Common.{◌∙◌, ap, subst, arith}
 use Rattle.std.specs.Prelude.{is_some, nat_lt}
 use Rattle.std.specs.List.{AllByRecursion, list_any}
 use Rattle.std.proofs.lemmas.Bool.{lt-ltb}
 use Rattle.xa_codes.specs.Flags.{has}
-use Rattle.xa_codes.specs.declared.codes.TheConstants.{XA_RBTRANSIENT, XA_RBROLLBACK}
+use Rattle.xa_codes.specs.declared.codes.TheConstants.{XA_RBTRANSIENT, XA_RBROLLBACK, XA_RBOTHER}
 use Rattle.xa_codes.specs.declared.flags.TheConstants.{TMONEPHASE}
 use Rattle.xa_frame.specs.declared.reply.Reply.{Reply}
 use Rattle.xa_frame.specs.declared.request.Request.{Request}
-use Rattle.xa_frame.specs.declared.request.Request.TheVariants.{Start, End, Prepare, Commit, Rollback, Forget, Get, Put}
-use Rattle.xa_frame.specs.declared.request.Request.TheVariants.{Delete, Decide}
+use Rattle.xa_frame.specs.declared.request.Request.TheVariants.{Prepare, Commit, Rollback, Forget, Decide}
 use Rattle.xa_xid.specs.Triple.{Triple, xid_eq}
 use Rattle.xa_xid.proofs.Same.{xid_same}
 use Rattle.xa_model.specs.declared.event.Event.TheVariants as event
 use Rattle.xa_model.specs.State.{State, Association, Holder, Active, Branch, Phase, Working, Prepared, Committed}
 use Rattle.xa_model.specs.State.{Operation, Got, Wrote, Up, Known, AtWork, known_as, known_among, known_by}
-use Rattle.xa_model.specs.State.{known_of, decided_of, is_known_as, is_with, is_working, own_branch}
+use Rattle.xa_model.specs.State.{known_of, decided_of, is_known_as, is_with, is_working, is_at_work, own_branch}
 use Rattle.xa_model.specs.State.{holders_of, owns, works_in, suspends, is_loose, is_loose_with, is_own}
 use Rattle.xa_model.specs.State.{is_active, is_suspended, change, without}
 use Rattle.xa_model.specs.Source.{source}
-use Rattle.xa_model.specs.Answer.{Answer, answer}
+use Rattle.xa_model.specs.Answer.{Answer, ok}
 use Rattle.xa_model.specs.Associations.{with_mark, held_by, begun}
 use Rattle.xa_model.specs.Associations.{resumable}
 use Rattle.xa_model.specs.Associations.{start_by}
 use Rattle.xa_model.specs.Associations.{without_one, ended, failed, end_by}
-use Rattle.xa_model.specs.Phases.{is_associated, unprepared_refusal, two_phase_refusal, rollback_refusal}
+use Rattle.xa_model.specs.Phases.{is_associated, unprepared_refusal, two_phase_refusal, rollback_refusal, doom_refusal, doomed, doom_by}
 use Rattle.xa_model.specs.Data.{having_done, did, got, get_by}
 use Rattle.xa_model.specs.Data.{came_late, written, put_by}
 use Rattle.xa_model.specs.Completions.{prepare_turn, commit_one_phase_turn, commit_two_phase_turn, rollback_turn}
 use Rattle.xa_model.specs.Completions.{decide_refusal, forget_refusal}
 use Rattle.xa_model.specs.Early.{early_refusal}
-use Rattle.xa_model.specs.Events.{asks_boot}
 use Rattle.xa_model.specs.Step.{row, respond, context_of, record_in}
-use Rattle.xa_model.specs.Turn.{Turn, Now, Appends, unless_now}
+use Rattle.xa_model.specs.Turn.{Turn, Appends, unless_now}
 use Rattle.xa_model.specs.Invariants.Sound.{IsSound}
-use Rattle.xa_model.specs.Laws.Logging.{LogsWhatLasts}
-use Rattle.xa_model.specs.Laws.Together.{xid_of, IsSameFor, Part, AppendsOf, is_work, WorkIsNow, WorksApart}
-use Rattle.xa_model.specs.Laws.Together.{WorkLeavesGroup}
+use Rattle.xa_model.specs.Laws.Together.{xid_of, IsSameFor, Part, AppendsOf}
 use Rattle.xa_model.proofs.Counts.{count_same, count_apart}
 use Rattle.xa_model.proofs.Further.{turns_up}
 use Rattle.xa_model.proofs.Lists.{find_change_other}
-use Rattle.xa_model.proofs.LoggedEvents.{events_log_what_lasts}
 use Rattle.xa_model.proofs.Marks.{mark_keeps}
-use Rattle.xa_model.proofs.MovingRows.{own, own_works, counted}
+use Rattle.xa_model.proofs.MovingRows.{own, counted}
 use Rattle.xa_model.proofs.Names.{called_apart}
-use Rattle.xa_model.proofs.OfTurns.{OfTurn, unless_turn}
-use Rattle.xa_model.proofs.RoomyRows.{AsksRoom, events_ask_room}
-use Rattle.xa_model.proofs.StillTogether.{rooms_still, appends_still}
+use Rattle.xa_model.proofs.OfAnswers.{unless_after}
 use Rattle.xa_model.proofs.Together.{same_for, itself}
 use Rattle.xa_model.proofs.Xids.{both_true, xid_apart}
 use Rattle.xa_model.proofs.OfRows.{start_after, end_after, get_after, put_after}
 
--- it is answered at once
-
-now_unless : (o : Option Reply) (s : State) (b : Answer) → (a : Answer) × (unless_now o s (Now b) ≡ Now a)
-now_unless None s b = (b, refl)
-now_unless (Some reply) s b = (answer reply s, refl)
-
-responds_now : (s : State) (n : ℕ) (request : Request) → is_work request ≡ true
-    → (a : Answer) × (respond s (event.Call n request) ≡ Now a)
-responds_now s n (Start flags xid) is = now_unless (early_refusal (context_of s n) (Start flags xid)) s (start_by s n flags xid)
-responds_now s n (End flags xid) is = now_unless (early_refusal (context_of s n) (End flags xid)) s (end_by s n flags xid)
-responds_now s n (Get key) is = now_unless (early_refusal (context_of s n) (Get key)) s (get_by s key (own_branch s n))
-responds_now s n (Put key value) is =
-    now_unless (early_refusal (context_of s n) (Put key value)) s (put_by s key (Some value) (own_branch s n))
-responds_now s n (Delete key) is = now_unless (early_refusal (context_of s n) (Delete key)) s (put_by s key None (own_branch s n))
-responds_now s n request is = absurd (cc is)
-
-pub work_is_now : WorkIsNow
-work_is_now s n request up is = let (a, e) = responds_now s n request is in (a, turns_up s (event.Call n request) up ∙ e)
-
-begins_none : (request : Request) → is_work request ≡ true → asks_boot request ≡ false
-begins_none (Start flags xid) is = refl
-begins_none (End flags xid) is = refl
-begins_none (Get key) is = refl
-begins_none (Put key value) is = refl
-begins_none (Delete key) is = refl
-begins_none request is = absurd (cc is)
-
 -- what it leaves of another branch
 
-abbrev Spares : Triple → State → Answer → Type 0
+abbrev pub Spares : Triple → State → Answer → Type 0
 Spares other s a = IsSameFor other s a.after
 
 of_resumable : (c : Bool) (n : ℕ) (x : Triple) (a : Association) → cond c (suspends n x a) (is_loose_with x a) ≡ true
@@ -131,7 +97,7 @@ module _ (s : State) (x other : Triple) (apart : xid_eq x other ≡ false) where
   begins n =
       same_for other s (begun s n x).after (rw apart refl) refl (ap (λ (k : ℕ). nat_lt 0 k) (one_more n)) refl refl refl refl
 
-  start_spares : (n flags : ℕ) → Spares other s (start_by s n flags x)
+  pub start_spares : (n flags : ℕ) → Spares other s (start_by s n flags x)
   start_spares n flags =
       start_after (IsSameFor other s) s (itself other s) n flags x (held _ (one_more n))
       (held _ (leave (resumable s.associations n x) (λ a is. of_resumable (list_any (suspends n x) s.associations) n x a is)))
@@ -143,10 +109,17 @@ module _ (s : State) (x other : Triple) (apart : xid_eq x other ≡ false) where
   fails_so : (n : ℕ) → Spares other s (failed s n x)
   fails_so n = same_for other s (failed s n x).after (marks XA_RBROLLBACK) refl (ends n).associated refl refl refl refl
 
-  end_spares : (n flags : ℕ) → Spares other s (end_by s n flags x)
+  pub end_spares : (n flags : ℕ) → Spares other s (end_by s n flags x)
   end_spares n flags =
       end_after (IsSameFor other s) s (itself other s) n flags x (held _ (leave (works_in n x) (λ a is. (both_true (is_active n a.holder) (xid_eq a.xid x) is).1)))
       (λ migrates none. handed (works_in n x) _) (ends n) (fails_so n)
+
+  -- an operator's mark
+
+  pub doom_spares : Spares other s (doom_by s x)
+  doom_spares =
+      unless_after (IsSameFor other s) (doom_refusal (known_as s x)) s (ok (doomed s x)) (itself other s)
+      (λ none. same_for other s (doomed s x) (marks XA_RBOTHER) refl refl refl refl refl refl)
 
   -- gets and puts
 
@@ -214,79 +187,54 @@ known_working (Working x work) is = (work.mark, refl)
 known_working (Prepared x) is = absurd (cc is)
 known_working Committed is = absurd (cc is)
 
--- so it isn't one of the group's
+-- so a branch of the group isn't associated
+of_known : (s : State) (x : Triple) (o : Option Branch) → known_of s.branches x ≡ o → is_at_work o ≡ true
+    → (mark : Option ℤ) × (known_as s x ≡ AtWork mark)
+of_known s x None found is = absurd (cc is)
+of_known s x (Some b) found is =
+    let (mark, works) = known_working b.phase is in
+    (mark, ap (λ (f : Option Branch). known_among f (decided_of s.decided x)) found ∙ works)
+
+held_works : (s : State) (x : Triple) (c : Bool) → IsSound s → is_at_work (known_of s.branches x) ≡ c
+    → is_associated s x ≡ true → (mark : Option ℤ) × (known_as s x ≡ AtWork mark)
+held_works s x true h e held = of_known s x (known_of s.branches x) refl e
+held_works s x false h e held = let none = ap (λ (k : ℕ). nat_lt 0 k) (h.bound x e) in absurd (cc (held, none))
+
+never_held : (s : State) (q : Part) → IsSound s → s.standing ≡ Up → AppendsOf s q → is_associated s q.xid ≡ true → ⊥
+never_held s q h up a held =
+    let (mark, known) = held_works s q.xid (is_at_work (known_of s.branches q.xid)) h refl held in
+    let none : record_in (respond s (event.Call q.session q.request)) ≡ None
+    = unless_none (early_refusal (context_of s q.session) q.request) s (row s q.session q.request)
+    (row_none s q.xid mark known held q.session q.request a.of_xid) in
+    let here : respond s (event.Call q.session q.request) ≡ Appends q.appended a.after
+    = sym (turns_up s (event.Call q.session q.request) up) ∙ a.appends in
+    absurd (cc (none, ap record_in here))
+
+idle_by : (s : State) (q : Part) (c : Bool) → is_associated s q.xid ≡ c → IsSound s → s.standing ≡ Up → AppendsOf s q
+    → is_associated s q.xid ≡ false
+idle_by s q false e h up a = e
+idle_by s q true e h up a = absurd (never_held s q h up a e)
+
+pub idle : (s : State) (q : Part) → IsSound s → s.standing ≡ Up → AppendsOf s q → is_associated s q.xid ≡ false
+idle s q h up a = idle_by s q (is_associated s q.xid) refl h up a
+
+-- and the session's own isn't one
 own_apart : (s : State) (n : ℕ) (x : Triple) (b : Branch) (q : Part) (c : Bool) → xid_eq x q.xid ≡ c → IsSound s
     → s.standing ≡ Up → AppendsOf s q → own_branch s n ≡ Some (x, b) → xid_eq x q.xid ≡ false
 own_apart s n x b q false e h up a is = e
 own_apart s n x b q true e h up a is =
     let o = own s n x b is in
-    let (mark, works) = known_working b.phase (own_works s n x b h o) in
-    let known : known_as s x ≡ AtWork mark = ap (λ (f : Option Branch). known_among f (decided_of s.decided x)) o.found ∙ works in
     let some : 1 ≤ holders_of s.associations x = counted (λ a. is_active n a.holder) x s.associations o.active in
     let held : is_associated s x ≡ true = lt-ltb 0 (holders_of s.associations x) (omega arith) in
-    let named : xid_of q.request ≡ Some x = a.of_xid ∙ ap Some (sym (xid_same x q.xid e)) in
-    let none : record_in (respond s (event.Call q.session q.request)) ≡ None
-    = unless_none (early_refusal (context_of s q.session) q.request) s (row s q.session q.request)
-    (row_none s x mark known held q.session q.request named) in
-    let here : respond s (event.Call q.session q.request) ≡ Appends q.appended a.after
-    = sym (turns_up s (event.Call q.session q.request) up) ∙ a.appends in
-    absurd (cc (none, ap record_in here))
-
--- all work
-
-apart_each : (request : Request) (q : Part) (qs : List Part) → WorksApart request (q ∷ qs)
-    → WorksApart request (q ∷ []) × WorksApart request qs
-apart_each (Start flags xid) q qs h = ((h.0, tt), h.1)
-apart_each (End flags xid) q qs h = ((h.0, tt), h.1)
-apart_each request q qs h = (tt, tt)
-
-abbrev SparesNow : Triple → State → Turn → Type 0
-SparesNow other s t = OfTurn (Spares other s) (λ r after. ⊥) t
+    absurd (never_held s q h up a (subst (λ (y : Triple). is_associated s y ≡ true) (xid_same x q.xid e) held))
 
 module _ (s : State) (n : ℕ) (q : Part) (h : IsSound s) (up : s.standing ≡ Up) (appends : AppendsOf s q) where
-  get_by_own : (key : List ℕ) (o : Option (Triple × Branch)) → own_branch s n ≡ o → Spares q.xid s (get_by s key o)
+  pub get_by_own : (key : List ℕ) (o : Option (Triple × Branch)) → own_branch s n ≡ o → Spares q.xid s (get_by s key o)
   get_by_own key None e = itself q.xid s
   get_by_own key (Some (x, b)) e = get_spares s x q.xid (own_apart s n x b q (xid_eq x q.xid) refl h up appends e) key b
 
-  put_by_own : (key : List ℕ) (value : Option (List ℕ)) (o : Option (Triple × Branch)) → own_branch s n ≡ o
+  pub put_by_own : (key : List ℕ) (value : Option (List ℕ)) (o : Option (Triple × Branch)) → own_branch s n ≡ o
       → Spares q.xid s (put_by s key value o)
   put_by_own key value None e = itself q.xid s
   put_by_own key value (Some (x, b)) e =
       put_spares s x q.xid (own_apart s n x b q (xid_eq x q.xid) refl h up appends e) key value b
-
-  row_spares : (request : Request) → is_work request ≡ true → WorksApart request (q ∷ []) → SparesNow q.xid s (row s n request)
-  row_spares (Start flags xid) is apart = start_spares s xid q.xid apart.0 n flags
-  row_spares (End flags xid) is apart = end_spares s xid q.xid apart.0 n flags
-  row_spares (Get key) is apart = get_by_own key (own_branch s n) refl
-  row_spares (Put key value) is apart = put_by_own key (Some value) (own_branch s n) refl
-  row_spares (Delete key) is apart = put_by_own key None (own_branch s n) refl
-  row_spares request is apart = absurd (cc is)
-
-  work_spares : (request : Request) (a : Answer) → is_work request ≡ true → WorksApart request (q ∷ [])
-      → respond s (event.Call n request) ≡ Now a → IsSameFor q.xid s a.after
-  work_spares request a is apart now =
-      subst (SparesNow q.xid s) now
-      (unless_turn (Spares q.xid s) (λ r after. ⊥) (early_refusal (context_of s n) request) s (row s n request)
-      (λ reply. itself q.xid s) (row_spares request is apart))
-
-pub work_leaves_group : WorkLeavesGroup
-work_leaves_group s n request a p ps h up is apart now m =
-    let call = event.Call n request in
-    let here : respond s call ≡ Now a = sym (turns_up s call up) ∙ now in
-    let bytes : AsksRoom s (Now a) = subst (AsksRoom s) here (events_ask_room s call (begins_none request is)) in
-    let logs : LogsWhatLasts s (Now a) = subst (LogsWhatLasts s) here (events_log_what_lasts s call h (begins_none request is)) in
-    let same = all_same here (p ∷ ps) apart m.appends in (
-      record {
-        appends = appends_still s a.after bytes logs [] (p ∷ ps) up same m.appends m.room;
-        apart = m.apart;
-        room = rooms_still s a.after bytes logs [] (p ∷ ps) m.room;
-      },
-      same,
-    )
-  where
-    all_same : respond s (event.Call n request) ≡ Now a → (qs : List Part) → WorksApart request qs
-        → AllByRecursion (AppendsOf s) qs → AllByRecursion (λ (q : Part). IsSameFor q.xid s a.after) qs
-    all_same here [] others appends = tt
-    all_same here (q ∷ qs) others appends =
-        let both = apart_each request q qs others in
-        (work_spares s n q h up appends.0 request a is both.0 here, all_same here qs both.1 appends.1)

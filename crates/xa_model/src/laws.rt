@@ -24,7 +24,7 @@ ghost use Rattle.xa_model.specs.Laws.Groups.{GroupsShare, TurnsUp, TurnsAlone};
 ghost use Rattle.xa_model.specs.Laws.Together.{AppendsTheSame, AtOnceLeavesOthers, LeavesOthers, RoomWhereKept, RoomWhereRefused};
 ghost use Rattle.xa_model.specs.Laws.Together.{KeptTogether, LostTogether, RefusedAlone, RefusedTogether};
 ghost use Rattle.xa_model.specs.Laws.Together.{BacksTogether, RefusedNoOther, StillTogether, TellsOfOne};
-ghost use Rattle.xa_model.specs.Laws.Together.{WorkIsNow, WorkLeavesGroup};
+ghost use Rattle.xa_model.specs.Laws.Together.{QuietIsNow, QuietLeavesGroup};
 ghost use Rattle.xa_model.specs.ScanLaw.{ListedAscends, ScanListsFirst, ScanListsAll, ScanIsAnswered};
 ghost use Rattle.xa_model.specs.Laws.Restarts.{RestartLeads, RestartHappens};
 ghost use Rattle.xa_model.specs.Laws.LowWater.{BelowKnown, IsReached, BelowNext, NeverFalls};
@@ -220,14 +220,14 @@ pub fn lost_together()
 /// refused or lost, as long as there is room: that is there, if it is with the bytes of those before it and the
 /// branches that they prepare, and without what they complete. So the entries of a group that is kept lead to what its
 /// records do one after another, and those of one that is lost to a manager that is down, all of whose records are
-/// open. If it is kept, the log's records are followed by the group's, otherwise they stay what they were. A session's
-/// work on another branch logs nothing, and leaves a group as it is.
+/// open. If it is kept, the log's records are followed by the group's, otherwise they stay what they were. What logs
+/// nothing, and touches neither the group's branches nor the sessions that ask for its calls, leaves it as it is.
 pub fn asked_together()
     ensures leaves { LeavesOthers }
     ensures at_once { AtOnceLeavesOthers }
     ensures still { StillTogether }
-    ensures work { WorkIsNow }
-    ensures beside { WorkLeavesGroup }
+    ensures quiet { QuietIsNow }
+    ensures beside { QuietLeavesGroup }
     ensures same { AppendsTheSame }
     ensures kept { RoomWhereKept }
     ensures refused { RoomWhereRefused }

@@ -1,6 +1,6 @@
 -- A manager with the group that it may have pending. Where none is, its events are the manager's by itself.
-use Rattle.std.proofs.Common.{◌≡◌, ◌∙◌, ℕ, ◌+◌, ◌≤◌, true, false, List, length, Option, None, Some, Result, Vec, Global, refl, sym, ap, subst, arith}
-use Rattle.std.specs.Prelude.{MatchResult, pos}
+use Rattle.std.proofs.Common.{◌≡◌, ◌∙◌, ℕ, ◌+◌, ◌≤◌, Bool, true, false, List, length, Option, None, Some, Result, Vec, Global, refl, sym, ap, subst, arith}
+use Rattle.std.specs.Prelude.{MatchBool, MatchResult, pos}
 use Rattle.xa_assoc.specs.Refusals.{is_memory}
 use Rattle.xa_assoc.specs.declared.fault.ConnectFault.{ConnectFault}
 use Rattle.xa_frame.specs.declared.reply.Reply.{Reply}
@@ -20,7 +20,7 @@ use Rattle.xa_sequencer.specs.Believed.GroupManager.{GroupManager, HasItsGroup, 
 use Rattle.xa_sequencer.specs.Believed.Numbers.{Adds, Leaves}
 use Rattle.xa_sequencer.specs.Believed.Stands.{HasHistory, Numbered, most_numbers}
 use Rattle.xa_sequencer.specs.Believed.Together.{CalledTogether, Rests, placed_from}
-use Rattle.xa_sequencer.specs.GroupCommits.{ActsAs, AnswersAs, IsAlone, KeepsPending, RestsAs}
+use Rattle.xa_sequencer.specs.GroupCommits.{ActsAs, AnswersAs, AsksOne, IsAlone, KeepsPending, RestsAs}
 use Rattle.xa_sequencer.proofs.Adding.{added, left_out, none_more}
 use Rattle.xa_sequencer.proofs.Grouping.{called_together, have_numbers, rests}
 use Rattle.xa_sequencer.proofs.Keeping.{Keeps, keeps_alone}
@@ -44,6 +44,13 @@ pub acted_beside : {M : Type 0} (m : Ghosts (GroupManager M)) (now then : M) (p 
     → ActsAs m (beside now f) event reply (beside then f) → ActsAs m (with_ now p) event reply (with_ then p)
 acted_beside m now then p f event reply is a = subst (λ (x : Option PendingGroup). ActsAs m (with_ now x) event reply (with_ then x)) (sym is) a
 
+-- a hang-up beside it, or one that has to wait
+pub hung_up_beside : {M : Type 0} (m : Ghosts (GroupManager M)) (now then : M) (p : Option PendingGroup) (f : PendingGroup) (session : ℕ) (did : Bool) → p ≡ Some f
+    → MatchBool did (ActsAs m (beside now f) (Hangup session) (plain (pos 0)) (beside then f)) ((then ≡ now) × AsksOne session (Some (calls_of f).items))
+    → MatchBool did (ActsAs m (with_ now p) (Hangup session) (plain (pos 0)) (with_ then p)) ((then ≡ now) × AsksOne session (calls_in p))
+hung_up_beside m now then p f session true is h = acted_beside m now then p f (Hangup session) (plain (pos 0)) is h
+hung_up_beside m now then p f session false is h = (h.0, subst (λ (x : Option PendingGroup). AsksOne session (calls_in x)) (sym is) h.1)
+
 module _ {M : Type 0} (itself : Ghosts M) (m : Ghosts (GroupManager M)) (law : IsAlone itself m) where
   pub acted_alone : (now then : M) (p : Option PendingGroup) (event : Event) (reply : Reply) → calls_in p ≡ None → ActsAs itself now event reply then
       → ActsAs m (with_ now p) event reply (with_ then p)
@@ -52,31 +59,31 @@ module _ {M : Type 0} (itself : Ghosts M) (m : Ghosts (GroupManager M)) (law : I
 
   module _ (start : State → Type 0) (base : ℕ × ℕ) where
     -- a connect that found its memory, and one that found none
-    pub connect_adds : (now then : M) (p : Option PendingGroup) (count : ℕ) (r : Result ℕ ConnectFault) → calls_in p ≡ None
-        → ActsAs itself now Connect (connect_reply r) then → is_memory (connect_reply r).detail ≡ false
+    pub connect_adds : (now then : M) (p : Option PendingGroup) (count : ℕ) (r : Result ℕ ConnectFault)
+        → ActsAs m (with_ now p) Connect (connect_reply r) (with_ then p) → is_memory (connect_reply r).detail ≡ false
         → MatchResult r (λ _. itself.sessions then ≡ itself.sessions now + 1) (λ _. itself.sessions then ≡ itself.sessions now)
         → count + itself.sessions now + 2 ≤ most_numbers
         → Adds m start base (at now p count) Connect (placed (count + 1) (connect_reply r)) (at then p (count + 1))
-    connect_adds now then p count r none acts found sessions left =
+    connect_adds now then p count r acts found sessions left =
         added m start base (at now p count) (at then p (count + 1)) Connect (connect_reply r) (placed (count + 1) (connect_reply r))
-        (acted_alone now then p Connect (connect_reply r) none acts) found (connect_place r) tt refl refl
+        acts found (connect_place r) tt refl refl
         (omega (arith, left, one_more r (itself.sessions now) (itself.sessions then) sessions, law.sessions (with_ then p)))
 
-    pub connect_leaves : (now then : M) (p : Option PendingGroup) (count : ℕ) (r : Result ℕ ConnectFault) → calls_in p ≡ None
-        → ActsAs itself now Connect (connect_reply r) then → is_memory (connect_reply r).detail ≡ true
+    pub connect_leaves : (now then : M) (p : Option PendingGroup) (count : ℕ) (r : Result ℕ ConnectFault)
+        → ActsAs m (with_ now p) Connect (connect_reply r) (with_ then p) → is_memory (connect_reply r).detail ≡ true
         → MatchResult r (λ _. itself.sessions then ≡ itself.sessions now + 1) (λ _. itself.sessions then ≡ itself.sessions now)
         → Leaves m start base (at now p count) Connect (connect_reply r) (at then p count)
-    connect_leaves now then p count r none acts wanted sessions =
-        left_out m start base (at now p count) (at then p count) Connect (connect_reply r) (acted_alone now then p Connect (connect_reply r) none acts) wanted refl
+    connect_leaves now then p count r acts wanted sessions =
+        left_out m start base (at now p count) (at then p count) Connect (connect_reply r) acts wanted refl
         (omega (arith, none_more r (itself.sessions now) (itself.sessions then) wanted sessions, law.sessions (with_ now p), law.sessions (with_ then p)))
 
     -- a hang-up of a connected session
-    pub hangup_adds : (now then : M) (p : Option PendingGroup) (count session : ℕ) → calls_in p ≡ None → ActsAs itself now (Hangup session) (plain (pos 0)) then
+    pub hangup_adds : (now then : M) (p : Option PendingGroup) (count session : ℕ) → ActsAs m (with_ now p) (Hangup session) (plain (pos 0)) (with_ then p)
         → itself.sessions then + 1 ≡ itself.sessions now → HasHistory m start base (at now p count)
         → Adds m start base (at now p count) (Hangup session) (placed (count + 1) (plain (pos 0))) (at then p (count + 1))
-    hangup_adds now then p count session none acts sessions h =
+    hangup_adds now then p count session acts sessions h =
         added m start base (at now p count) (at then p (count + 1)) (Hangup session) (plain (pos 0)) (placed (count + 1) (plain (pos 0)))
-        (acted_alone now then p (Hangup session) (plain (pos 0)) none acts) refl refl tt refl refl
+        acts refl refl tt refl refl
         (omega (arith, h.1.upholds.reserved, h.1.count_is, sessions, law.sessions (with_ now p), law.sessions (with_ then p)))
 
     -- a group begins, or none does

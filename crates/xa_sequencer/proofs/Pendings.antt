@@ -1,7 +1,8 @@
 -- A manager over a log does what a sequencer asks of one that commits groups.
 use Rattle.std.proofs.Common.{◌≡◌, ◌∙◌, ℕ, ◌+◌, ◌≤◌, ◌<◌, ◌⊎◌, inl, inr, Bool, true, false, List, [], ◌∷◌, Option, None, Some, Result, Ok, Err, IsSomeAnd, IfOk, Vec, Global, refl, sym, subst, arith}
-use Rattle.std.specs.Prelude.{if◌then◌else◌, MatchBool, OnErr}
+use Rattle.std.specs.Prelude.{if◌then◌else◌, pos, MatchBool, OnErr}
 use Rattle.std.proofs.lemmas.Bool.Decides.{nat_tests}
+use Rattle.xa_assoc.specs.Company.{Loses}
 use Rattle.xa_assoc.specs.Refusals.{is_memory}
 use Rattle.xa_disk.specs.Counts.{plus, top}
 use Rattle.xa_disk.specs.declared.counts.Counts.{Counts}
@@ -15,26 +16,28 @@ use Rattle.xa_manager.specs.Believed.Counted.{RiseBy, counted_by, failures_in, f
 use Rattle.xa_manager.specs.Believed.LogStands.{Trusts}
 use Rattle.xa_manager.specs.Managed.{ManagerStandsFor}
 use Rattle.xa_manager.specs.Believed.Parts.{log_of}
-use Rattle.xa_manager.specs.Believed.Pending.{HasFinished, IsPending, IsPendingFrom, WorksBeside, WritesGroup, calls_of, write_of}
+use Rattle.xa_manager.specs.Connected.{connected_to}
+use Rattle.xa_manager.specs.Believed.Pending.{AnsweredBeside, AsksNoneOf, HasFinished, IsPending, IsPendingFrom, WritesGroup, calls_of, write_of}
 use Rattle.xa_manager.specs.Reserving.{HasReserved}
 use Rattle.xa_manager.specs.declared.manager.Manager.{Manager}
 use Rattle.xa_manager.specs.declared.pending.PendingGroup.{PendingGroup}
 use Rattle.xa_manager.specs.declared.together.Asked.{Asked}
 use Rattle.xa_manager.proofs.Counting.{none_by, rise_both}
 use Rattle.xa_manager.proofs.Reserved.{none_rises}
-use Rattle.xa_model.specs.Answer.{Answer}
+use Rattle.xa_model.specs.Answer.{Answer, plain}
 use Rattle.xa_model.specs.Events.{is_restart}
 use Rattle.xa_model.specs.History.{Entry, Leads, joins}
 use Rattle.xa_model.specs.State.{State}
 use Rattle.xa_model.specs.Step.{step}
 use Rattle.xa_model.specs.Turn as turn
 use Rattle.xa_model.specs.declared.event.Event.{Event}
+use Rattle.xa_model.specs.declared.event.Event.TheVariants.{Hangup}
 use Rattle.xa_model.specs.declared.outcome.Appending.{Appending}
 use Rattle.xa_model.specs.declared.outcome.Appending.TheVariants.{Kept, Refused, Lost}
 use Rattle.xa_model.specs.declared.outcome.Outcome.TheVariants.{Appended, Quiet}
 use Rattle.xa_history.proofs.Together.{all_told, all_unplaced, group_lost, group_told}
-use Rattle.xa_sequencer.specs.GroupCommits.{ActsAs, AnswersAs, RestsAs}
-use Rattle.xa_sequencer.specs.Believed.GroupManager.{alone, before_write, beside, counted_before, manages_of}
+use Rattle.xa_sequencer.specs.GroupCommits.{ActsAs, AnswersAs, AsksOne, RestsAs}
+use Rattle.xa_sequencer.specs.Believed.GroupManager.{StandsWith, alone, before_write, beside, counted_before, manages_of}
 
 -- ---- counts of failures
 
@@ -127,13 +130,13 @@ module _ {D : Type 0} (disks : disk.Ghosts D) where
   left_alone m m' (Err given) stays reserved =
       record { stays = stays; counted = none_by disks (log_of m) (log_of m') (none_rises disks (log_of m) (log_of m') reserved (log_of m) (refl, refl)) }
 
-  -- ---- work beside it
+  -- ---- what is answered beside it
 
   map_some : (o : Option Answer) (P Q : Answer → Type 0) → ((a : Answer) → P a → Q a) → IsSomeAnd o P → IsSomeAnd o Q
   map_some None P Q f h = h
   map_some (Some a) P Q f h = f a h
 
-  module _ (m m' : Manager D) (f : PendingGroup) (event : Event) (reply : Reply) (w : WorksBeside disks m f event reply m') where
+  module _ (m m' : Manager D) (f : PendingGroup) (event : Event) (reply : Reply) (w : AnsweredBeside disks m f event reply m') where
     same_counts : RiseBy 0 (counted_before F f (log_of m)) (counted_before F f (log_of m'))
     same_counts = subst (λ (l : LogView D). RiseBy 0 (counted_before F f (log_of m)) (counted_before F f l)) (sym w.log) (rise_none (counted_before F f (log_of m)))
 
@@ -159,6 +162,28 @@ module _ {D : Type 0} (disks : disk.Ghosts D) where
       crash = λ served. w.crash;
       counted = counts_by (is_memory reply.detail);
     }
+
+  pub hung_up_beside : (m m' : Manager D) (f : PendingGroup) (n : ℕ) (did : Bool)
+      → MatchBool did (AnsweredBeside disks m f (Hangup n) (plain (pos 0)) m' × Loses (connected_to m) n (connected_to m')) ((m' ≡ m) × (AsksNoneOf n f → ⊥))
+      → MatchBool did (ActsAs (manages_of disks) (beside m f) (Hangup n) (plain (pos 0)) (beside m' f)) ((m' ≡ m) × AsksOne n (Some (calls_of f).items))
+  hung_up_beside m m' f n true h = acted_beside m m' f (Hangup n) (plain (pos 0)) h.0
+  hung_up_beside m m' f n false h = h
+
+  fewer_by : (was : Bool) (a b : ℕ) → was ≡ true → b + (if was then 1 else 0) ≡ a → b + 1 ≡ a
+  fewer_by true a b e h = h
+  fewer_by false a b e h = absurd (cc e)
+
+  pub sessions_left : (m m' : Manager D) (f : PendingGroup) (n : ℕ) (did : Bool) → did ≡ true → (connected_to m).has n ≡ true
+      → MatchBool did (AnsweredBeside disks m f (Hangup n) (plain (pos 0)) m' × Loses (connected_to m) n (connected_to m')) ((m' ≡ m) × (AsksNoneOf n f → ⊥))
+      → (connected_to m').count + 1 ≡ (connected_to m).count
+  sessions_left m m' f n true e was h = fewer_by ((connected_to m).has n) (connected_to m).count (connected_to m').count was h.1.count
+  sessions_left m m' f n false e was h = absurd (cc e)
+
+  -- what is said of the states that it stands for, with a group pending or without
+  pub either_says : (m : Manager D) (p : Option PendingGroup) (s : State) (P : State → Type 0) → (ManagerStandsFor disks m s → P s) → ((f : PendingGroup) → IsPending disks m f s → P s)
+      → StandsWith disks m p s → P s
+  either_says m None s P alone_ beside_ h = alone_ h
+  either_says m (Some f) s P alone_ beside_ h = beside_ f h
 
   -- ---- it is finished
 

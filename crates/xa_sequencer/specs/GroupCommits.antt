@@ -1,5 +1,5 @@
 -- What a sequencer asks of a manager.
-use Rattle.std.specs.Prelude.{ℕ, ◌≡◌, ◌+◌, ◌≤◌, List, length, Option, None, Some}
+use Rattle.std.specs.Prelude.{ℕ, ◌≡◌, ◌+◌, ◌≤◌, ◌==◌, false, List, length, Option, None, Some}
 use Rattle.std.specs.List.{AllByRecursion}
 use Rattle.xa_frame.specs.declared.reply.Reply.{Reply}
 use Rattle.xa_manager.specs.declared.together.Asked.{Asked}
@@ -25,14 +25,19 @@ AnswersAs m old calls replies new =
 abbrev pub RestsAs : {M : Type 0} → Ghosts M → M → M → Type 0
 RestsAs m old new = manager.Rests m.stands m.failures old new
 
--- With no group pending it is what it is alone; and it has the same sessions with one.
+-- With no group pending it is what it is alone; and it has the same sessions and versions with one.
 pub record IsAlone {M : Type 0} (itself : Ghosts M) (m : Ghosts (GroupManager M)) : Type 0 where
   pub acts : (old : M) (event : Event) (reply : Reply) (new : M) → ActsAs itself old event reply new
       → ActsAs m (alone old) event reply (alone new)
   pub stands : (x : M) (s : State) → m.stands (alone x) s → itself.stands x s
-  pub versions : (x : M) → m.versions (alone x) ≡ itself.versions x
+  pub versions : (g : GroupManager M) → m.versions g ≡ itself.versions g.manager
   pub has_session : (g : GroupManager M) (n : ℕ) → m.has_session g n ≡ itself.has_session g.manager n
   pub sessions : (g : GroupManager M) → m.sessions g ≡ itself.sessions g.manager
+
+-- a session asks for one of the calls that are pending
+abbrev pub AsksOne : ℕ → Option (List Asked) → Type 0
+AsksOne n None = ⊥
+AsksOne n (Some calls) = AllByRecursion (λ c. (c.session == n) ≡ false) calls → ⊥
 
 -- how many calls are pending
 abbrev pub pending_count : Option (List Asked) → ℕ

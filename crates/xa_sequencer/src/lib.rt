@@ -3,7 +3,8 @@
 //!
 //! - `group_commits`: `GroupCommits`, a manager with group commit, whose sync may be made apart; `manager`: that the one
 //!   over a log does it
-//! - `sequencer`: `Sequencer`, which asks its manager and numbers each event
+//! - `sequencer`: `Sequencer`, which asks its manager and numbers each event; `beside`: what it asks beside the group that
+//!   may be pending
 //! - `together`: calls that are asked together, as a group; `numbers`: whether there are numbers left
 //! - `laws`: `goes_on_twice`, that histories go on with the entries of one event and of another
 //!
@@ -11,6 +12,7 @@
 //! and keeps each entry. Threads share a sequencer by the handles of `xa_handles`.
 #![tactic(auto)]
 
+mod beside;
 mod group_commits;
 mod laws;
 mod manager;

@@ -1,6 +1,7 @@
 use crate::group_commits::GroupCommits;
+use xa_assoc::ConnectFault;
 use xa_disk::{Disk, SyncAnswer, Syncer};
-use xa_frame::{Reply, Request};
+use xa_frame::{Reply, Request, Status};
 use xa_manager::{Asked, Manager, PendingGroup};
 
 /// The manager over a log on two disks.
@@ -37,13 +38,25 @@ impl<D: Disk> GroupCommits for Manager<D> {
         self.syncer()
     }
 
-    fn work(
+    fn call_beside(
         &mut self,
         group: &PendingGroup,
         session: u64,
         request: Request,
     ) -> Result<Reply, Request> {
-        self.work(group, session, request)
+        self.call_beside(group, session, request)
+    }
+
+    fn connect_beside(&mut self, group: &PendingGroup) -> Result<u64, ConnectFault> {
+        self.connect_beside(group)
+    }
+
+    fn hangup_beside(&mut self, group: &PendingGroup, session: u64) -> bool {
+        self.hangup_beside(group, session)
+    }
+
+    fn status_beside(&self) -> Status {
+        self.status()
     }
 
     fn finish_group(

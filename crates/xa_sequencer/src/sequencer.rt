@@ -1,16 +1,16 @@
-ghost use Rattle.std.specs.Prelude.{◌≡◌, ◌≢◌, ℕ, [], is_none, None, Some, IfErr, IfOk, OnErr, OnOk};
+ghost use Rattle.std.specs.Prelude.{◌≡◌, ◌≢◌, ℕ, [], is_none, None, Some, IfErr, IfNone, IfOk, IfSome, OnErr, OnOk, OnSome};
 ghost use Rattle.std.specs.List.{AllByRecursion};
 ghost use Rattle.xa_frame.specs.Limits.{IsRequest, IsReply};
 ghost use Rattle.xa_manager.specs.Once.{AreOnce};
-ghost use Rattle.xa_model.specs.{State.State, Events.IsAsked};
-ghost use Rattle.xa_model.specs.declared.event.Event.TheVariants as Event;
+ghost use Rattle.xa_model.specs.State.{State};
 ghost use Rattle.xa_history.specs.{Status.Tells, Believed.Together.IsToldOf};
-ghost use Rattle.xa_sequencer.specs.Believed.GroupManager.{IsItsGroup, alone, calls_in, pending_of};
-ghost use Rattle.xa_sequencer.specs.GroupCommits.{ActsAs, pending_count};
+ghost use Rattle.xa_sequencer.specs.Believed.GroupManager.{alone, pending_of};
+ghost use Rattle.xa_sequencer.specs.GroupCommits.{AsksOne};
 ghost use Rattle.xa_sequencer.specs.Believed.Numbers.{Called, Connected, Left};
 ghost use Rattle.xa_sequencer.specs.Believed.Stands.{AllPromise, HasHistory, Stands};
 ghost use Rattle.xa_sequencer.specs.Believed.Together.{CalledTogether, Rests};
 
+use crate::beside::{answer, connect, hang_up, pending_calls};
 use crate::group_commits::GroupCommits;
 use crate::numbers::are_left;
 use crate::together::{hold_all, number_all};
@@ -67,17 +67,17 @@ impl<M: GroupCommits, S: Start> Sequencer<M, S> {
         }
     }
 
-    /// Connects a session.
+    /// Connects a session, also while a group is pending.
     pub fn connect(&mut self) -> Result<u64, ConnectFault>
-        requires { pending_of self.old.now ≡ None }
         ensures connected { Connected M.manages S.start S.base self.old result self.new }
-        ensures pending { pending_of self.new.now ≡ None }
+        ensures pending { pending_of self.new.now ≡ pending_of self.old.now }
     {
+        let taken = self.count + pending_calls(&self.pending);
         // one more for its hang-up
-        if !are_left(self.count, self.manager.connected(), 2) {
+        if !are_left(taken, self.manager.connected(), 2) {
             return Err(ConnectFault::Memory);
         }
-        let session = self.manager.connect();
+        let session = connect(&mut self.manager, &self.pending);
         if is_memory(&connect_reply(session)) {
             return session;
         }
@@ -85,8 +85,8 @@ impl<M: GroupCommits, S: Start> Sequencer<M, S> {
         session
     }
 
-    /// Answers a request of a session: while a group is pending, a call of its work on a branch that is none of the group's.
-    /// The reply has its number, unless memory ran out: then it has none, and there is no entry.
+    /// Answers a request of a session: while a group is pending, one that leaves the group as it is. The reply has its
+    /// number, unless memory ran out: then it has none, and there is no entry.
     ///
     /// # Errors
     /// Gives any other request back then, and this one if there is no number left: it has to wait until the group is
@@ -117,7 +117,7 @@ impl<M: GroupCommits, S: Start> Sequencer<M, S> {
     }
 
     /// Writes the records of those calls of sessions that may share one append: then they are a group that is pending, until
-    /// it is finished with the answer of the sync that the `syncer` makes. Meanwhile sessions work on (`call`).
+    /// it is finished with the answer of the sync that the `syncer` makes. Meanwhile others are answered.
     ///
     /// # Errors
     /// Gives the calls back if none of them logs, out of memory, or if there aren't numbers left for all of them.
@@ -172,29 +172,32 @@ impl<M: GroupCommits, S: Start> Sequencer<M, S> {
         self.pending.is_none()
     }
 
-    /// Hangs a session up, and says whether it was connected.
-    pub fn hangup(&mut self, session: u64) -> bool
-        requires { pending_of self.old.now ≡ None }
-        ensures was { result ≡ M.manages.has_session self.old.now session }
-        ensures left { Left M.manages S.start S.base session self.old self.new }
-        ensures pending { pending_of self.new.now ≡ None }
+    /// Hangs a session up, and says whether it was connected. One that asks for a call of the pending group has to wait
+    /// until that is finished: then this is None, and nothing changes.
+    pub fn hangup(&mut self, session: u64) -> Option<bool>
+        ensures was { IfSome result (λ was. was ≡ M.manages.has_session self.old.now session) }
+        ensures left { OnSome result (Left M.manages S.start S.base session self.old self.new) }
+        ensures waits { IfNone result ((self.new ≡ self.old) × AsksOne session (pending_of self.old.now)) }
+        ensures pending { pending_of self.new.now ≡ pending_of self.old.now }
     {
         if !self.manager.is_connected(session) {
-            return false;
+            return Some(false);
         }
-        self.manager.hangup(session);
+        if !hang_up(&mut self.manager, &self.pending, session) {
+            return None;
+        }
         self.count += 1;
-        true
+        Some(true)
     }
 
-    /// How the manager is doing, with how many events were numbered. Changes nothing, and has no number.
+    /// How the manager is doing, with how many events were numbered: while a group is pending, as before it. Changes
+    /// nothing, and has no number.
     pub fn status(&self) -> Status
-        requires { pending_of self.now.now ≡ None }
         ensures { Tells M.manages self.now.now self.now.count result }
     {
         Status {
             calls: self.count,
-            ..self.manager.status()
+            ..self.manager.status_beside()
         }
     }
 
@@ -223,52 +226,16 @@ impl<M: GroupCommits, S: Start> Sequencer<M, S> {
 
     /// Whether a session has an association of its own.
     pub fn has_association(&self, session: u64) -> bool
-        requires { pending_of self.now.now ≡ None }
         ensures { IsAssociated M.manages.stands self.now.now session result }
     {
         self.manager.has_association(session)
     }
 
-    /// Where the log's next record begins, while the manager is up.
+    /// Where the log's next record begins, while the manager is up: while a group is pending, its first one.
     pub fn log_end(&self) -> u64
-        requires { pending_of self.now.now ≡ None }
         ensures { IsLogEnd M.manages.stands self.now.now result }
     {
         self.manager.log_end()
-    }
-}
-
-// How many calls are pending.
-fn pending_calls(pending: &Option<PendingGroup>) -> u64
-    ensures { result ≡ pending_count (calls_in pending.now) }
-{
-    match pending {
-        Some(group) => group.calls().len() as u64,
-        None => 0,
-    }
-}
-
-// Answers a request of a session, beside the pending group if there is one.
-fn answer<M: GroupCommits>(
-    manager: &mut M,
-    pending: &Option<PendingGroup>,
-    session: u64,
-    request: Request,
-) -> Result<Reply, Request>
-    requires asked { IsAsked request }
-    requires group { IsItsGroup M.is_group manager.old pending.now }
-    ensures acts { IfOk result (λ reply. ActsAs M.manages (record { manager = manager.old; pending = pending.now })
-        (Event.Call session request) reply (record { manager = manager.new; pending = pending.now })) }
-    ensures limits { IfOk result IsReply }
-    ensures place { IfOk result (λ reply. reply.place ≡ 0) }
-    ensures back { IfErr result (λ given. (given ≡ request) × (manager.new ≡ manager.old)) }
-    ensures answers { OnErr result (calls_in pending.now ≢ None) }
-    ensures group { IsItsGroup M.is_group manager.new pending.now }
-    ensures sessions { M.sessions manager.new ≡ M.sessions manager.old }
-{
-    match pending {
-        Some(group) => manager.work(group, session, request),
-        None => Ok(manager.call(session, request)),
     }
 }
 

@@ -1,10 +1,14 @@
--- A group that is pending: its records are written, their sync has to follow, and sessions work on other branches
+-- A group that is pending: its records are written, their sync has to follow, and what leaves it as it is is answered
 -- meanwhile.
-use Rattle.std.specs.Prelude.{ℕ, ◌≡◌, ◌<◌, ◌≤◌, true, false, Some, None, List, [], ◌∷◌, length, map, MatchBool, IsSomeAnd, Result, Vec, vec_capacity}
+use Rattle.std.specs.Prelude.{ℕ, ◌≡◌, ◌<◌, ◌≤◌, ◌==◌, Bool, true, false, Option, Some, None, List, [], ◌∷◌, length, map, MatchBool, IsSomeAnd, Result, Vec, vec_capacity}
 use Rattle.std.specs.declared.alloc.Global.{Global}
 use Rattle.std.specs.List.{AllByRecursion}
 use Rattle.xa_assoc.specs.Refusals.{is_memory}
+use Rattle.xa_branch.specs.Branches.{working_at}
+use Rattle.xa_branch.specs.Due.{work_of}
 use Rattle.xa_branch.specs.Room.{AreRooms, rooms_of}
+use Rattle.xa_branch.specs.declared.branches.Branches.{Branches}
+use Rattle.xa_branch.specs.declared.working.Working.{Working}
 use Rattle.xa_disk.specs.declared.disk.Disk.{Ghosts}
 use Rattle.xa_disk.specs.declared.disk.DiskFault.{DiskFault}
 use Rattle.xa_frame.specs.declared.reply.Reply.{Reply}
@@ -20,18 +24,23 @@ use Rattle.xa_model.specs.declared.outcome.Appending.{Appending}
 use Rattle.xa_model.specs.declared.outcome.Appending.TheVariants.{Lost}
 use Rattle.xa_model.specs.declared.outcome.Outcome.TheVariants.{Appended, Quiet}
 use Rattle.xa_model.specs.Answer.{Answer}
-use Rattle.xa_model.specs.Associations.{start_by, end_by}
+use Rattle.xa_model.specs.Associations.{open_by, close_by, start_by, end_by}
 use Rattle.xa_model.specs.Answer.{ok}
 use Rattle.xa_model.specs.Data.{get_by, put_by}
 use Rattle.xa_model.specs.History.{Entry, Leads}
+use Rattle.xa_model.specs.KnownBranches.{branches_by}
 use Rattle.xa_model.specs.Laws.Together.{group_entries, records_of}
+use Rattle.xa_model.specs.Phases.{doom_by}
+use Rattle.xa_model.specs.Recovering.{recover_by}
 use Rattle.xa_model.specs.State.{State, own_branch}
 use Rattle.xa_model.specs.Step.{step}
+use Rattle.xa_model.specs.TimeLimits.{is_over, tick_by, timeout_by}
 use Rattle.xa_model.specs.Turn.{Asked as AskedOf}
-use Rattle.xa_xid.specs.Triple.{xid_eq}
+use Rattle.xa_xid.specs.Triple.{Triple, xid_eq}
 use Rattle.xa_manager.specs.declared.pending.PendingGroup.{PendingGroup}
 use Rattle.xa_manager.specs.declared.manager.Manager.{Manager}
 use Rattle.xa_manager.specs.declared.together.Asked.{Asked}
+use Rattle.xa_manager.specs.declared.together.Joining.{Joining}
 use Rattle.xa_manager.specs.Acts.{AreDistinct}
 use Rattle.xa_manager.specs.Believed.Answered.{HasCalled, IsPinned, as_appended}
 use Rattle.xa_manager.specs.Believed.Crash.{LeavesAppend}
@@ -43,14 +52,21 @@ use Rattle.xa_manager.specs.Reserving.{HasReserved}
 use Rattle.xa_manager.specs.Rows.{asked_row}
 use Rattle.xa_manager.specs.Believed.Together.{Member, members_of, part_of, parts_of, prepares_of}
 
--- the answer of the row of a session's work
-abbrev pub work_by : State → ℕ → Request → Answer
-work_by s n (request.Start flags xid) = start_by s n flags xid
-work_by s n (request.End flags xid) = end_by s n flags xid
-work_by s n (request.Get key) = get_by s key (own_branch s n)
-work_by s n (request.Put key value) = put_by s key (Some value) (own_branch s n)
-work_by s n (request.Delete key) = put_by s key None (own_branch s n)
-work_by s n _ = ok s
+-- the answer of the row of a call that logs nothing
+abbrev pub quiet_by : State → ℕ → Request → Answer
+quiet_by s n (request.Open flags info) = open_by s n
+quiet_by s n (request.Close flags) = close_by s n
+quiet_by s n (request.Start flags xid) = start_by s n flags xid
+quiet_by s n (request.End flags xid) = end_by s n flags xid
+quiet_by s n (request.Recover flags count) = recover_by s n flags count
+quiet_by s n (request.Get key) = get_by s key (own_branch s n)
+quiet_by s n (request.Put key value) = put_by s key (Some value) (own_branch s n)
+quiet_by s n (request.Delete key) = put_by s key None (own_branch s n)
+quiet_by s n (request.Doom xid) = doom_by s xid
+quiet_by s n (request.Timeout seconds) = timeout_by s n seconds
+quiet_by s n (request.Tick moment) = tick_by s moment
+quiet_by s n (request.Branches count after) = branches_by s count after
+quiet_by s n _ = ok s
 
 -- the calls that were asked, with those that were left out of it
 abbrev pub calls_of : PendingGroup → Vec Asked Global
@@ -78,11 +94,34 @@ pub record IsGroupOf {D : Type 0} (m : Manager D) (f : PendingGroup) : Type 0 wh
 abbrev pub pending_members : PendingGroup → List Member
 pending_members f = members_of (calls_of f).items f.together.members.items
 
--- A call of a session's work that names a branch names none of the group's.
-abbrev pub WorksApartFrom : Request → PendingGroup → Type 0
-WorksApartFrom (request.Start flags xid) f = AllByRecursion (λ j. xid_eq j.xid xid ≡ false) f.together.members.items
-WorksApartFrom (request.End flags xid) f = AllByRecursion (λ j. xid_eq j.xid xid ≡ false) f.together.members.items
-WorksApartFrom _ f = Unit {0}
+-- What is answered beside it, by what the manager keeps
+
+-- this session asks for none of its calls, nor for one that was left out
+abbrev pub AsksNoneOf : ℕ → PendingGroup → Type 0
+AsksNoneOf n f = AllByRecursion (λ c. (c.session == n) ≡ false) (calls_of f).items
+
+-- this XID is none of theirs
+abbrev pub NamesNoneOf : Triple → PendingGroup → Type 0
+NamesNoneOf xid f = AllByRecursion (λ j. xid_eq j.xid xid ≡ false) f.together.members.items
+
+-- whether this moment marks a branch, by what is kept of it at work
+abbrev pub is_over_kept : ℕ → Option Working → Bool
+is_over_kept moment (Some w) = is_over moment (work_of w)
+is_over_kept moment None = false
+
+-- this moment marks none of their branches
+abbrev pub MarksNoneOf : Branches → ℕ → List Joining → Type 0
+MarksNoneOf m moment js = AllByRecursion (λ j. is_over_kept moment (working_at m j.xid) ≡ false) js
+
+-- a session's call that logs nothing touches neither its branches nor the sessions that ask for its calls
+abbrev pub CallsApartFrom : {D : Type 0} → Manager D → ℕ → Request → PendingGroup → Type 0
+CallsApartFrom m n (request.Open flags info) f = AsksNoneOf n f
+CallsApartFrom m n (request.Close flags) f = AsksNoneOf n f
+CallsApartFrom m n (request.Start flags xid) f = NamesNoneOf xid f
+CallsApartFrom m n (request.End flags xid) f = NamesNoneOf xid f
+CallsApartFrom m n (request.Doom xid) f = NamesNoneOf xid f
+CallsApartFrom m n (request.Tick moment) f = MarksNoneOf (branches_of m) moment f.together.members.items
+CallsApartFrom m n _ f = Unit {0}
 
 -- A manager stands for a state with a pending group, whose records were written after those of this log: it stands for it
 -- with that log, and there the calls might be asked together, and append these records. What will be kept of its branches
@@ -116,8 +155,8 @@ abbrev pub LeavesPending : {D : Type 0} → Ghosts D → LogView D → Manager D
 LeavesPending disks log m f s =
     Trusts disks → (lost : State) × Leads s (lost_group s (pending_members f)) lost × LeavesAppend disks log (log_of m) s lost
 
--- A call of a session's work was answered meanwhile: as the step, or memory ran out. The group stays pending.
-pub record WorksBeside {D : Type 0} (disks : Ghosts D) (m : Manager D) (f : PendingGroup) (event : Event) (reply : Reply)
+-- An event was answered meanwhile: as the step, or memory ran out. The group stays pending.
+pub record AnsweredBeside {D : Type 0} (disks : Ghosts D) (m : Manager D) (f : PendingGroup) (event : Event) (reply : Reply)
     (m' : Manager D) : Type 0 where
   pub answered : (log : LogView D) (s : State) → IsPendingFrom disks log m f s
       → MatchBool (is_memory reply.detail) (IsPendingFrom disks log m' f s)

@@ -113,7 +113,7 @@ const MEANWHILE: [(&str, &str); 3] = [
 const WAITING: [&str; 3] = [
     "1 start TMJOIN 1:aa:",
     "1 commit TMONEPHASE 1:88:",
-    "1 recover TMSTARTRSCAN|TMENDRSCAN 10",
+    "1 doom 1:aa:",
 ];
 
 // Whether a call gets this reply while a group is pending; a call that has to wait is given back.
@@ -130,7 +130,7 @@ fn works(
     match read_line(alloc, line.as_bytes()) {
         Ok(Line::Call(session, request)) => {
             request.hold();
-            match (manager.work(group, session, request), want) {
+            match (manager.call_beside(group, session, request), want) {
                 (Ok(reply), Some(want)) => shows(alloc, &reply, want),
                 (Err(_), None) => true,
                 _ => false,
@@ -146,11 +146,11 @@ fn works_meanwhile(alloc: Global, manager: &mut Manager<MemDisk>, group: &Pendin
     ensures { IsGroupOf manager.new group.now }
 {
     let [first, second, third] = MEANWHILE;
-    let [join, commit, scan] = WAITING;
+    let [join, commit, doom] = WAITING;
     works(alloc, manager, group, first.0, Some(first.1))
         && works(alloc, manager, group, join, None)
         && works(alloc, manager, group, second.0, Some(second.1))
-        && works(alloc, manager, group, scan, None)
+        && works(alloc, manager, group, doom, None)
         && works(alloc, manager, group, third.0, Some(third.1))
         && works(alloc, manager, group, commit, None)
 }

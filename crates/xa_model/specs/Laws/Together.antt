@@ -1,6 +1,6 @@
 -- Laws of calls that are asked together, on different XIDs: what the record of one does leaves all that another looks
 -- at, except for the room. So a call appends the same record if those before it are kept, refused or lost.
-use Rattle.std.specs.Prelude.{ℕ, ℤ, pos, ◌≡◌, ◌+◌, Bool, true, false, not, Option, Some, None, List, [], ◌∷◌, ◌++◌}
+use Rattle.std.specs.Prelude.{ℕ, ℤ, pos, ◌≡◌, ◌+◌, ◌==◌, Bool, true, false, not, Option, Some, None, List, [], ◌∷◌, ◌++◌}
 use Rattle.std.specs.Prelude.{length, map, if◌then◌else◌}
 use Rattle.std.specs.List.{AllByRecursion}
 use Rattle.xa_codes.specs.Flags.{has}
@@ -9,17 +9,19 @@ use Rattle.xa_codes.specs.declared.detail.Detail.TheVariants as detail
 use Rattle.xa_codes.specs.declared.flags.TheConstants.{TMONEPHASE}
 use Rattle.xa_frame.specs.declared.reply.Reply.{Reply}
 use Rattle.xa_frame.specs.declared.request.Request.{Request}
-use Rattle.xa_frame.specs.declared.request.Request.TheVariants.{Start, End, Prepare, Commit, Rollback}
-use Rattle.xa_frame.specs.declared.request.Request.TheVariants.{Forget, Get, Put, Delete, Decide}
+use Rattle.xa_frame.specs.declared.request.Request.TheVariants.{Open, Close, Start, End, Prepare, Commit, Rollback}
+use Rattle.xa_frame.specs.declared.request.Request.TheVariants.{Forget, Recover, Get, Put, Delete, Decide, Doom}
+use Rattle.xa_frame.specs.declared.request.Request.TheVariants.{Timeout, Tick, Branches}
 use Rattle.xa_record.specs.declared.record.Record.{Record}
 use Rattle.xa_record.specs.declared.record.Record.TheVariants as logged
 use Rattle.xa_xid.specs.Triple.{Triple, xid_eq}
-use Rattle.xa_model.specs.declared.event.Event.TheVariants.{Call}
+use Rattle.xa_model.specs.declared.event.Event.{Event}
+use Rattle.xa_model.specs.declared.event.Event.TheVariants.{Connect, Hangup, Call}
 use Rattle.xa_model.specs.declared.outcome.Appending.{Appending}
 use Rattle.xa_model.specs.declared.outcome.Appending.TheVariants.{Kept, Refused, Lost}
 use Rattle.xa_model.specs.declared.outcome.Outcome.{Outcome}
 use Rattle.xa_model.specs.declared.outcome.Outcome.TheVariants.{Appended, Joined}
-use Rattle.xa_model.specs.State.{State, Up, count, known_of, decided_of}
+use Rattle.xa_model.specs.State.{State, Branch, Up, count, known_of, decided_of}
 use Rattle.xa_model.specs.Answer.{Answer, plain, detailed, answer, ok}
 use Rattle.xa_model.specs.Phases.{is_associated, rolled_back}
 use Rattle.xa_model.specs.Turn.{Asked, Now, Appends}
@@ -32,7 +34,8 @@ use Rattle.xa_model.specs.Invariants.Backing.{Backs}
 use Rattle.xa_model.specs.Invariants.Loggable.{IsRecoverable, MayFollow}
 use Rattle.xa_model.specs.Invariants.Sound.{IsSound}
 use Rattle.xa_model.specs.Laws.Logging.{KeepsLog}
-use Rattle.xa_model.specs.Step.{turn}
+use Rattle.xa_model.specs.Step.{turn, opened_of}
+use Rattle.xa_model.specs.TimeLimits.{runs_out}
 
 -- the XID that a call prepares, completes, decides or forgets
 abbrev pub xid_of : Request → Option Triple
@@ -51,6 +54,15 @@ pub record IsSameFor (xid : Triple) (s t : State) : Type 0 where
   pub sessions : t.sessions ≡ s.sessions
   pub name : t.name ≡ s.name
   pub moment : t.moment ≡ s.moment
+  pub standing : t.standing ≡ s.standing
+
+-- What this session's call on it looks at is the same, except for the room. Of sessions that is whether its own is opened.
+pub record FindsSame (n : ℕ) (xid : Triple) (s t : State) : Type 0 where
+  pub known : known_of t.branches xid ≡ known_of s.branches xid
+  pub decided : decided_of t.decided xid ≡ decided_of s.decided xid
+  pub associated : is_associated t xid ≡ is_associated s xid
+  pub opened : opened_of t n ≡ opened_of s n
+  pub name : t.name ≡ s.name
   pub standing : t.standing ≡ s.standing
 
 -- the room that a call looks for before it appends the record
@@ -80,7 +92,7 @@ AtOnceLeavesOthers =
 abbrev pub AppendsTheSame : Type 0
 AppendsTheSame =
     (s t : State) (n : ℕ) (request : Request) (xid : Triple) (r : Record) (after : Appending → Answer)
-    → xid_of request ≡ Some xid → IsSameFor xid s t → s.standing ≡ Up
+    → xid_of request ≡ Some xid → FindsSame n xid s t → s.standing ≡ Up
     → turn s (Asked (Call n request)) ≡ Appends r after
     → has_room_for t r ≡ true
     → (again : Appending → Answer) × (turn t (Asked (Call n request)) ≡ Appends r again)
@@ -179,35 +191,72 @@ StillTogether =
     → turn s (Asked (Call n request)) ≡ Now a
     → MayStandTogether s (p ∷ ps) → MayStandTogether a.after (p ∷ ps)
 
--- a call of a session's work on its branch: it logs nothing
-abbrev pub is_work : Request → Bool
-is_work (Start flags xid) = true
-is_work (End flags xid) = true
-is_work (Get key) = true
-is_work (Put key value) = true
-is_work (Delete key) = true
-is_work _ = false
+-- Beside a group
 
--- so it is answered at once
-abbrev pub WorkIsNow : Type 0
-WorkIsNow =
-    (s : State) (n : ℕ) (request : Request) → s.standing ≡ Up → is_work request ≡ true
-    → (a : Answer) × (turn s (Asked (Call n request)) ≡ Now a)
+-- a call that logs nothing, whatever it finds
+abbrev pub logs_nothing : Request → Bool
+logs_nothing (Open flags info) = true
+logs_nothing (Close flags) = true
+logs_nothing (Start flags xid) = true
+logs_nothing (End flags xid) = true
+logs_nothing (Recover flags count) = true
+logs_nothing (Get key) = true
+logs_nothing (Put key value) = true
+logs_nothing (Delete key) = true
+logs_nothing (Doom xid) = true
+logs_nothing (Timeout seconds) = true
+logs_nothing (Tick moment) = true
+logs_nothing (Branches count after) = true
+logs_nothing _ = false
 
--- It names none of the group's branches. What gets and puts work for is associated, and such a branch isn't a group's.
-abbrev pub WorksApart : Request → List Part → Type 0
-WorksApart (Start flags xid) ps = AllByRecursion (λ q. xid_eq xid q.xid ≡ false) ps
-WorksApart (End flags xid) ps = AllByRecursion (λ q. xid_eq xid q.xid ≡ false) ps
-WorksApart _ ps = Unit {0}
+-- neither do connects and hang-ups
+abbrev pub is_quiet : Event → Bool
+is_quiet Connect = true
+is_quiet (Hangup n) = true
+is_quiet (Call n request) = logs_nothing request
 
--- Work on other branches leaves a group as it is: its calls may still stand together, and append the same records.
-abbrev pub WorkLeavesGroup : Type 0
-WorkLeavesGroup =
-    (s : State) (n : ℕ) (request : Request) (a : Answer) (p : Part) (ps : List Part)
-    → IsSound s → s.standing ≡ Up → is_work request ≡ true → WorksApart request (p ∷ ps)
-    → turn s (Asked (Call n request)) ≡ Now a
+-- so they are answered at once
+abbrev pub QuietIsNow : Type 0
+QuietIsNow =
+    (s : State) (e : Event) → s.standing ≡ Up → is_quiet e ≡ true
+    → (a : Answer) × (turn s (Asked e) ≡ Now a)
+
+-- none of the calls is asked by this session, or of this XID
+abbrev pub AsksNone : ℕ → List Part → Type 0
+AsksNone n ps = AllByRecursion (λ q. (q.session == n) ≡ false) ps
+
+abbrev pub NamesNone : Triple → List Part → Type 0
+NamesNone xid ps = AllByRecursion (λ q. xid_eq xid q.xid ≡ false) ps
+
+-- whether this moment marks a branch, if there is one
+abbrev pub is_over_of : ℕ → Option Branch → Bool
+is_over_of moment (Some b) = runs_out moment b
+is_over_of moment None = false
+
+-- What is answered beside a group names and marks none of its branches, and opens, closes or ends no session that asks for
+-- one of its calls. What gets and puts work for, and what a hang-up marks, is associated, and such a branch isn't a group's.
+abbrev pub CallsApart : State → ℕ → Request → List Part → Type 0
+CallsApart s n (Open flags info) ps = AsksNone n ps
+CallsApart s n (Close flags) ps = AsksNone n ps
+CallsApart s n (Start flags xid) ps = NamesNone xid ps
+CallsApart s n (End flags xid) ps = NamesNone xid ps
+CallsApart s n (Doom xid) ps = NamesNone xid ps
+CallsApart s n (Tick moment) ps = AllByRecursion (λ q. is_over_of moment (known_of s.branches q.xid) ≡ false) ps
+CallsApart s n _ ps = Unit {0}
+
+abbrev pub StandsApart : State → Event → List Part → Type 0
+StandsApart s Connect ps = Unit {0}
+StandsApart s (Hangup n) ps = AsksNone n ps
+StandsApart s (Call n request) ps = CallsApart s n request ps
+
+-- It leaves the group as it is: its calls may still stand together, and append the same records.
+abbrev pub QuietLeavesGroup : Type 0
+QuietLeavesGroup =
+    (s : State) (e : Event) (a : Answer) (p : Part) (ps : List Part)
+    → IsSound s → s.standing ≡ Up → is_quiet e ≡ true → StandsApart s e (p ∷ ps)
+    → turn s (Asked e) ≡ Now a
     → MayStandTogether s (p ∷ ps)
-    → MayStandTogether a.after (p ∷ ps) × AllByRecursion (λ q. IsSameFor q.xid s a.after) (p ∷ ps)
+    → MayStandTogether a.after (p ∷ ps) × AllByRecursion (λ q. FindsSame q.session q.xid s a.after) (p ∷ ps)
 
 -- what a call is replied, if this became of its record
 abbrev pub replied : Appending → Request → Reply

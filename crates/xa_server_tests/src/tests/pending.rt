@@ -25,17 +25,18 @@ const BEFORE: [&str; 5] = [
 const PREPARE: &str = "1 prepare TMNOFLAGS 1:aa:";
 
 /// What another session asks while it is pending.
-const WORK: [&str; 3] = [
+const WORK: [&str; 4] = [
     "2 start TMNOFLAGS 1:bb:",
     "2 put 6c 76",
     "2 end TMSUCCESS 1:bb:",
+    "2 timeout 5",
 ];
 
 /// What has to wait for it.
 const WAITS: [&str; 3] = [
     "2 prepare TMNOFLAGS 1:bb:",
     "2 start TMJOIN 1:aa:",
-    "2 recover TMSTARTRSCAN|TMENDRSCAN 10",
+    "1 close TMNOFLAGS",
 ];
 
 // Whether a line is answered by 0, with the number after the one before; or, if it has to wait, is given back.
@@ -94,11 +95,13 @@ fn finishes<M: GroupCommits, S: Start>(
     Some(is_right && replies.len() == 1 && calls.len() == 1 && sequencer.is_settled())
 }
 
-fn connects<M: GroupCommits, S: Start>(sequencer: &mut Sequencer<M, S>) -> Option<u64> {
-    if !sequencer.is_settled() {
-        return None;
-    }
-    sequencer.connect().ok()
+// Whether, with a group pending, a session connects and hangs up again, while the one that asks for its call waits.
+fn come_and_go<M: GroupCommits, S: Start>(sequencer: &mut Sequencer<M, S>) -> bool {
+    sequencer.connect().ok() == Some(3)
+        && sequencer.hangup(3) == Some(true)
+        && sequencer.hangup(3) == Some(false)
+        && sequencer.hangup(1).is_none()
+        && sequencer.status().sessions == 2
 }
 
 fn works_meanwhile<M: GroupCommits + Drop, S: Start>(alloc: Global, manager: M) -> Option<bool>
@@ -106,14 +109,15 @@ fn works_meanwhile<M: GroupCommits + Drop, S: Start>(alloc: Global, manager: M) 
     requires base { M.manages.failures (alone manager) ≡ S.base }
 {
     let mut sequencer: Sequencer<M, S> = Sequencer::new(manager);
-    let are_connected = connects(&mut sequencer)? == 1 && connects(&mut sequencer)? == 2;
+    let are_connected = sequencer.connect().ok() == Some(1) && sequencer.connect().ok() == Some(2);
     let is_ready = are_told(alloc, &mut sequencer, &BEFORE, false)?;
     let begins = begins(alloc, &mut sequencer)?;
     let works = are_told(alloc, &mut sequencer, &WORK, false)?;
     let wait = are_told(alloc, &mut sequencer, &WAITS, true)?;
-    let finishes = finishes(&mut sequencer, 11)?;
+    let come = come_and_go(&mut sequencer);
+    let finishes = finishes(&mut sequencer, 14)?;
     let goes_on = is_told(alloc, &mut sequencer, "2 prepare TMNOFLAGS 1:bb:", false)?;
-    Some(are_connected && is_ready && begins && works && wait && finishes && goes_on)
+    Some(are_connected && is_ready && begins && works && wait && come && finishes && goes_on)
 }
 
 #[test]

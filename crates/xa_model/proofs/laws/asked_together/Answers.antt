@@ -1,9 +1,9 @@
-use Rattle.xa_model.proofs.GroupsBacked.{backs_together}
+use Rattle.xa_model.proofs.Beside.{quiet_is_now, quiet_leaves_group}
 use Rattle.xa_model.proofs.GroupSteps.{kept_together, lost_together}
+use Rattle.xa_model.proofs.GroupsBacked.{backs_together}
 use Rattle.xa_model.proofs.RoomTogether.{room_where_kept, room_where_refused}
 use Rattle.xa_model.proofs.StillTogether.{still_together}
 use Rattle.xa_model.proofs.Together.{leaves_others, at_once_leaves_others, appends_the_same}
-use Rattle.xa_model.proofs.WorkBeside.{work_is_now, work_leaves_group}
 use Rattle.xa_model.proofs.laws.asked_together.Goals as goal
 
 pub returns-clause-leaves : goal.returns-clause-leaves
@@ -33,8 +33,8 @@ returns-clause-at_once c = at_once_leaves_others
 pub returns-clause-still : goal.returns-clause-still
 returns-clause-still c = still_together
 
-pub returns-clause-work : goal.returns-clause-work
-returns-clause-work c = work_is_now
+pub returns-clause-quiet : goal.returns-clause-quiet
+returns-clause-quiet c = quiet_is_now
 
 pub returns-clause-beside : goal.returns-clause-beside
-returns-clause-beside c = work_leaves_group
+returns-clause-beside c = quiet_leaves_group

@@ -1,10 +1,12 @@
-use Rattle.std.proofs.Common.{◌≡◌, ◌∙◌, ◌+◌, refl, sym, ap}
+use Rattle.std.proofs.Common.{◌≡◌, ◌∙◌, ◌+◌, List, Option, refl, sym, ap, subst}
 use Rattle.xa_assoc.specs.Refusals.{is_memory}
 use Rattle.xa_frame.specs.declared.reply.Reply.{Reply}
 use Rattle.xa_manager.specs.Believed.Answered.{connect_reply}
+use Rattle.xa_manager.specs.declared.together.Asked.{Asked}
 use Rattle.xa_history.specs.Believed.Book.{placed}
+use Rattle.xa_handles.specs.Mail.{FitPending}
 use Rattle.xa_handles.proofs.Booking.{adds}
-use Rattle.xa_handles.proofs.Calling.{connect_adds, connect_counts, connect_none, connect_told, fits}
+use Rattle.xa_handles.proofs.Calling.{connect_adds, connect_counts, connect_none, connect_told}
 use Rattle.xa_handles.proofs.locked.Locked.connect.Goals as goal
 
 pub returns-then-is_memory-clause-connected : goal.returns-then-is_memory-clause-connected
@@ -24,7 +26,7 @@ invariant_of-self-2 g c =
       adds m g.S.Start.start g.S.Start.base c.self.inside.sequencer c.connect-session.new.self c.self.inside.keeper c.note.new.keeper _ _ c.placed-reply.result
           (connect_adds m g.S.Start.start g.S.Start.base c.self.inside.sequencer c.connect-session.new.self c.connect-session.result c.placed-reply.result found did.connected is)
           refl c.note.ensures.keeper c.self.invariant.0,
-      fits _ c.self.inside.letters.items did.pending,
+      subst (λ (p : Option (List Asked)). FitPending p c.self.inside.letters.items) (sym did.pending) c.self.invariant.1,
     )
 
 pub returns-clause-connected : goal.returns-clause-connected

@@ -9,6 +9,10 @@ up_of : (up : Bool) (k : View) (s : State) → TablesStandFor up k s → s.stand
 up_of true k s h is = refl
 up_of false k s h is = absurd (cc (is, h.down))
 
-pub returns : goal.returns
-returns g c = λ s stands is.
+pub returns-clause-alone : goal.returns-clause-alone
+returns-clause-alone g c = λ s stands is.
     c.end.ensures ∙ stands.end (up_of c.args.self.now.up (view c.args.self.now) s stands.tables is)
+
+-- the group is written behind the end, where it stays
+pub returns-clause-beside : goal.returns-clause-beside
+returns-clause-beside g c = λ f s pends. c.end.ensures ∙ pends.1.written.ends.0 ∙ pends.1.stands.end pends.1.up

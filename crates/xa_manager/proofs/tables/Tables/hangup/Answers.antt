@@ -16,6 +16,7 @@ returns-in-Some c =
           (copied ∙ ap (λ (o : Option Seat). option_and_then (λ x. x.active) o) c.in-Some.ensures.seat ∙ st.sessions.active n) st.branches);
       down = hangs_up_down m c.hangup.new.self c.hang_up.new.self n c.in-Some.ensures.after c.hang_up.ensures.moment;
       gone = c.in-Some.ensures.gone;
+      rooms = c.hang_up.ensures.rooms;
     }
 
 pub returns-in_default : goal.returns-in_default
@@ -26,4 +27,5 @@ returns-in_default c =
       up = hangs_up m c.hangup.new.self m.branches n c.hangup.ensures.after (λ s st. nobody_stands m s n st none);
       down = hangs_up_down m c.hangup.new.self m.branches n c.hangup.ensures.after refl;
       gone = c.hangup.ensures.gone;
+      rooms = refl;
     }
