@@ -1,4 +1,5 @@
-ghost use Rattle.xa_log.specs.Worked.{GreaterGeneration, BeforeTheSeal, StaleTail, Ties, OneLog, SecondFormat, Faults, Damages, LostFirst, LeftBehind, OwnRecords, Unfits};
+ghost use Rattle.xa_log.specs.Worked.{GreaterGeneration, BeforeTheSeal, StaleTail, Ties, OneLog, SecondFormat};
+ghost use Rattle.xa_log.specs.Worked.{Faults, Damages, LostFirst, LeftBehind, OwnRecords, Unfits};
 
 /// Worked rows of two files, computed on the definitions alone: which of them is current, what is left after a
 /// checkpoint's records, why none is, and where damage is reported.

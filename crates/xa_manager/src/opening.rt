@@ -1,4 +1,5 @@
-ghost use Rattle.std.specs.Prelude.{ℕ, List, ◌≡◌, ◌≢◌, ◌≤◌, ◌<◌, ◌⊎◌, ◌↔◌, Bool, true, false, [], IfOk, IfErr, IfSome, IfNone, OnOk, IsErrOf, IsErrAnd, IsSomeAnd, Some, None, length};
+ghost use Rattle.std.specs.Prelude.{ℕ, List, ◌≡◌, ◌≢◌, ◌≤◌, ◌<◌, ◌⊎◌, ◌↔◌, Bool, true, false, [], IfOk, IfErr};
+ghost use Rattle.std.specs.Prelude.{IfSome, IfNone, OnOk, IsErrOf, IsErrAnd, IsSomeAnd, Some, None, length};
 ghost use Rattle.xa_limits.specs.declared.TheConstants.{MOST_LOG};
 ghost use Rattle.xa_log.specs.{Believed.Chain.newest, Believed.LogView.LogView};
 ghost use Rattle.xa_log.specs.{Believed.Unfit.missing_of, declared.unfit.Unfit.TheVariants.Neither};

@@ -1,6 +1,7 @@
 //! Whether a reply is what was asked for.
 ghost use Rattle.std.specs.Prelude.{◌≡◌};
-ghost use Rattle.xa_operate.specs.Answers.{answers, answers_call, answers_rollback, is_branches, is_first_mark, is_last_mark, is_mark, is_number, is_status, is_xids};
+ghost use Rattle.xa_operate.specs.Answers.{answers, answers_call, answers_rollback, is_branches, is_first_mark};
+ghost use Rattle.xa_operate.specs.Answers.{is_last_mark, is_mark, is_number, is_status, is_xids};
 ghost use Rattle.xa_operate.specs.Answers.{passes_over};
 
 use crate::task::Task;

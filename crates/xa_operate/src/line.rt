@@ -1,7 +1,8 @@
 //! The lines of branches and of counts, in a format.
 ghost use Rattle.std.specs.Fmt.{decimal, signed_decimal};
 ghost use Rattle.std.specs.Prelude.{◌≡◌, ◌++◌, OnOk, codes};
-ghost use Rattle.xa_operate.specs.Lines.{at_work, at_work_text, branch_counts, branch_line, count, count_line, count_member, counts_end, counts_text, end_text, line_end, member, quoted};
+ghost use Rattle.xa_operate.specs.Lines.{at_work, at_work_text, branch_counts, branch_line, count, count_line};
+ghost use Rattle.xa_operate.specs.Lines.{count_member, counts_end, counts_text, end_text, line_end, member, quoted};
 ghost use Rattle.xa_operate.specs.Lines.{log_counts, rolled_line, server_counts, status_text, word, xid_front, xid_line, xid_lines};
 ghost use Rattle.xa_script.specs.Replies.{state_name};
 

@@ -1,5 +1,6 @@
 //! What can be said of the lines apart from the code.
-ghost use Rattle.xa_scan.specs.Worked.{Based, BasedObjects, Empty, Held, HeldObjects, Known, Others, OtherObjects, OffsetsInTheFile, Prepared, PreparedObjects};
+ghost use Rattle.xa_scan.specs.Worked.{Based, BasedObjects, Empty, Held, HeldObjects, Known, Others, OtherObjects};
+ghost use Rattle.xa_scan.specs.Worked.{OffsetsInTheFile, Prepared, PreparedObjects};
 
 /// Worked rows, computed on the definitions alone: a first boot with a prepared branch; snapshots with a branch that is
 /// held, with what was committed, and with what the operator completed; the other kinds of records; a log without

@@ -2,7 +2,8 @@
 ghost use Rattle.std.specs.Prelude.{IfOk};
 ghost use Rattle.clap.specs.Simple.{App};
 ghost use Rattle.clap.specs.Walk.{Rule};
-ghost use Rattle.xa_words.specs.Line.{HasRule, HasShape, format_rule, IsApp, asking, bare, check_shape, others, verb_shape, with_given, play_shape, scan_shape, serve_shape};
+ghost use Rattle.xa_words.specs.Line.{HasRule, HasShape, format_rule, IsApp, asking, bare, check_shape, others};
+ghost use Rattle.xa_words.specs.Line.{verb_shape, with_given, play_shape, scan_shape, serve_shape};
 ghost use Rattle.xa_words.specs.Line.{shutdown_shape, talk_shape, tick_shape, xarm};
 
 use crate::arguments::{
