@@ -2,12 +2,14 @@
 beside one that makes a sync, and for handles."""
 import os
 import resource
+import select
 import statistics
 import subprocess
 import sys
 import time
 
-from clients import OK, OPEN, PATIENCE, Server, asks, begin, is_answered, replies, took
+from clients import OK, OPEN, PATIENCE, Server, asks, begin, is_answered, replies, status, took, until
+from frames import shown
 
 LOAD = """
 import itertools, sys
@@ -82,12 +84,67 @@ def syncs(library):
             before = server.processor_seconds()
             one.send(f"1 commit TMONEPHASE 1:{at:02x}:")
             time.sleep(0.05)
-            other.send("1 recover TMSTARTRSCAN|TMENDRSCAN 10")
+            # it names the commit's branch
+            other.send(f"1 start TMJOIN 1:{at:02x}:")
             assert [*replies([one], 1)] == [[OK]]
             late.append(took(lambda: list(replies([other], 1)))[0])
             seconds += server.processor_seconds() - before
     yield "waits: who waits for another loop's sync is woken at its end", statistics.median(late) < 0.02, True
     yield "waits: who waits for another loop's sync sleeps", seconds < 0.9, True
+
+
+# For how long the sync is slow beside which others are answered, in seconds.
+SLOW = 3
+# What touches neither the commit's branch, whose limit are 5 seconds, nor its session.
+BESIDE = [
+    (OPEN, OK),
+    ("1 timeout 5", OK),
+    ("1 recover TMSTARTRSCAN|TMENDRSCAN 10", f"{OK} xids"),
+    ("1 branches 1", f"{OK} branches 1:aa: working 0 4294967297 0 0 0"),
+    ("1 tick 4", OK),
+    ("1 doom 1:cc:", OK),
+    ("1 close TMNOFLAGS", OK),
+]
+
+
+def is_waiting(*peers):
+    """Whether none has its reply yet."""
+    return not select.select([peer.socket for peer in peers], [], [], SLOW / 20)[0]
+
+
+def beside(library):
+    """What others are answered while a commit waits for a slow sync of another loop: only what would mark its branch waits."""
+    with Server("--loops", "2", library=library) as server:
+        # both have begun: each gets every second connection
+        time.sleep(SLOW / 10)
+        slow, asker, works, ended = (server.peer() for _ in range(4))
+        found = asks(slow, [OPEN, "1 timeout 5"])
+        begin(slow, "1:aa:")
+        for peer, xid in ((ended, "1:bb:"), (works, "1:cc:")):
+            found += asks(peer, [OPEN, f"1 start TMNOFLAGS {xid}", f"1 put {xid[2:4]} 76"])
+        assert found == [OK] * 8, found
+        connected = status(asker)["sessions"]
+        server.fault(f"slow 1 {SLOW * 1000}")
+        slow.send("1 commit TMONEPHASE 1:aa:")
+        time.sleep(SLOW / 10)
+        found = [next(replies([asker], 1))[0] for line, _ in BESIDE if not asker.send(line)]
+        yield "waits: others beside another loop's slow sync", (found, is_waiting(slow)), ([answer for _, answer in BESIDE], True)
+        # one of the two is of the loop that makes the sync
+        two = [server.peer(), server.peer()]
+        for peer in two:
+            peer.send(OPEN)
+        ready = select.select([peer.socket for peer in two], [], [], PATIENCE)[0]
+        came = next(peer for peer in two if peer.socket in ready)
+        found = [*replies([came], 1)][0] + asks(came, ["1 start TMNOFLAGS 1:dd:", "1 get 6e", "1 end TMSUCCESS 1:dd:"])
+        yield "waits: one who connects beside it", (found, is_waiting(slow)), ([OK, OK, f"{OK} absent", OK], True)
+        ended.close()
+        # one came, and one went
+        gone = until(lambda: status(asker)["sessions"] == connected) is not None
+        found = asks(came, ["1 start TMJOIN 1:bb:"])
+        yield "waits: one who is gone beside it", (gone, found, is_waiting(slow)), (True, ["101 Nothing"], True)
+        asker.send("1 tick 9")
+        yield "waits: a tick that would mark the commit's branch waits", is_waiting(asker, slow), True
+        yield "waits: it and the commit are answered", [shown(peer.reply())[1] for peer in (slow, asker)], [OK, f"{OK} number 0"]
 
 
 def handles():
