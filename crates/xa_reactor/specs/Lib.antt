@@ -11,7 +11,6 @@ pub mod Aside
 pub mod Ticks
 pub mod Asking
 pub mod Opening
-pub mod Noted
 pub mod Together
 pub mod Peers
 pub mod Reception

@@ -12,13 +12,9 @@ IsRead clock = clock.is_past ≡ false
 abbrev pub after_wait : LoopClock → LoopClock
 after_wait clock = record clock { is_past = true }
 
--- a look for connections that are overdue is due
-abbrev pub is_look : LoopClock → Bool
-is_look clock = nat_le clock.looks clock.now
-
--- where one is, the next one is a second later
+-- where a look is due, the next one is a second later
 abbrev pub looked : LoopClock → LoopClock
-looked clock = if is_look clock then record clock { looks = min (clock.now + 1000) (2 ^ 64 - 1) } else clock
+looked clock = if nat_le clock.looks clock.now then record clock { looks = min (clock.now + 1000) (2 ^ 64 - 1) } else clock
 
 -- there is a limit, and it was quiet for as many seconds
 abbrev pub is_too_quiet : ℕ → ℕ → Bool

@@ -1,5 +1,5 @@
-ghost use Rattle.std.specs.Prelude.{◌≡◌, false, true, IfOk, OnOk};
-ghost use Rattle.xa_reactor.specs.Timing.{IsRead, after_wait, is_look, looked};
+ghost use Rattle.std.specs.Prelude.{◌≡◌, false, true, IfOk, OnOk, nat_le};
+ghost use Rattle.xa_reactor.specs.Timing.{IsRead, after_wait, looked};
 
 use crate::timing::LOOK;
 use std::io;
@@ -62,7 +62,7 @@ impl LoopClock {
 
     /// Whether a look is due, and then when the next one is.
     pub(crate) fn is_look(&mut self) -> bool
-        ensures look { result ≡ is_look self.old }
+        ensures look { result ≡ nat_le self.old.looks self.old.now }
         ensures next { self.new ≡ looked self.old }
     {
         if self.now < self.looks {

@@ -12,7 +12,6 @@
 //!   takes in more requests, and for a while before it waits for a device (`patience`); `beside`: what it does between
 //!   rounds; `noticing`: what events tell it; `acceptor`: the one that accepts, `admission`: whom; `common`: what the loops
 //!   share, with a `mailbox` for each
-//! - `noted`: an operator's call, which is told of once it is answered
 //! - `trims`: when the log is trimmed, and `trimming` it; `ticks`: when the manager is told the time, and `ticking`;
 //!   `visiting`: by a session of the loop's own; `visited`: what became of it
 //! - `laws`: `places_are_kept`, `ticks_are_due`, `trims_are_due`, `visits_are_told`, worked rows
@@ -29,7 +28,6 @@ mod laws;
 mod listener;
 mod loops;
 mod mailbox;
-mod noted;
 mod noticing;
 mod patience;
 mod peer;

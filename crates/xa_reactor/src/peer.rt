@@ -1,15 +1,14 @@
-ghost use Rattle.std.specs.Prelude.{◌≡◌, ◌-◌, ◌↔◌, IsTrue, None, not, false, true, if◌then◌else◌};
+ghost use Rattle.std.specs.Prelude.{◌≡◌, ◌-◌, ◌↔◌, IsTrue, not, false, true, if◌then◌else◌};
 ghost use Rattle.xa_connection.specs.Calls.{Asks, IsAsked, Turns, new_connection};
 ghost use Rattle.xa_connection.specs.declared.answering.Answering.{Answering};
 ghost use Rattle.xa_connection.specs.declared.asked.Asked.TheVariants.{Shutdown};
 ghost use Rattle.xa_reactor.specs.{Asking.IsAnswered, Opening.Opens, Opening.OpensTo, Timing.IsRead, Timing.after_wait};
-ghost use Rattle.xa_reactor.specs.{Noted.IsNoted, Noted.order_of, Peers.noticed};
+ghost use Rattle.xa_reactor.specs.Peers.{noticed};
 ghost use Rattle.xa_reactor.specs.Since.{FedAt, OwesFrame, SentAt, TakenAt};
 ghost use Rattle.xa_reactor.specs.Turning.{CarriesOn, HasAnswered, HasFed, HasSent, HasTaken, HoldsMore, StepsTo};
 
 use crate::ask::Ask;
 use crate::clock::LoopClock;
-use crate::noted::{Noted, order_of};
 use crate::round::Round;
 use crate::socket::Socket;
 use mio::Token;
@@ -18,10 +17,10 @@ use std::alloc::Global;
 use std::io::ErrorKind;
 use std::mem;
 use std::rt::Clock;
-use xa_codes::{Code, XA_OK};
+use xa_codes::XA_OK;
 use xa_connection::{Asked, Connection, Front, MOST_INPUT};
 use xa_desk::Door;
-use xa_frame::{Question, Reply, Request};
+use xa_frame::{Question, Reply};
 
 /// A connection with its socket, and the session that is served on it.
 #[derive(Drop)]
@@ -39,8 +38,6 @@ pub(crate) struct Peer {
     is_queued: bool,
     /// When bytes last came or went, by the loop's clock.
     since: u64,
-    /// The order that it gave, while that isn't answered.
-    noted: Option<Noted>,
 }
 
 /// What comes behind a turn.
@@ -69,8 +66,7 @@ impl Peer {
     pub(crate) fn new(alloc: Global, socket: Socket, session: u64, now: u64) -> Peer
         ensures new { (result.session ≡ session) × (result.connection ≡ new_connection) }
         ensures since { result.since ≡ now }
-        ensures queued { (result.is_queued ≡ false) × (result.writes ≡ false) }
-        ensures reads { (result.reads ≡ false) × (result.is_ending ≡ false) × (result.noted ≡ None) }
+        ensures waits { (result.is_queued ≡ false) × (result.reads ≡ false) × (result.writes ≡ false) × (result.is_ending ≡ false) }
     {
         Peer {
             socket,
@@ -81,7 +77,6 @@ impl Peer {
             writes: false,
             is_queued: false,
             since: now,
-            noted: None,
         }
     }
 
@@ -150,7 +145,6 @@ impl Peer {
             Asked::One(count, Question::Call(request)) => {
                 // no event opens another turn while the connection is lent
                 self.is_queued = true;
-                self.note(&request);
                 Opened::Asks(Ask {
                     key,
                     connection: mem::replace(&mut self.connection, Connection::new(round.alloc)),
@@ -170,7 +164,7 @@ impl Peer {
     }
 
     /// The rest of a turn whose request was answered: the connection is given back, and the reply sent.
-    pub(crate) fn close_turn<R: Clock + Eprint>(
+    pub(crate) fn close_turn<R: Clock>(
         &mut self,
         rt: &R,
         round: Round<'_>,
@@ -187,35 +181,11 @@ impl Peer {
         let Ask {
             key,
             connection,
-            reply,
             ..
         } = ask;
         self.connection = connection;
         self.is_queued = false;
-        self.tell(rt, reply.code);
         self.send(rt, round, clock, key)
-    }
-
-    // Notes an order, which is told of once it is answered.
-    fn note(&mut self, request: &Request)
-        ensures same { self.new ≡ record self.old { noted = self.new.noted } }
-        ensures noted { IsNoted self.old.socket (order_of request.now) self.old.noted self.new.noted }
-    {
-        if let Some(order) = order_of(request) {
-            self.noted = Some(Noted {
-                source: self.socket.source(),
-                order,
-            });
-        }
-    }
-
-    // Tells of an order that was answered so.
-    fn tell<R: Eprint>(&mut self, rt: &R, code: Code)
-        ensures { self.new ≡ record self.old { noted = None } }
-    {
-        if let Some(Noted { source, order }) = self.noted.take() {
-            let _ = eprintln!(rt; "xarm: {source}: {order}: {code}");
-        }
     }
 
     // Answers what was asked, for which it may wait.

@@ -113,8 +113,7 @@ impl Peers {
 
     /// Makes room for so many turns more. Whether there was memory for it.
     pub(crate) fn reserve(&mut self, turns: usize) -> bool
-        ensures same { (self.new.all ≡ self.old.all) × (self.new.stopper ≡ self.old.stopper) }
-        ensures turns { turns_of self.new ≡ turns_of self.old }
+        ensures same { (self.new.all ≡ self.old.all) × (turns_of self.new ≡ turns_of self.old) × (self.new.stopper ≡ self.old.stopper) }
         ensures room { IsTrue result → HasRoom self.new turns }
     {
         self.queue.reserve(turns).is_ok()
@@ -152,7 +151,7 @@ impl Peers {
     }
 
     /// Closes the turn of a connection, whose request was answered. What comes behind it.
-    pub(crate) fn close_turn<R: Clock + Eprint>(
+    pub(crate) fn close_turn<R: Clock>(
         &mut self,
         rt: &R,
         round: Round<'_>,
@@ -180,8 +179,7 @@ impl Peers {
         door: &mut D,
     )
         ensures tends { Tends D.connected D.called D.left (sessions_of self.old.all) door.old (sessions_of self.new.all) door.new }
-        ensures none { turns_of self.old ≡ [] → (self.new.all ≡ self.old.all) × (door.new ≡ door.old) }
-        ensures no_turn { turns_of self.old ≡ [] → turns_of self.new ≡ [] }
+        ensures none { turns_of self.old ≡ [] → (self.new.all ≡ self.old.all) × (turns_of self.new ≡ []) × (door.new ≡ door.old) }
         ensures turn { (key : ℕ) (rest : List ℕ) → turns_of self.old ≡ key ∷ rest → IsTurned self.old key rest self.new }
     {
         let Some(key) = self.queue.pop_front() else {

@@ -1,7 +1,7 @@
 //! One loop.
-ghost use Rattle.std.specs.Prelude.{◌≡◌, ◌≤◌, ◌&&◌, false, true, nat_lt, length, IfOk, IsTrue, OnOk};
+ghost use Rattle.std.specs.Prelude.{◌≡◌, ◌≤◌, ◌&&◌, false, true, nat_le, nat_lt, length, IfOk, IsTrue, OnOk};
 ghost use Rattle.mio.specs.Events.{capacity, items};
-ghost use Rattle.xa_reactor.specs.Timing.{after_wait, is_look};
+ghost use Rattle.xa_reactor.specs.Timing.{after_wait};
 ghost use Rattle.xa_reactor.specs.Believed.Tending.{HasTended, TendsPosting, sessions_of};
 ghost use Rattle.xa_reactor.specs.Together.{HasLent, IsOver};
 
@@ -155,7 +155,7 @@ impl Loop {
     // Whether a look for connections that are overdue is due, and the last wait gave all events that there were: what came in
     // on a connection is read before it is looked at.
     fn is_look(&mut self) -> bool
-        ensures look { result ≡ (nat_lt (length (items self.old.events)) 256 && is_look self.old.clock) }
+        ensures look { result ≡ (nat_lt (length (items self.old.events)) 256 && nat_le self.old.clock.looks self.old.clock.now) }
         ensures same { self.new ≡ record self.old { clock = self.new.clock } }
     {
         self.events.iter().len() < MOST_EVENTS && self.clock.is_look()
@@ -234,7 +234,7 @@ impl Loop {
 
     // While requests wait for a device at which another loop is, answers those that don't, and opens the turns of those that
     // have one by then: what they ask of the device is answered with the rest. Whether a connection waits to be accepted.
-    fn gather<D: Reception, R: AllocGlobal + Clock + Eprint>(
+    fn gather<D: Reception, R: AllocGlobal + Clock>(
         &mut self,
         rt: &R,
         peers: &mut Peers,
@@ -267,7 +267,7 @@ impl Loop {
 
     // While requests are to be answered that may wait for a device, answers those that don't, and opens the turns of those
     // that have one by then: what they ask shares the device's sync. Whether a connection waits to be accepted.
-    fn linger<D: Reception, R: AllocGlobal + Clock + Eprint>(
+    fn linger<D: Reception, R: AllocGlobal + Clock>(
         &mut self,
         rt: &R,
         peers: &mut Peers,
@@ -291,7 +291,7 @@ impl Loop {
     }
 
     // Looks for more requests so often. Whether a connection waits to be accepted, and whether there were events.
-    fn look_on<D: Reception, R: AllocGlobal + Clock + Eprint>(
+    fn look_on<D: Reception, R: AllocGlobal + Clock>(
         &mut self,
         rt: &R,
         peers: &mut Peers,
@@ -321,7 +321,7 @@ impl Loop {
 
     // Answers the requests that wait for no device, and looks for events once, for so long, where there is room for the turns
     // that they make, which are opened.
-    fn linger_once<D: Reception, R: AllocGlobal + Clock + Eprint>(
+    fn linger_once<D: Reception, R: AllocGlobal + Clock>(
         &mut self,
         rt: &R,
         peers: &mut Peers,

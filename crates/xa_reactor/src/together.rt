@@ -152,7 +152,7 @@ impl Together {
     }
 
     /// Answers the requests that wait for no device, and sends the replies.
-    pub(crate) fn answer_quick<D: Reception, R: Clock + Eprint>(
+    pub(crate) fn answer_quick<D: Reception, R: Clock>(
         &mut self,
         rt: &R,
         peers: &mut Peers,
@@ -180,7 +180,7 @@ impl Together {
     /// Answers the requests that were brought in, and closes their turns. The replies to those that wait for no device are
     /// sent before the others are answered. What comes after the turns comes last: until then each session stays under its
     /// key.
-    pub(crate) fn close_all<D: Reception, R: Clock + Eprint>(
+    pub(crate) fn close_all<D: Reception, R: Clock>(
         &mut self,
         rt: &R,
         peers: &mut Peers,
@@ -228,7 +228,7 @@ fn may_wait<D: Reception>(door: &D, ask: &Ask) -> bool
 
 // Answers requests that wait for no device at a door, and sends the replies. What comes after their turns is put with the
 // rest of that.
-fn give_quick<D: Reception, R: Clock + Eprint>(
+fn give_quick<D: Reception, R: Clock>(
     rt: &R,
     asks: &mut Vec<Ask>,
     over: &mut Vec<(usize, Step)>,
@@ -251,7 +251,7 @@ fn give_quick<D: Reception, R: Clock + Eprint>(
 }
 
 // The same of requests that may wait for one: none that was posted is left.
-fn give_waiting<D: Reception, R: Clock + Eprint>(
+fn give_waiting<D: Reception, R: Clock>(
     rt: &R,
     asks: &mut Vec<Ask>,
     over: &mut Vec<(usize, Step)>,
@@ -275,7 +275,7 @@ fn give_waiting<D: Reception, R: Clock + Eprint>(
 }
 
 // Gives the connections of asks that were answered back, and sends their replies.
-fn send_all<R: Clock + Eprint>(
+fn send_all<R: Clock>(
     rt: &R,
     asks: &mut Vec<Ask>,
     over: &mut Vec<(usize, Step)>,
