@@ -1,4 +1,5 @@
 """Commands on a terminal: what can't be taken back and is asked for there, and scripts that are typed."""
+import contextlib
 import errno
 import os
 import pty
@@ -58,8 +59,10 @@ class Terminal:
     def ended(self, given=""):
         """Its status, what it printed, what it told beside the terminal, and what it showed there."""
         if self.ran.stdin:
-            self.ran.stdin.write(given.encode())
-            self.ran.stdin.close()
+            # one that takes no input may have ended before
+            with contextlib.suppress(BrokenPipeError):
+                self.ran.stdin.write(given.encode())
+                self.ran.stdin.close()
             self.ran.stdin = None
         try:
             while self.shows():
