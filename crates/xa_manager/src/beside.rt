@@ -30,7 +30,7 @@ impl PendingGroup {
 
 impl<D: Disk> Manager<D> {
     /// Whether a session's call logs nothing, and touches neither the group's branches nor the sessions that ask for its
-    /// calls.
+    /// calls. One that lists branches has to wait, since the group's have their rooms among them.
     fn is_apart(&self, group: &PendingGroup, session: u64, request: &Request) -> bool
         ensures is { result ≡ true → (logs_nothing request.now ≡ true)
             × CallsApartFrom self.now session request.now group.now }
@@ -43,12 +43,14 @@ impl<D: Disk> Manager<D> {
                 group.together.is_apart(xid)
             }
             Request::Tick { moment } => self.tables.marks_none(*moment, &group.together.members),
+            Request::Recover { .. } | Request::Branches { .. } => false,
             _ => logs_nothing(request),
         }
     }
 
-    /// Answers a call that logs nothing, if it touches neither the branches of a pending group nor the sessions that ask
-    /// for its calls: it names and marks none of these branches, and opens and closes none of these sessions.
+    /// Answers a call that logs nothing and lists nothing, if it touches neither the branches of a pending group nor the
+    /// sessions that ask for its calls: it names and marks none of these branches, and opens and closes none of these
+    /// sessions.
     ///
     /// # Errors
     /// Gives any other request back: it has to wait until the group is finished.

@@ -113,7 +113,8 @@ is_over_kept moment None = false
 abbrev pub MarksNoneOf : Branches → ℕ → List Joining → Type 0
 MarksNoneOf m moment js = AllByRecursion (λ j. is_over_kept moment (working_at m j.xid) ≡ false) js
 
--- a session's call that logs nothing touches neither its branches nor the sessions that ask for its calls
+-- A session's call that logs nothing touches neither its branches nor the sessions that ask for its calls. One that lists
+-- branches isn't apart: what will be kept of those that are prepared has its room among them.
 abbrev pub CallsApartFrom : {D : Type 0} → Manager D → ℕ → Request → PendingGroup → Type 0
 CallsApartFrom m n (request.Open flags info) f = AsksNoneOf n f
 CallsApartFrom m n (request.Close flags) f = AsksNoneOf n f
@@ -121,6 +122,8 @@ CallsApartFrom m n (request.Start flags xid) f = NamesNoneOf xid f
 CallsApartFrom m n (request.End flags xid) f = NamesNoneOf xid f
 CallsApartFrom m n (request.Doom xid) f = NamesNoneOf xid f
 CallsApartFrom m n (request.Tick moment) f = MarksNoneOf (branches_of m) moment f.together.members.items
+CallsApartFrom m n (request.Recover flags count) f = ⊥
+CallsApartFrom m n (request.Branches count after) f = ⊥
 CallsApartFrom m n _ f = Unit {0}
 
 -- A manager stands for a state with a pending group, whose records were written after those of this log: it stands for it

@@ -37,3 +37,9 @@ returns-in-Open-clause-all g c = λ quiet apart.
     let P : Request → Type 0 = λ q. CallsApartFrom c.args.self.now c.args.session q f in
     none_asks c.args.session f c.asks_none.result c.asks_none.ensures
     (⊎_elim {C = AsksNoneOf c.args.session f} (λ x. subst P x.2 apart) (λ x. subst P x.1 apart) c.in-Open.is)
+
+pub returns-in-Recover-clause-all : goal.returns-in-Recover-clause-all
+returns-in-Recover-clause-all g c = λ quiet apart.
+    let f = c.args.group.now in
+    let P : Request → Type 0 = λ q. CallsApartFrom c.args.self.now c.args.session q f in
+    absurd (⊎_elim {C = ⊥} (λ x. subst P x.2 apart) (λ x. subst P x.2 apart) c.in-Recover.is)
