@@ -99,8 +99,6 @@ SLOW = 3
 BESIDE = [
     (OPEN, OK),
     ("1 timeout 5", OK),
-    ("1 recover TMSTARTRSCAN|TMENDRSCAN 10", f"{OK} xids"),
-    ("1 branches 1", f"{OK} branches 1:aa: working 0 4294967297 0 0 0"),
     ("1 tick 4", OK),
     ("1 doom 1:cc:", OK),
     ("1 close TMNOFLAGS", OK),
