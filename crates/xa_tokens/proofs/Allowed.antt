@@ -1,5 +1,5 @@
 -- The steps, in the table's terms.
-use Rattle.std.proofs.Common.{◌≡◌, ℕ, ◌+◌, ◌<◌, [], ◌∷◌, length, true, refl, sym, subst}
+use Rattle.std.proofs.Common.{◌≡◌, ℕ, ◌+◌, ◌<◌, List, [], ◌∷◌, ◌++◌, length, true, refl, sym, subst}
 use Rattle.atomic_table.proofs.Lists.{set_again}
 use Rattle.atomic_table.specs.Table.{State, Me, Splits, Joins, Allows, keeps}
 use Rattle.xa_tokens.specs.declared.ask.Ask.{Ask}
@@ -8,10 +8,10 @@ use Rattle.xa_tokens.specs.declared.view.View.{View}
 use Rattle.xa_tokens.specs.Believed.Account.{HasHistory, IsWithin, Owes, account_of}
 use Rattle.xa_tokens.specs.Believed.Receipts.{IsInOrder, last_or}
 use Rattle.xa_tokens.specs.Believed.Rule.{Kept}
-use Rattle.xa_tokens.specs.Steps.{answering, asking, giving_up, joined}
+use Rattle.xa_tokens.specs.Steps.{answering, asking, giving_up, joined, withdrawing}
 use Rattle.xa_tokens.specs.Believed.View.{all_parts, no_view}
 use Rattle.xa_tokens.proofs.Audited.{has_history, is_within}
-use Rattle.xa_tokens.proofs.Keeps.{Cuts, answers, asked_before, asks, cuts, gives, joins}
+use Rattle.xa_tokens.proofs.Keeps.{Cuts, answers, asked_before, asks, cuts, gives, joins, withdraws}
 
 abbrev pub Rule : State (Unit {0}) View → Type 0
 Rule s = Kept s.views
@@ -31,6 +31,11 @@ pub may_give_up : (slots id : ℕ) (me : Me (Unit {0}) View) (i : ℕ) → 0 < m
     → Allows Rule slots id me i (λ n. n) (λ _ n. (n.0 ≡ giving_up me.0) × (n.1 ≡ me.1))
 may_give_up slots id me i some_part s k homes at small =
     (giving_up me.0, keeps, tt, gives s.views id me.0 some_part k at, (refl, refl))
+
+pub may_withdraw : (slots id : ℕ) (me : Me (Unit {0}) View) (i : ℕ) (rest : List Ask) (a : Ask) → 0 < me.0.parts → me.0.asked ≡ rest ++ a ∷ [] → me.0.tickets ≡ a ∷ []
+    → Allows Rule slots id me i (λ n. n) (λ _ n. (n.0 ≡ withdrawing me.0) × (n.1 ≡ me.1))
+may_withdraw slots id me i rest a some_part last ticket s k homes at small =
+    (withdrawing me.0, keeps, tt, withdraws s.views id me.0 rest a some_part last ticket k at, (refl, refl))
 
 pub may_answer : (slots id : ℕ) (me : Me (Unit {0}) View) (i : ℕ) (r : Receipt) → me.0.keeps ≡ true → me.0.tickets ≡ r.ask ∷ [] → r.reply.place ≡ length me.0.history + 1
     → Allows Rule slots id me i (λ n. n) (λ _ n. (n.0 ≡ answering r me.0) × (n.1 ≡ me.1) × IsInOrder r)

@@ -1,6 +1,7 @@
 -- Each step keeps the rule.
 use Rattle.std.proofs.Common.{◌≡◌, ◌≢◌, ℕ, zero, suc, ◌+◌, ◌<◌, ◌≤◌, List, [], ◌∷◌, ◌++◌, length, set, true, false, true≢false, refl, sym, ap, ◌∙◌, subst, ⊎_elim, arith, length-append}
 use Rattle.std.specs.Prelude.{sum_by}
+use Rattle.std.proofs.lemmas.List.{append-nil}
 use Rattle.std.proofs.lemmas.List.Sums.{sum_by-append, sum_by_push}
 use mathlib.Core.Option.{some, some-ne-none, some-injective}
 use lib.ListN.{get_elem?}
@@ -8,10 +9,11 @@ use Rattle.atomic_table.proofs.Lists.{at_set}
 use Rattle.xa_tokens.specs.declared.ask.Ask.{Ask}
 use Rattle.xa_tokens.specs.declared.receipt.Receipt.{Receipt}
 use Rattle.xa_tokens.specs.declared.view.View.{View}
+use Rattle.xa_tokens.specs.Believed.Account.{account, account_of}
 use Rattle.xa_tokens.specs.Believed.Receipts.{AreNumbered, last_or}
 use Rattle.xa_tokens.specs.Believed.Rule.{AskedWithin, Kept, StandWithin}
-use Rattle.xa_tokens.specs.Steps.{answering, asking, giving_up, joined, kept_part, less_one, one_part, only_tickets, other_part, without_tickets}
-use Rattle.xa_tokens.specs.Believed.View.{first_view, no_view}
+use Rattle.xa_tokens.specs.Steps.{answering, asking, giving_up, joined, kept_part, less_last, less_one, one_part, only_tickets, other_part, without_tickets, withdrawing}
+use Rattle.xa_tokens.specs.Believed.View.{first_view, no_view, ticket_view}
 use Rattle.xa_tokens.proofs.Sums.{cut_same, each_more, each_set, join_same, set_adds, set_same, sum_set}
 
 off : false ≡ true → ⊥
@@ -110,6 +112,46 @@ gives views by v some_part k at = record {
       let y = sum_set (λ (u : View). sum_by weigh u.tickets) views by v (giving_up v) at in
       let z = set_adds views by v at (λ u. sum_by weigh u.given_up) (giving_up v) (sum_by weigh v.tickets) (sum_by-append weigh v.given_up v.tickets) in
       omega (arith, x, y, z, k.asked weigh);
+}
+
+pub less_pushed : (xs : List Ask) (a : Ask) → less_last (xs ++ a ∷ []) ≡ xs
+less_pushed [] a = refl
+less_pushed (x ∷ []) a = refl
+less_pushed (x ∷ y ∷ rest) a = ap (λ l. x ∷ l) (less_pushed (y ∷ rest) a)
+
+-- what a share has then that asked for it
+pub withdrawn : (v t w : View) (rest : List Ask) (a : Ask) → t ≡ ticket_view a → w ≡ withdrawing (joined v t) → v.asked ≡ rest ++ a ∷ []
+    → account_of w ≡ record (account_of v) { asked = rest }
+withdrawn v t w rest a ticket is last =
+    ap account_of is ∙ ap (λ (u : View). account_of (withdrawing (joined v u))) ticket
+    ∙ (λ i. account (parts i) (less i) (append-nil v.told i) (append-nil v.given_up i))
+  where
+    parts : v.parts + 0 ≡ v.parts
+    parts = omega arith
+
+    less : less_last (v.asked ++ []) ≡ rest
+    less = ap less_last (append-nil v.asked) ∙ ap less_last last ∙ less_pushed rest a
+
+-- a share takes back what it asked for last
+pub withdraws : (views : List View) (by : ℕ) (v : View) (rest : List Ask) (a : Ask) → 0 < v.parts → v.asked ≡ rest ++ a ∷ [] → v.tickets ≡ a ∷ [] → Kept views → get_elem? views by ≡ some v
+    → Kept (set views by (withdrawing v))
+withdraws views by v rest a some_part last may k at = record {
+  seat = k.seat;
+  history = k.history;
+  knows = each_set (Knows k.seat k.history) views by (withdrawing v) (λ j u _ e. k.knows j u e) (k.knows by v at);
+  idle = each_set Idles views by (withdrawing v) (λ j u _ e. k.idle j u e) (λ none. absurd (omega (arith, none, some_part)));
+  placed = each_set (Places (length k.history)) views by (withdrawing v) (λ j u _ e. k.placed j u e) ((k.placed by v at).0, tt);
+  numbered = k.numbered;
+  parts = set_same views by v at (λ u. u.parts) (withdrawing v) refl ∙ k.parts;
+  told = λ weigh. set_same views by v at (λ u. sum_by weigh u.told) (withdrawing v) refl ∙ k.told weigh;
+  asked = λ weigh.
+      let x = sum_set (λ (u : View). sum_by weigh u.asked) views by v (withdrawing v) at in
+      let y = sum_set (λ (u : View). sum_by weigh u.tickets) views by v (withdrawing v) at in
+      let z = set_same views by v at (λ u. sum_by weigh u.given_up) (withdrawing v) refl in
+      let was : sum_by weigh v.asked ≡ sum_by weigh rest + weigh a = ap (λ l. sum_by weigh l) last ∙ sum_by_push weigh rest a in
+      let less : sum_by weigh (less_last v.asked) ≡ sum_by weigh rest = ap (λ l. sum_by weigh (less_last l)) last ∙ ap (λ l. sum_by weigh l) (less_pushed rest a) in
+      let m : sum_by weigh v.tickets ≡ 0 + weigh a = ap (λ l. sum_by weigh l) may ∙ sum_by_push weigh [] a in
+      omega (arith, x, y, z, was, less, m, k.asked weigh);
 }
 
 -- the keeper carries out what it has the one ticket for

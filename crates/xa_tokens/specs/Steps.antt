@@ -1,5 +1,5 @@
 -- What cuts, joins and steps make of what a token knows.
-use Rattle.std.specs.Prelude.{◌+◌, ◌-◌, false, [], ◌∷◌, ◌++◌}
+use Rattle.std.specs.Prelude.{◌+◌, ◌-◌, false, List, [], ◌∷◌, ◌++◌}
 use Rattle.xa_tokens.specs.declared.ask.Ask.{Ask}
 use Rattle.xa_tokens.specs.declared.receipt.Receipt.{Receipt}
 use Rattle.xa_tokens.specs.declared.view.View.{View}
@@ -45,6 +45,16 @@ asking ask v = record v { asked = v.asked ++ ask ∷ []; tickets = v.tickets ++ 
 -- it gives up what its tickets are for
 abbrev pub giving_up : View → View
 giving_up v = record v { tickets = []; given_up = v.given_up ++ v.tickets }
+
+-- a list less its last
+abbrev pub less_last : List Ask → List Ask
+less_last [] = []
+less_last (a ∷ []) = []
+less_last (a ∷ b ∷ rest) = a ∷ less_last (b ∷ rest)
+
+-- it takes back what it asked for last, with the ticket
+abbrev pub withdrawing : View → View
+withdrawing v = record v { asked = less_last v.asked; tickets = [] }
 
 -- the ask of its one ticket became an entry of the history
 abbrev pub answering : Receipt → View → View

@@ -1,13 +1,15 @@
 //! What happens to one token or to two, each a load of the table's word.
-ghost use Rattle.std.specs.Prelude.{◌≡◌, ◌+◌, ◌<◌, true, [], ◌∷◌, length};
+ghost use Rattle.std.specs.Prelude.{◌≡◌, ◌+◌, ◌<◌, true, List, [], ◌∷◌, ◌++◌, length};
 ghost use Rattle.xa_tokens.specs.Believed.Account.{HasHistory, IsWithin, Owes, account_of};
 ghost use Rattle.xa_tokens.specs.Believed.Receipts.{IsInOrder, last_or};
-ghost use Rattle.xa_tokens.specs.Steps.{answering, asking, giving_up, joined, kept_part, less_one, one_part, only_tickets, other_part, without_tickets};
+ghost use Rattle.xa_tokens.specs.Steps.{answering, asking, giving_up, joined, kept_part, less_one, one_part, only_tickets};
+ghost use Rattle.xa_tokens.specs.Steps.{other_part, without_tickets, withdrawing};
 ghost use Rattle.xa_tokens.specs.Believed.View.{all_parts};
+ghost use Rattle.xa_tokens.specs.declared.ask.Ask.{Ask};
 
 use crate::book::Book;
 use crate::steps::{
-    About, Answers, Asks, Audits, GivesUp, Joined, KeptPart, Looks, OnePart, OnlyTickets,
+    About, Answers, Asks, Audits, GivesUp, Joined, KeptPart, Looks, OnePart, OnlyTickets, Withdraws,
 };
 use crate::tokens::Tokens;
 use crate::view::Token;
@@ -81,6 +83,17 @@ impl<B: Book> Tokens<B> {
         ensures { (seat.new.table_id ≡ B.table) × (seat.new.me ≡ (giving_up seat.old.me.0, seat.old.me.1)) }
     {
         self.table.shared.load::<GivesUp>(seat, 0);
+    }
+
+    /// It takes back what it asked for last, for which it has the one ticket.
+    pub(crate) fn step_withdraws(&self, seat: &mut Token)
+        requires own { seat.old.table_id ≡ B.table }
+        requires parts { 0 < seat.old.me.0.parts }
+        requires last { (asked : List Ask) × (ask : Ask)
+            × (seat.old.me.0.asked ≡ asked ++ ask ∷ []) × (seat.old.me.0.tickets ≡ ask ∷ []) }
+        ensures { (seat.new.table_id ≡ B.table) × (seat.new.me ≡ (withdrawing seat.old.me.0, seat.old.me.1)) }
+    {
+        self.table.shared.load::<Withdraws>(seat, 0);
     }
 
     /// The keeper that has all parts, and owes nothing, has what it was told as its history.

@@ -46,6 +46,15 @@ impl Play<(), View> for GivesUp {
     ghost then = { λ _ m _ n. (n.0 ≡ giving_up m.0) × (n.1 ≡ m.1) };
 }
 
+/// It takes back what it asked for last, with the ticket for it.
+pub struct Withdraws;
+
+impl Play<(), View> for Withdraws {
+    ghost use Rattle.xa_tokens.specs.Steps.{withdrawing};
+
+    ghost then = { λ _ m _ n. (n.0 ≡ withdrawing m.0) × (n.1 ≡ m.1) };
+}
+
 /// It learns what the rule comes to if it has everything.
 pub struct Audits;
 

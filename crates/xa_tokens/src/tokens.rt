@@ -1,7 +1,8 @@
-ghost use Rattle.std.specs.Prelude.{◌≡◌, ◌+◌, ◌-◌, ◌<◌, [], ◌∷◌, ◌++◌, length};
+ghost use Rattle.std.specs.Prelude.{◌≡◌, ◌+◌, ◌-◌, ◌<◌, List, [], ◌∷◌, ◌++◌, length};
 ghost use Rattle.xa_tokens.specs.Believed.Account.{HasHistory, IsWithin, Owes, account, merged};
 ghost use Rattle.xa_tokens.specs.Believed.Receipts.{IsInOrder, ask_of, last_or, receipt_of};
 ghost use Rattle.xa_tokens.specs.Believed.View.{all_parts};
+ghost use Rattle.xa_tokens.specs.declared.ask.Ask.{Ask};
 
 use crate::book::Book;
 use crate::keeper::Keeper;
@@ -64,6 +65,18 @@ impl<B: Book> Tokens<B> {
         let Ticket { seat, of: _ } = ticket;
         self.join(&mut share.seat, seat);
         self.step_gives_up(&mut share.seat);
+    }
+
+    /// The share takes back what it asked for last: nobody will carry that out, and it is as if it hadn't been asked.
+    pub fn withdraw(&self, share: &mut Share<B>, ticket: Ticket<B>)
+        requires parts { 0 < share.old.parts }
+        requires last { (asked : List Ask) × (share.old.asked ≡ asked ++ ticket ∷ []) }
+        ensures { (asked : List Ask) → share.old.asked ≡ asked ++ ticket ∷ []
+            → share.new ≡ record share.old { asked = asked } }
+    {
+        let Ticket { seat, of: _ } = ticket;
+        self.join(&mut share.seat, seat);
+        self.step_withdraws(&mut share.seat);
     }
 
     /// A share of one part, with which nothing was asked.
