@@ -1,10 +1,12 @@
 -- What a connection carries stays with each call.
-use Rattle.std.proofs.Common.{◌≡◌, ℕ, ◌≤◌, List, [], ◌∷◌, ◌++◌, length, take, drop, min, Option, Some, None, refl, sym, ap, ◌∙◌, inl, inr, append_assoc, append-nil, arith, subst}
+use Rattle.std.proofs.Common.{◌≡◌, ℕ, ◌+◌, ◌≤◌, List, [], ◌∷◌, ◌++◌, length, take, drop, min, Option, Some, None, refl, sym, ap, ◌∙◌, inl, inr, append_assoc, append-nil, arith, subst}
 use Rattle.std.specs.List.{flat_map}
 use Rattle.std.proofs.lemmas.Grind.{flat_map-append}
-use Rattle.std.proofs.lemmas.List.{length-append, length-take, take-append-drop}
+use Rattle.std.proofs.lemmas.List.{length-append, length-drop, length-take, take-append-drop}
 use Rattle.std.proofs.Math.Seq.{drop-nil, take-nil}
 use Rattle.std.proofs.lemmas.List.Elements.{All-append, All-nil, All-cons}
+use Rattle.xa_control.specs.declared.answer.Answer.{Answer}
+use Rattle.xa_control.specs.declared.control.Control.{Control}
 use Rattle.xa_frame.specs.declared.question.Question.{Question}
 use Rattle.xa_frame.specs.declared.reply.Reply.{Reply}
 use Rattle.xa_frame.specs.Made.{bad_frame}
@@ -18,8 +20,8 @@ use Rattle.xa_connection.specs.declared.answering.Answering.TheVariants as answe
 use Rattle.xa_connection.specs.declared.connection.Connection.{Connection}
 use Rattle.xa_connection.specs.declared.connection.TheConstants.{MOST_INPUT}
 use Rattle.xa_connection.specs.Fronts.{BeginsTooLong}
-use Rattle.xa_connection.specs.Calls.{AnswersFront, Feeds, Turns, room_in}
-use Rattle.xa_connection.specs.Carries.{Carries, CarriesLaw, Delivers, Sends}
+use Rattle.xa_connection.specs.Calls.{AnswersFront, AnswersServer, Feeds, HoldsAnswer, IsReady, Turns, room_in}
+use Rattle.xa_connection.specs.Carries.{Carries, CarriesControl, CarriesLaw, Delivers, Owed, Sends}
 
 -- nothing is under way
 pub idle-delivers : (replies : List Reply) (sent : List ℕ) → sent ≡ frames_of replies → Delivers replies sent []
@@ -170,10 +172,56 @@ carries-answered called contents replies fed sent answering.Memory c c' d e h t 
     (λ goes. sends-by c'.end (Some Memory) (replies ++ t.1 ∷ []) c'.input sent c'.output [] t.5 t.4 (replies, t.1, [], c'.input, refl, inl (refl, refl), told, refl))
     (λ b is shut. sends-by c'.end (Some Memory) replies c'.input sent c'.output [] t.5 t.4 (replies, t.1, b.0, b.1, b.3, inr (b.2, ap (λ (r : Reply). replies ++ r ∷ []) is), told, refl))
 
+-- what the server itself is asked stands behind the contents that were answered
+control-fed : (contents : List (List ℕ)) (fed input content rest : List ℕ) → fed ≡ flat_map frame contents ++ input → input ≡ frame content ++ rest
+    → fed ≡ flat_map frame (contents ++ content ∷ []) ++ rest
+control-fed contents fed input content rest is parts =
+    let before : List ℕ = flat_map frame contents in
+    let frames : flat_map frame (contents ++ content ∷ []) ≡ before ++ frame content =
+    flat_map-append frame contents (content ∷ []) ∙ ap (λ (bs : List ℕ). before ++ bs) (append-nil (frame content)) in
+    is ∙ ap (λ (bs : List ℕ). before ++ bs) parts ∙ sym (append_assoc before (frame content) rest) ∙ ap (λ (bs : List ℕ). bs ++ rest) (sym frames)
+
+-- of a connection that goes on
+held-input : (c c' : Connection) (answer : Answer) (answering : Answering) → HoldsAnswer c answer answering c' → c'.input ≡ c.input
+held-input c c' answer answering.Idle h = absurd h
+held-input c c' answer answering.Answered h = ap (λ (x : Connection). x.input) h
+held-input c c' answer answering.Memory h = ap (λ (x : Connection). x.input) h
+
+held-owed : (c c' : Connection) (answer : Answer) (answering : Answering) → c.end ≡ None → HoldsAnswer c answer answering c' → Owed answering answer c'
+held-owed c c' answer answering.Idle goes h = absurd h
+held-owed c c' answer answering.Answered goes h = (ap (λ (x : Connection). x.output) h, ap (λ (x : Connection). x.end) h ∙ goes)
+held-owed c c' answer answering.Memory goes h = (ap (λ (x : Connection). x.output) h, ap (λ (x : Connection). x.end) h)
+
+carries-controlled : (contents : List (List ℕ)) (replies : List Reply) (fed sent : List ℕ) (control : Control) (answer : Answer) (answering : Answering) (c c' : Connection)
+    → Carries contents replies fed sent c → AnswersServer c control answer answering c' → CarriesControl contents replies fed sent control answer answering c'
+carries-controlled contents replies fed sent control answer answering c c' h (ready, count, asks, holds) =
+    let taken : Connection = record c { input = drop (4 + count) c.input } in
+    let content : List ℕ = take count (drop 4 c.input) in
+    let rest : c'.input ≡ drop (4 + count) c.input = held-input taken c' answer answering holds in
+    record {
+      short = h.short;
+      content = content;
+      asked = asks.1;
+      fed_is = control-fed contents fed c.input content c'.input h.fed_is (asks.0.parts ∙ ap (λ (bs : List ℕ). frame content ++ bs) (sym rest));
+      sent_is = all-sent c.end replies c.input sent c.output ready.0 ready.1 h.sends;
+      owed = held-owed taken c' answer answering ready.0 holds;
+      bounded = omega (arith, h.bounded, ap (λ (bs : List ℕ). length bs) rest, length-drop (4 + count) c.input);
+    }
+
+carries-anew : (c : Connection) → IsReady c → length c.input ≤ MOST_INPUT → Carries [] [] c.input [] c
+carries-anew c ready few = record {
+  short = All-nil IsShort;
+  fed_is = refl;
+  sends = sends-by c.end None [] c.input [] c.output [] ready.0 ready.1 (idle-delivers [] [] refl);
+  bounded = few;
+}
+
 pub carries-law : {D : Type 0} (called : D → Question → Reply → D → Type 0) → CarriesLaw called
 carries-law called = record {
   begins = record { short = All-nil IsShort; fed_is = refl; sends = idle-delivers [] [] refl; bounded = omega arith };
   fed = carries-fed;
   answered = carries-answered called;
   sent = carries-sent;
+  controlled = carries-controlled;
+  anew = carries-anew;
 }

@@ -1,6 +1,7 @@
 -- One answer, by what is at the front.
 use Rattle.std.proofs.Common.{◌≡◌, ◌↔◌, Bool, false, ℕ, ◌+◌, ◌-◌, ◌≤◌, List, [], ◌∷◌, ◌++◌, length, take, drop, Option, Some, None, refl, sym, ap, ◌∙◌, inl, inr, arith, subst}
 use Rattle.std.specs.Prelude.{IsSome, IsTrue}
+use Rattle.xa_control.specs.Controls.{SpellsControl}
 use Rattle.xa_frame.specs.declared.question.Question.{Question}
 use Rattle.xa_frame.specs.declared.question.Question.TheVariants.{Call, Status as AsksStatus}
 use Rattle.xa_frame.specs.declared.reply.Reply.{Reply}
@@ -16,7 +17,7 @@ use Rattle.xa_connection.specs.declared.connection.Connection.{Connection}
 use Rattle.xa_connection.specs.Fronts.{BeginsTooLong, BeginsWhole}
 use Rattle.xa_connection.specs.declared.asked.Asked.{Asked}
 use Rattle.xa_connection.specs.declared.asked.Asked.TheVariants as asks
-use Rattle.xa_connection.specs.declared.asked.Asked.TheVariants.{One, Refused, Shutdown}
+use Rattle.xa_connection.specs.declared.asked.Asked.TheVariants.{One, Refused, Control as Controls}
 use Rattle.xa_connection.specs.declared.front.Front.{Front}
 use Rattle.xa_connection.specs.declared.front.Front.TheVariants as front
 use Rattle.xa_connection.specs.declared.front.Front.TheVariants.{Whole, Cut}
@@ -51,11 +52,13 @@ asks-by c count content (Refused (Whole n) reply) ready begins is (same, refused
       ready,
       subst (λ (k : ℕ). BeginsWhole c.input k) (sym same) begins,
       subst (λ (bs : List ℕ). IsRefused bs reply) said refused,
-      λ shut. other (said ∙ shut),
+      λ k spelled. other k (subst (λ (bs : List ℕ). SpellsControl bs k) (sym said) spelled),
     )
 asks-by c count content (Refused front.TooLong reply) ready begins is h = absurd h
 asks-by c count content (Refused Cut reply) ready begins is h = absurd h
-asks-by c count content Shutdown ready begins is h = (ready, (count, begins, sym is ∙ h))
+asks-by c count content (Controls n k) ready begins is (same, spells) =
+    let said : content ≡ take n (drop 4 c.input) = is ∙ ap (λ (k : ℕ). take k (drop 4 c.input)) (sym same) in
+    (ready, (subst (λ (k : ℕ). BeginsWhole c.input k) (sym same) begins, subst (λ (bs : List ℕ). SpellsControl bs k) said spells))
 
 -- what is at the front was answered, and the reply was put
 turns-put : {D : Type 0} (called : D → Question → Reply → D → Type 0) (c x c' : Connection) (d e : D) (answering : Answering) (reply : Reply)

@@ -1,6 +1,9 @@
 -- What each call does to a connection.
 use Rattle.std.specs.Prelude.{ℕ, ◌≡◌, ◌≢◌, ◌⊎◌, ◌+◌, ◌-◌, List, [], ◌∷◌, ◌++◌, length, take, drop, min, Option, Some, None, IsSome}
-use Rattle.xa_control.specs.Shutdown.{shutdown_content}
+use Rattle.xa_control.specs.declared.answer.Answer.{Answer}
+use Rattle.xa_control.specs.declared.control.Control.{Control}
+use Rattle.xa_control.specs.Answers.{bytes_of_answer}
+use Rattle.xa_control.specs.Controls.{IsNoControl, SpellsControl}
 use Rattle.xa_frame.specs.declared.question.Question.{Question}
 use Rattle.xa_frame.specs.declared.question.Question.TheVariants as question
 use Rattle.xa_frame.specs.declared.status.Status.{Status}
@@ -20,7 +23,7 @@ use Rattle.xa_connection.specs.declared.connection.Connection.{Connection}
 use Rattle.xa_connection.specs.declared.connection.TheConstants.{MOST_INPUT}
 use Rattle.xa_connection.specs.declared.asked.Asked.{Asked}
 use Rattle.xa_connection.specs.declared.asked.Asked.TheVariants as asked
-use Rattle.xa_connection.specs.declared.asked.Asked.TheVariants.{One, Refused, Shutdown}
+use Rattle.xa_connection.specs.declared.asked.Asked.TheVariants.{One, Refused, Control as Controls}
 use Rattle.xa_connection.specs.declared.front.Front.{Front}
 use Rattle.xa_connection.specs.declared.front.Front.TheVariants as front
 use Rattle.xa_connection.specs.declared.front.Front.TheVariants.{Whole, Cut}
@@ -52,9 +55,13 @@ IsReady c = (c.end ≡ None) × (c.output ≡ [])
 abbrev pub IsIdle : Connection → Type 0
 IsIdle c = IsSome c.end ⊎ ((c.output ≢ []) ⊎ IsCut c.input)
 
--- the frame at the front asks the server to shut down
-abbrev pub AsksToEnd : List ℕ → Type 0
-AsksToEnd input = (count : ℕ) × BeginsWhole input count × (take count (drop 4 input) ≡ shutdown_content)
+-- the frame at the front, whose content has so many bytes, asks this of the server itself
+abbrev pub AsksServer : List ℕ → ℕ → Control → Type 0
+AsksServer input count control = BeginsWhole input count × SpellsControl (take count (drop 4 input)) control
+
+-- it asks something of the server itself
+abbrev pub IsForServer : List ℕ → Type 0
+IsForServer input = (count : ℕ) × (control : Control) × AsksServer input count control
 
 -- what is at the front is owed this reply: a content, which is taken with its length; or a length that is too great,
 -- which stays, and after whose reply it has to end
@@ -64,9 +71,10 @@ AnswersFront called c d reply end input e =
     × (end ≡ None))
     ⊎ (BeginsTooLong c.input × (input ≡ c.input) × (e ≡ d) × (reply ≡ bad_frame) × (end ≡ Some served.TooLong))
 
--- an answer: one reply was owed, and has to be sent, or found no memory; none is owed if the server is asked to shut down
+-- an answer: one reply was owed, and has to be sent, or found no memory; none is owed if
+-- the server itself is asked
 abbrev pub Turns : {D : Type 0} → (D → Question → Reply → D → Type 0) → Connection → D → Answering → Connection → D → Type 0
-Turns called c d Idle c' e = (IsIdle c ⊎ AsksToEnd c.input) × (c' ≡ c) × (e ≡ d)
+Turns called c d Idle c' e = (IsIdle c ⊎ IsForServer c.input) × (c' ≡ c) × (e ≡ d)
 Turns called c d Answered c' e =
     IsReady c × (reply : Reply) × AnswersFront called c d reply c'.end c'.input e × (c'.output ≡ reply_frame reply)
 Turns called c d Memory c' e =
@@ -79,11 +87,12 @@ IsRefused content reply =
     ((f : FrameFault) × (f ≢ faults.Memory) × (fault_of_question content ≡ Some f) × (reply ≡ bad_frame))
     ⊎ ((fault_of_question content ≡ None) × (reply ≡ without_memory))
 
--- what a content asks for, of this many bytes: that the server shut down, the question that it spells, or nothing for a door
+-- what a content asks for, of this many bytes: something of the server itself, the question that it spells, or nothing for
+-- a door
 abbrev pub AsksBy : ℕ → List ℕ → Asked → Type 0
 AsksBy count content (One n q) = (n ≡ count) × SpellsQuestion content q
-AsksBy count content (Refused (Whole n) reply) = (n ≡ count) × IsRefused content reply × (content ≢ shutdown_content)
-AsksBy count content Shutdown = content ≡ shutdown_content
+AsksBy count content (Refused (Whole n) reply) = (n ≡ count) × IsRefused content reply × IsNoControl content
+AsksBy count content (Controls n control) = (n ≡ count) × SpellsControl content control
 AsksBy count content _ = ⊥
 
 -- what the front asks for: what the content of a frame does, or nothing for a door
@@ -92,17 +101,17 @@ Asks c asked.Idle = IsIdle c
 Asks c (One count q) = IsReady c × BeginsWhole c.input count × SpellsQuestion (take count (drop 4 c.input)) q
 Asks c (Refused (Whole count) reply) =
     IsReady c × BeginsWhole c.input count × IsRefused (take count (drop 4 c.input)) reply
-    × (take count (drop 4 c.input) ≢ shutdown_content)
+    × IsNoControl (take count (drop 4 c.input))
 Asks c (Refused front.TooLong reply) = IsReady c × BeginsTooLong c.input × (reply ≡ bad_frame)
 Asks c (Refused Cut reply) = ⊥
-Asks c Shutdown = IsReady c × AsksToEnd c.input
+Asks c (Controls count control) = IsReady c × AsksServer c.input count control
 
 -- what is asked is within the limits
 abbrev pub IsAsked : Asked → Type 0
 IsAsked asked.Idle = Unit {0}
 IsAsked (One count q) = IsQuestion q
 IsAsked (Refused front reply) = IsReply reply
-IsAsked Shutdown = Unit {0}
+IsAsked (Controls count control) = Unit {0}
 
 -- the door answered a question: if asked how it is doing, it told that, and stayed as it was
 abbrev pub IsPut : {D : Type 0} → (D → Question → Reply → D → Type 0) → D → Question → Reply → D → Type 0
@@ -121,3 +130,19 @@ abbrev pub Replies : Connection → Front → Reply → Answering → Connection
 Replies c (Whole count) reply answering c' = Holds (record c { input = drop (4 + count) c.input }) reply answering c'
 Replies c front.TooLong reply answering c' = Holds (record c { end = Some served.TooLong }) reply answering c'
 Replies c Cut reply answering c' = (answering ≡ Idle) × (c' ≡ c)
+
+-- the frame of an answer of the server's
+abbrev pub answer_frame : Answer → List ℕ
+answer_frame answer = frame (bytes_of_answer answer)
+
+-- such an answer has to be sent, or found no memory
+abbrev pub HoldsAnswer : Connection → Answer → Answering → Connection → Type 0
+HoldsAnswer c answer Idle c' = ⊥
+HoldsAnswer c answer Answered c' = c' ≡ record c { output = answer_frame answer }
+HoldsAnswer c answer Memory c' = c' ≡ record c { output = []; end = Some served.Memory }
+
+-- the server answered what it was asked at the front, whose frame is taken
+abbrev pub AnswersServer : Connection → Control → Answer → Answering → Connection → Type 0
+AnswersServer c control answer answering c' =
+    IsReady c × (count : ℕ) × AsksServer c.input count control
+    × HoldsAnswer (record c { input = drop (4 + count) c.input }) answer answering c'

@@ -1,4 +1,5 @@
 use crate::front::Front;
+use xa_control::Control;
 use xa_frame::{Question, Reply};
 
 /// What the front of what came in asks for.
@@ -10,6 +11,7 @@ pub enum Asked {
     One(usize, Question),
     /// Nothing for a door: this is at the front, and this reply is owed to it.
     Refused(Front, Reply),
-    /// That the server shut down, which nobody answers: it stays at the front.
-    Shutdown,
+    /// Something of the server itself, and nothing for a door, in a content of this many bytes: it stays at the front until
+    /// the server has answered it.
+    Control(usize, Control),
 }

@@ -1,9 +1,14 @@
+ghost use Rattle.std.specs.Int.{to_be_bytes, w32};
 ghost use Rattle.std.specs.Prelude.{◌≡◌, ◌≤◌, ◌↔◌, ◌++◌, [], drop, length, vec_len, IsTrue, OnOk, OnErr};
 ghost use Rattle.xa_frame.specs.Limits.{IsReply};
+ghost use Rattle.xa_control.specs.Answers.{IsAnswer};
 ghost use Rattle.xa_desk.specs.Believed.Frames.{reply_frame};
+ghost use Rattle.xa_connection.specs.Calls.{answer_frame};
 
 use std::alloc::{AllocError, Global};
 use std::marker::Model;
+use xa_bytes::put_u32;
+use xa_control::{Answer, put_answer};
 use xa_desk::make_frame;
 use xa_frame::Reply;
 
@@ -72,6 +77,20 @@ impl Buffer {
         held
     }
 
+    /// The same with the frame of an answer.
+    pub fn hold_answer(&mut self, answer: &Answer) -> Result<(), AllocError>
+        requires { IsAnswer answer.now }
+        ensures ok { OnOk result (self.new ≡ answer_frame answer.now) }
+        ensures err { OnErr result (self.new ≡ []) }
+    {
+        self.taken = 0;
+        let held = make_answer_frame(&mut self.bytes, answer);
+        if held.is_err() {
+            self.bytes.clear();
+        }
+        held
+    }
+
     /// Takes `count` bytes from the front, or all.
     pub fn take(&mut self, count: usize)
         ensures { self.new ≡ drop count self.old }
@@ -96,4 +115,25 @@ fn remove_front(bytes: &mut Vec<u8>, count: usize)
     let len = bytes.len();
     bytes.as_mut_slice().copy_within(count..len, 0);
     bytes.truncate(len - count);
+}
+
+// Makes these bytes the frame of an answer, in place of what they were.
+fn make_answer_frame(bytes: &mut Vec<u8>, answer: &Answer) -> Result<(), AllocError>
+    requires { IsAnswer answer.now }
+    ensures { OnOk result (bytes.new.items ≡ answer_frame answer.now) }
+{
+    bytes.clear();
+    put_u32(bytes, 0)?;
+    put_answer(bytes, answer)?;
+    let count = (bytes.len() - 4) as u32;
+    set_front(bytes.as_mut_slice(), count);
+    Ok(())
+}
+
+// Sets the first four bytes to a number.
+fn set_front(bytes: &mut [u8], number: u32)
+    requires { 4 ≤ length bytes.old }
+    ensures { bytes.new ≡ to_be_bytes w32 number ++ drop 4 bytes.old }
+{
+    bytes[..4].copy_from_slice(&number.to_be_bytes());
 }

@@ -1,7 +1,9 @@
 ghost use Rattle.std.specs.Prelude.{◌≡◌, ◌↔◌, [], drop, length, IfOk, IfErr, OnErr, IsSome, IsTrue};
+ghost use Rattle.xa_control.specs.Answers.{IsAnswer};
 ghost use Rattle.xa_frame.specs.{Limits.IsReply, Questions.IsQuestion, Questions.SpellsQuestion};
-ghost use Rattle.xa_connection.specs.Calls.{Asks, AsksBy, Feeds, IsAsked, IsPut, IsRefused, Replies, Turns, new_connection, room_of};
+ghost use Rattle.xa_connection.specs.Calls.{AnswersServer, Asks, AsksBy, Feeds, IsAsked, IsPut, IsRefused, Replies, Turns, new_connection, room_of};
 ghost use Rattle.xa_connection.specs.Fronts.{IsInsideFrame, IsShortFront};
+ghost use Rattle.xa_connection.specs.declared.asked.Asked.TheVariants.{Control as Controls};
 
 use crate::answering::Answering;
 use crate::asked::Asked;
@@ -9,7 +11,7 @@ use crate::buffer::Buffer;
 use crate::front::{Front, front_of};
 use std::alloc::{AllocError, Global};
 use xa_codes::{Detail, XAER_RMFAIL};
-use xa_control::is_shutdown;
+use xa_control::{Answer, Control, control_of};
 use xa_desk::{Door, Served};
 use xa_frame::{Body, FrameFault, Question, Reply, decode_question};
 use xa_limits::MOST_CONTENT;
@@ -79,7 +81,7 @@ impl Connection {
         ensures { Turns (D.called session) self.old door.old result self.new door.new }
     {
         match asked {
-            Asked::Idle | Asked::Shutdown => Answering::Idle,
+            Asked::Idle | Asked::Control(_, _) => Answering::Idle,
             Asked::One(count, question) => {
                 let reply = put_to(door, session, question);
                 self.reply(Front::Whole(count), &reply)
@@ -117,6 +119,21 @@ impl Connection {
             Front::Whole(count) => self.input.take(4 + count),
         }
         if self.output.hold(reply).is_ok() {
+            return Answering::Answered;
+        }
+        self.end = Some(Served::Memory);
+        Answering::Memory
+    }
+
+    /// Answers what the front asks of the server itself: its frame is taken, and the answer's has to be sent. Where there is
+    /// no memory for that, the connection has to end.
+    pub fn answer_control(&mut self, count: usize, _control: Control, answer: &Answer) -> Answering
+        requires asks { Asks self.old (Controls count _control) }
+        requires limits { IsAnswer answer.now }
+        ensures { AnswersServer self.old _control answer.now result self.new }
+    {
+        self.input.take(4 + count);
+        if self.output.hold_answer(answer).is_ok() {
             return Answering::Answered;
         }
         self.end = Some(Served::Memory);
@@ -172,8 +189,8 @@ fn asked_by(alloc: Global, count: usize, content: &[u8]) -> Asked
     ensures asks { AsksBy count content.now result }
     ensures limits { IsAsked result }
 {
-    if is_shutdown(content) {
-        return Asked::Shutdown;
+    if let Some(control) = control_of(content) {
+        return Asked::Control(count, control);
     }
     match question_of(alloc, content) {
         Ok(question) => Asked::One(count, question),

@@ -1,1 +1,5 @@
 pub mod Shutdown
+pub mod Controls
+pub mod Answers
+pub mod Laws
+pub mod Rows

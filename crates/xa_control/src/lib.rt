@@ -1,8 +1,25 @@
-//! What a server is asked and no manager: to shut down.
+//! What a server is asked and no manager, and what it answers: one content for each, as for a session's calls.
 //!
-//! - `shutdown`: `SHUTDOWN`, the content of the frame that asks for it; `is_shutdown`
+//! - `control`: `Control`, what it is asked; `control_of`, `put_control` and `control_content`, its content
+//! - `answer`: `Answer`, what it answers; `put_answer` and, in `answer_reader`, `answer_of`, its content
+//! - `hello`: `Hello`, which protocol a side speaks, and what this one does; `metrics`: `Metrics`, what a server counts
+//! - `number`: a number that is all of some bytes; `shutdown`: `SHUTDOWN`, the content that asks a server to end
+//! - `laws`: `one_control` and `one_answer`, one value and one content; `worked_contents`, worked rows
 #![tactic(auto)]
 
+mod answer;
+mod answer_reader;
+mod control;
+mod hello;
+mod laws;
+mod metrics;
+mod number;
 mod shutdown;
 
-pub use shutdown::{SHUTDOWN, is_shutdown};
+pub use answer::{Answer, put_answer};
+pub use answer_reader::answer_of;
+pub use control::{Control, control_content, control_of, put_control};
+pub use hello::{DISCONNECTS, FEATURES, Hello, MEASURES, REVISION};
+pub use laws::{one_answer, one_control, worked_contents};
+pub use metrics::{MOST_METRICS, Metrics};
+pub use shutdown::SHUTDOWN;

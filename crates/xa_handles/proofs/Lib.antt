@@ -2,4 +2,5 @@ pub mod Booking
 pub mod Calling
 pub mod Groups
 pub mod Letters
+pub mod Owed
 pub mod Trayed

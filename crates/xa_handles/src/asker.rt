@@ -1,6 +1,6 @@
 ghost use Rattle.std.specs.Prelude.{◌≡◌, ◌<◌, []};
 ghost use Rattle.xa_handles.specs.Believed.Accounts.{asking, next_ask, told_of, without};
-ghost use Rattle.xa_tokens.specs.Believed.Receipts.{IsInOrder, last_or};
+ghost use Rattle.xa_tokens.specs.{Believed.Account.Account, Believed.Receipts.IsInOrder, Believed.Receipts.last_or};
 
 use std::marker::Model;
 use xa_model::Event;
@@ -70,6 +70,14 @@ impl<'a, B: Book> Asker<'a, B> {
         ensures { self.new ≡ without self.old ticket }
     {
         self.tokens.give_up(&mut self.share, ticket);
+    }
+
+    /// It takes back what it asked for last: nobody will carry that out.
+    pub(crate) fn withdraw(&mut self, ticket: Ticket<B>)
+        requires { (before : Account) × (self.old ≡ asking before ticket) }
+        ensures { (before : Account) → self.old ≡ asking before ticket → self.new ≡ before }
+    {
+        self.tokens.withdraw(&mut self.share, ticket);
     }
 
     /// The share.

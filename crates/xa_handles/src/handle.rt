@@ -1,12 +1,12 @@
-ghost use Rattle.std.specs.Prelude.{ℕ, ◌≡◌, ◌≢◌, ◌⊎◌, ◌+◌, ◌<◌, [], is_none, IfOk, MatchOption, None};
+ghost use Rattle.std.specs.Prelude.{ℕ, ◌≡◌, ◌≢◌, ◌⊎◌, ◌+◌, ◌<◌, [], is_none, IfErr, IfOk, MatchOption, None, OnErr};
 ghost use Rattle.xa_assoc.specs.Refusals.{is_memory};
-ghost use Rattle.xa_frame.specs.Limits.{IsReply, IsRequest};
+ghost use Rattle.xa_frame.specs.{Limits.IsReply, Limits.IsRequest, declared.request.Request.Request};
 ghost use Rattle.xa_handles.specs.Believed.Accounts.{Ends, Posts, asking, next_ask, told_of};
-ghost use Rattle.xa_handles.specs.Mail.{IsCall, put_at};
+ghost use Rattle.xa_handles.specs.{Believed.Standing.LeavesMail, Mail.IsCall, Mail.put_at};
 ghost use Rattle.xa_handles.specs.Believed.Shared.{CalledBy, ConnectedBy, DidCall, IsTold, LeftBy};
 ghost use Rattle.xa_model.specs.declared.event.Event.TheVariants as Event;
 ghost use Rattle.xa_sequencer.specs.{Associates.AssociatedBy, Associates.EndedBy, Believed.GroupManager.pending_of};
-ghost use Rattle.xa_tokens.specs.{Believed.Account.Owes, Believed.Receipts.IsInOrder};
+ghost use Rattle.xa_tokens.specs.{Believed.Account.Account, Believed.Account.Owes, Believed.Receipts.IsInOrder};
 
 use crate::asker::Asker;
 use crate::held::Held;
@@ -98,6 +98,32 @@ impl<'a, M: GroupCommits, S: Start, B: Book, R: Wait> Handle<'a, M, S, B, R> {
     {
         let posted = ask(&mut self.asker, session, request);
         carry_out(self.rt, self.sequencer, &mut self.asker, held, posted)
+    }
+
+    /// The same of a request that doesn't wait.
+    ///
+    /// # Errors
+    /// Gives it back, as if it hadn't been asked, if it has to wait until the pending group is finished.
+    pub fn call_now(
+        &mut self,
+        held: &mut Held<'a, M, S, B>,
+        session: u64,
+        request: Request,
+    ) -> Result<Reply, Request>
+        requires { IsRequest request }
+        ensures called { IfOk result (λ reply. CalledBy M.manages S.start S.base session self.old.asker request reply self.new.asker) }
+        ensures limits { IfOk result IsReply }
+        ensures back { IfErr result (λ given. (given ≡ request) × (self.new ≡ self.old)) }
+        ensures waits { OnErr result (pending_of held.old.at.now ≢ None) }
+        ensures mail { LeavesMail held.old held.new }
+    {
+        let tokens = &self.sequencer.tokens;
+        let posted = ask(&mut self.asker, session, request);
+        let posted = match held.locked.call(tokens, &mut self.asker, posted) {
+            Ok(reply) => return Ok(reply),
+            Err(posted) => posted,
+        };
+        Err(withdraw(&mut self.asker, posted))
     }
 
     /// Posts a copy of a call: whichever thread has the lock may answer it, as one of a group that shares an append. It
@@ -260,8 +286,9 @@ impl<M: GroupCommits, S: Start, B: Book, R: Wait> Door for Handle<'_, M, S, B, R
     ghost left = { λ session a b. (was : Bool) × LeftBy M.manages S.start S.base session a.asker was b.asker };
 
     fn call(&mut self, session: u64, request: Request) -> Reply {
-        let posted = ask(&mut self.asker, session, request);
-        call_settled(self.rt, self.sequencer, &mut self.asker, posted)
+        let held = self.hold();
+        let (reply, _held) = self.call_held(held, session, request);
+        reply
     }
 
     fn status(&self) -> Status {
@@ -288,6 +315,21 @@ fn ask<B: Book>(asker: &mut Asker<'_, B>, session: u64, request: Request) -> Pos
     let after = asker.last();
     let ticket = asker.ask(&event);
     Posted::new(Ask { event, after }, ticket)
+}
+
+// Takes back a call of a session that was asked for last, and nobody has carried out.
+fn withdraw<B: Book>(asker: &mut Asker<'_, B>, posted: Posted<B>) -> Request
+    requires call { IsCall posted.event }
+    requires last { (before : Account) × (asker.old ≡ asking before posted) }
+    ensures request { (session : ℕ) (request : Request) → posted.event ≡ Event.Call session request → result ≡ request }
+    ensures asker { (before : Account) → asker.old ≡ asking before posted → asker.new ≡ before }
+{
+    let (Ask { event, after: _ }, ticket) = posted.into_parts();
+    let Event::Call(_, request) = event else {
+        unreachable!()
+    };
+    asker.withdraw(ticket);
+    request
 }
 
 // Carries a call out, under the lock that was taken, which is returned, or once no group is pending.

@@ -1,4 +1,5 @@
-pub mod Asking
+pub mod Done
+pub mod Decimals
 pub mod Talking
 pub mod Pieces
 pub mod Confirming

@@ -1,5 +1,5 @@
 -- The lines of a script are read as what they ask.
-use Rattle.std.proofs.Common.{◌≡◌, ◌≢◌, ◌==◌, ◌<◌, ◌≤◌, ◌-◌, ℕ, suc, not, ℤ, pos, negsuc, ◌/◌, ◌%◌, ◌^◌, Bool, true, false, List, [], ◌∷◌, ◌++◌, length, get_or, All, Option, Some, None, refl, sym, ap, ◌∙◌, arith, cond, codes, FitsSigned, w32}
+use Rattle.std.proofs.Common.{◌≡◌, ◌==◌, ◌<◌, ◌≤◌, ◌-◌, ℕ, suc, not, ℤ, pos, negsuc, ◌/◌, ◌%◌, ◌^◌, Bool, true, false, List, [], ◌∷◌, ◌++◌, length, get_or, All, Option, refl, ap, ◌∙◌, arith, codes, FitsSigned, w32}
 use Rattle.std.specs.Prelude.{◌&&◌, decimal, nat_le, nat_lt}
 use Rattle.std.specs.Fmt.{signed_decimal}
 use Rattle.std.specs.Io.BufRead.{strip_last}
@@ -17,13 +17,14 @@ use Rattle.xa_script.specs.declared.words.Place.TheVariants.{Front}
 use Rattle.xa_xid.specs.Spelling.{hex, hex_digit, text_of}
 use Rattle.xa_xid.specs.Triple.{IsWithinLimits, Triple}
 use Rattle.xa_codes.specs.declared.flags.TheConstants.{TMNOFLAGS}
-use Rattle.xa_frame.specs.declared.question.Question.TheVariants as question
 use Rattle.xa_frame.specs.declared.request.Request.TheVariants.{Open}
 use Rattle.xa_script.specs.Lines.{line_of, said_of}
 use Rattle.xa_operate.specs.Agendas.{question_of}
-use Rattle.xa_operate.specs.Scripts.{NamesXid, TalkReads, call_text, open_line, said}
+use Rattle.xa_operate.specs.Askings.{called}
+use Rattle.xa_operate.specs.Scripts.{NamesWell, TalkReads, call_text, open_line, said}
+use Rattle.xa_operate.proofs.Decimals.{number_read}
 use Rattle.xa_operate.specs.declared.task.Task.{Task}
-use Rattle.xa_operate.specs.declared.task.Task.TheVariants.{Status, Metrics, AtWork, Branches, Branch, Abandoned, Recover, RollbackMarked, Commit, Rollback, Forget, Decide, Doom, Trim, Restart}
+use Rattle.xa_operate.specs.declared.task.Task.TheVariants.{Status, Metrics, AtWork, Branches, Branch, Abandoned, Recover, RollbackMarked, Commit, Rollback, Forget, Decide, Doom, Disconnect, Trim, Restart}
 
 -- no blank, and no end of a line
 abbrev IsInk : ℕ → Type 0
@@ -119,7 +120,7 @@ ends_in_ink front text h inks =
     (All-append IsKept front text (plain front h) (All-weaker IsInk IsKept (λ b above. ne_eqb b 13 (λ e. omega (arith, e, above))) text inks))
 
 module _ (xid_of : List ℕ → Option Triple) (each : ReadsTexts xid_of) where
-  opens : (name : List ℕ) → is_name name ≡ true → line_of xid_of (open_line name) ≡ said (question.Call (Open TMNOFLAGS name))
+  opens : (name : List ℕ) → is_name name ≡ true → line_of xid_of (open_line name) ≡ said (called (Open TMNOFLAGS name))
   opens name named =
       let inks = graphic_ink name (both_true _ (is_graphic name) named).1 in
       ap (said_of xid_of) (ends_in_ink (codes "1 open TMNOFLAGS ") name refl inks) ∙ rw (name_word name named, named) refl
@@ -129,7 +130,7 @@ module _ (xid_of : List ℕ → Option Triple) (each : ReadsTexts xid_of) where
       → line_of xid_of (front ++ text_of xid) ≡ said_of xid_of (front ++ text_of xid)
   about front xid h limits = ap (said_of xid_of) (ends_in_ink front (text_of xid) h (xid_ink xid limits))
 
-  asks : (task : Task) → NamesXid task → line_of xid_of (call_text task) ≡ said (question_of task)
+  asks : (task : Task) → NamesWell task → line_of xid_of (call_text task) ≡ said (question_of task)
   asks Status h = refl
   asks Metrics h = refl
   asks AtWork h = refl
@@ -146,10 +147,14 @@ module _ (xid_of : List ℕ → Option Triple) (each : ReadsTexts xid_of) where
   asks (Decide direction.Rollback xid) h =
       about (codes "1 decide rollback ") xid refl h ∙ rw (xid_word xid h, each.each xid h) refl
   asks (Doom xid) h = about (codes "1 doom ") xid refl h ∙ rw (xid_word xid h, each.each xid h) refl
+  asks (Disconnect session) h =
+      let inks = decimal_ink session h.1 in
+      ap (said_of xid_of) (ends_in_ink (codes "1 disconnect ") (decimal session) refl inks)
+      ∙ rw (one_word (decimal session) inks, number_read session h.0 h.1) refl
   asks Trim h = refl
   asks Restart h = refl
 
-  pub reads : (name : List ℕ) (task : Task) → is_name name ≡ true → NamesXid task → TalkReads xid_of name task
+  pub reads : (name : List ℕ) (task : Task) → is_name name ≡ true → NamesWell task → TalkReads xid_of name task
   reads name task named xid = record {
     connects = refl;
     opens = opens name named;

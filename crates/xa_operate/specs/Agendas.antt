@@ -1,5 +1,5 @@
 -- What a task asks of a server, and what it goes on to ask by the answers.
-use Rattle.std.specs.Prelude.{◌==◌, ◌-◌, ℕ, pos, Bool, true, false, not, ◌&&◌, if◌then◌else◌, List, [], ◌∷◌, ◌++◌, length, flat_map, slice_get, Option, Some, None}
+use Rattle.std.specs.Prelude.{◌==◌, ◌-◌, ℕ, Bool, true, false, not, ◌&&◌, if◌then◌else◌, List, [], ◌∷◌, ◌++◌, length, flat_map, slice_get, Some, None}
 use Rattle.std.specs.Option.{option_map_or}
 use Rattle.std.specs.Ordering.{int_eq}
 use Rattle.xa_codes.specs.declared.codes.TheConstants.{XA_OK}
@@ -10,36 +10,39 @@ use Rattle.xa_frame.specs.declared.known_branch.AssociationCounts.{AssociationCo
 use Rattle.xa_frame.specs.declared.known_branch.BranchState.{BranchState}
 use Rattle.xa_frame.specs.declared.known_branch.BranchState.TheVariants.{Working}
 use Rattle.xa_frame.specs.declared.known_branch.KnownBranch.{KnownBranch}
-use Rattle.xa_frame.specs.declared.question.Question.{Question}
 use Rattle.xa_frame.specs.declared.question.Question.TheVariants as question
 use Rattle.xa_frame.specs.declared.reply.Reply.{Reply}
 use Rattle.xa_frame.specs.declared.request.Request.TheVariants as request
 use Rattle.xa_operate.specs.declared.agenda.TheConstants.{PAGE}
+use Rattle.xa_operate.specs.declared.asking.Asking.{Asking}
+use Rattle.xa_operate.specs.declared.asking.Asking.TheVariants as asking
 use Rattle.xa_operate.specs.declared.task.Task.{Task}
-use Rattle.xa_operate.specs.declared.task.Task.TheVariants.{Status, Metrics, AtWork, Branches, Branch, Abandoned, Recover, RollbackMarked, Commit, Rollback, Forget, Decide, Doom, Trim, Restart}
+use Rattle.xa_operate.specs.declared.task.Task.TheVariants.{Status, Metrics, AtWork, Branches, Branch, Abandoned, Recover, RollbackMarked, Commit, Rollback, Forget, Decide, Doom, Disconnect, Trim, Restart}
+use Rattle.xa_operate.specs.Askings.{called}
 use Rattle.xa_operate.specs.Tasks.{opens_session}
 
-abbrev pub question_of : Task → Question
-question_of Status = question.Status
-question_of Metrics = question.Status
-question_of AtWork = question.Status
-question_of Branches = question.Call (request.Branches PAGE None)
-question_of (Branch xid) = question.Call (request.Branches PAGE None)
-question_of Abandoned = question.Call (request.Branches PAGE None)
-question_of RollbackMarked = question.Call (request.Branches PAGE None)
-question_of Recover = question.Call (request.Recover TMSTARTRSCAN PAGE)
-question_of (Commit xid) = question.Call (request.Commit TMNOFLAGS xid)
-question_of (Rollback xid) = question.Call (request.Rollback TMNOFLAGS xid)
-question_of (Forget xid) = question.Call (request.Forget TMNOFLAGS xid)
-question_of (Decide direction xid) = question.Call (request.Decide direction xid)
-question_of (Doom xid) = question.Call (request.Doom xid)
-question_of Trim = question.Call request.Trim
-question_of Restart = question.Call request.Restart
+abbrev pub question_of : Task → Asking
+question_of Status = asking.Question question.Status
+question_of Metrics = asking.Question question.Status
+question_of AtWork = asking.Question question.Status
+question_of Branches = called (request.Branches PAGE None)
+question_of (Branch xid) = called (request.Branches PAGE None)
+question_of Abandoned = called (request.Branches PAGE None)
+question_of RollbackMarked = called (request.Branches PAGE None)
+question_of Recover = called (request.Recover TMSTARTRSCAN PAGE)
+question_of (Commit xid) = called (request.Commit TMNOFLAGS xid)
+question_of (Rollback xid) = called (request.Rollback TMNOFLAGS xid)
+question_of (Forget xid) = called (request.Forget TMNOFLAGS xid)
+question_of (Decide direction xid) = called (request.Decide direction xid)
+question_of (Doom xid) = called (request.Doom xid)
+question_of (Disconnect session) = asking.Disconnect session
+question_of Trim = called request.Trim
+question_of Restart = called request.Restart
 
 -- the resource manager is opened by its name where that is needed, and then the task's question is asked
-abbrev pub asked_first : List ℕ → Task → List Question
+abbrev pub asked_first : List ℕ → Task → List Asking
 asked_first name task =
-    if opens_session task then question.Call (request.Open TMNOFLAGS name) ∷ question_of task ∷ []
+    if opens_session task then called (request.Open TMNOFLAGS name) ∷ question_of task ∷ []
     else question_of task ∷ []
 
 -- a page that is full: there may be more
@@ -47,14 +50,14 @@ abbrev pub is_full : ℕ → Bool
 is_full count = count == PAGE
 
 -- the scan goes on
-abbrev pub after_scan : ℕ → List Question
-after_scan count = if is_full count then question.Call (request.Recover TMNOFLAGS PAGE) ∷ [] else []
+abbrev pub after_scan : ℕ → List Asking
+after_scan count = if is_full count then called (request.Recover TMNOFLAGS PAGE) ∷ [] else []
 
 -- the list goes on above its last branch
-abbrev pub after_page : List KnownBranch → List Question
+abbrev pub after_page : List KnownBranch → List Asking
 after_page branches =
     if is_full (length branches)
-    then option_map_or (λ last. question.Call (request.Branches PAGE (Some last.xid)) ∷ []) (slice_get branches (length branches - 1)) []
+    then option_map_or (λ last. called (request.Branches PAGE (Some last.xid)) ∷ []) (slice_get branches (length branches - 1)) []
     else []
 
 abbrev pub is_working : BranchState → Bool
@@ -68,14 +71,14 @@ has_no_association counts = (counts.active == 0) && (counts.suspended == 0) && (
 abbrev pub is_abandoned : KnownBranch → Bool
 is_abandoned branch = is_working branch.state && not (int_eq branch.mark XA_OK) && has_no_association branch.associations
 
-abbrev pub rollback_of : KnownBranch → List Question
-rollback_of branch = if is_abandoned branch then question.Call (request.Rollback TMNOFLAGS branch.xid) ∷ [] else []
+abbrev pub rollback_of : KnownBranch → List Asking
+rollback_of branch = if is_abandoned branch then called (request.Rollback TMNOFLAGS branch.xid) ∷ [] else []
 
-abbrev pub rollbacks_of : List KnownBranch → List Question
+abbrev pub rollbacks_of : List KnownBranch → List Asking
 rollbacks_of branches = flat_map rollback_of branches
 
 -- what a task goes on to ask by the body of an answer
-abbrev pub behind_body : Task → Body → List Question
+abbrev pub behind_body : Task → Body → List Asking
 behind_body Recover (body.Xids xids) = after_scan (length xids)
 behind_body Branches (body.Branches branches) = after_page branches
 behind_body (Branch xid) (body.Branches branches) = after_page branches
@@ -83,5 +86,5 @@ behind_body Abandoned (body.Branches branches) = after_page branches
 behind_body RollbackMarked (body.Branches branches) = rollbacks_of branches ++ after_page branches
 behind_body _ _ = []
 
-abbrev pub behind : Task → Reply → List Question
+abbrev pub behind : Task → Reply → List Asking
 behind task reply = behind_body task reply.body

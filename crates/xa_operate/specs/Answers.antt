@@ -9,6 +9,8 @@ use Rattle.xa_frame.specs.declared.question.Question.TheVariants as question
 use Rattle.xa_frame.specs.declared.reply.Reply.{Reply}
 use Rattle.xa_frame.specs.declared.request.Request.{Request}
 use Rattle.xa_frame.specs.declared.request.Request.TheVariants.{Recover, Branches, Trim, Rollback}
+use Rattle.xa_operate.specs.declared.asking.Asking.{Asking}
+use Rattle.xa_operate.specs.declared.asking.Asking.TheVariants as asking
 use Rattle.xa_operate.specs.declared.task.Task.{Task}
 use Rattle.xa_operate.specs.declared.task.Task.TheVariants.{RollbackMarked}
 
@@ -56,6 +58,10 @@ answers_call task Trim reply = int_eq reply.code XA_OK && is_number reply.body
 answers_call task (Rollback flags xid) reply = answers_rollback task reply.code
 answers_call task _ reply = int_eq reply.code XA_OK
 
-abbrev pub answers : Task → Question → Reply → Bool
-answers task question.Status reply = int_eq reply.code XA_OK && is_status reply.body
-answers task (question.Call request) reply = answers_call task request reply
+abbrev pub answers_question : Task → Question → Reply → Bool
+answers_question task question.Status reply = int_eq reply.code XA_OK && is_status reply.body
+answers_question task (question.Call request) reply = answers_call task request reply
+
+abbrev pub answers : Task → Asking → Reply → Bool
+answers task (asking.Question question) reply = answers_question task question reply
+answers task (asking.Disconnect session) reply = int_eq reply.code XA_OK

@@ -1,15 +1,16 @@
 -- A task is asked of a server over one connection.
 use Rattle.std.specs.Io.KnownBytes.{Appends, Keeps}
-use Rattle.std.specs.Prelude.{ℕ, ◌≡◌, ◌⊎◌, ◌-◌, ◌^◌, Bool, true, false, List, [], ◌∷◌, ◌++◌, length, Option, Result, Ok, Err, IsErrOf}
-use Rattle.xa_frame.specs.declared.question.Question.{Question}
+use Rattle.std.specs.Prelude.{ℕ, ◌≡◌, ◌⊎◌, ◌-◌, ◌^◌, true, false, List, [], ◌∷◌, ◌++◌, length, Option, Result, Ok, Err, IsErrOf}
 use Rattle.xa_frame.specs.declared.reply.Reply.{Reply}
 use Rattle.xa_output.specs.Output.{IsFront}
-use Rattle.xa_talk.specs.Exchanges.{Exchanged}
+use Rattle.xa_talk.specs.Exchanges.{Brought}
 use Rattle.xa_talk.specs.declared.fault.TalkFault.{TalkFault}
-use Rattle.xa_talk.specs.declared.fault.TalkFault.TheVariants.{Broken, Connect, Memory, Write}
+use Rattle.xa_talk.specs.declared.fault.TalkFault.TheVariants.{Connect, Memory, Write}
 use Rattle.xa_operate.specs.Agendas.{asked_first, behind}
+use Rattle.xa_operate.specs.Askings.{asking_frame}
 use Rattle.xa_operate.specs.Answers.{answers}
 use Rattle.xa_operate.specs.Shown.{shown}
+use Rattle.xa_operate.specs.declared.asking.Asking.{Asking}
 use Rattle.xa_operate.specs.declared.fault.OperateFault.{OperateFault}
 use Rattle.xa_operate.specs.declared.fault.OperateFault.TheVariants.{Declined, Refused, Talk}
 use Rattle.xa_operate.specs.declared.format.Format.{Format}
@@ -31,13 +32,13 @@ Prints (Err fault) text output output' =
 -- of a task in a format, over connections, with what was sent over one, and what can still be read from it
 module _ {C : Type 0} (format : Format) (task : Task) (sent left : C → Option (List ℕ)) where
   -- A question went over the connection, and the reply that came back says that it is done.
-  pub record IsDone (question : Question) (reply : Reply) (c c' : C) : Type 0 where
-    pub exchanged : Exchanged question (Ok reply) (sent c) (sent c') (left c) (left c')
+  pub record IsDone (question : Asking) (reply : Reply) (c c' : C) : Type 0 where
+    pub exchanged : Brought (asking_frame question) (Ok reply) (sent c) (sent c') (left c) (left c')
     pub done : answers task question reply ≡ true
 
   -- So many questions were done, one behind the other, by their replies: the first of those that were to be asked, then those
   -- that the answers led to. What is printed is the text of each answer.
-  abbrev pub AreDone : List Question → List Reply → List Question → List ℕ → C → C → Type 0
+  abbrev pub AreDone : List Asking → List Reply → List Asking → List ℕ → C → C → Type 0
   AreDone agenda [] agenda' text c c' = (agenda' ≡ agenda) × (text ≡ []) × (c' ≡ c)
   AreDone [] (reply ∷ replies) agenda' text c c' = ⊥
   AreDone (question ∷ agenda) (reply ∷ replies) agenda' text c c' =
@@ -46,27 +47,27 @@ module _ {C : Type 0} (format : Format) (task : Task) (sent left : C → Option 
       × AreDone (agenda ++ behind task reply) replies agenda' others over c'
 
   -- why a question that was asked isn't done: the server refused it so
-  pub record IsRefused (question : Question) (end : OperateFault) (c c' : C) : Type 0 where
+  pub record IsRefused (question : Asking) (end : OperateFault) (c c' : C) : Type 0 where
     pub reply : Reply
-    pub exchanged : Exchanged question (Ok reply) (sent c) (sent c') (left c) (left c')
+    pub exchanged : Brought (asking_frame question) (Ok reply) (sent c) (sent c') (left c) (left c')
     pub refused : answers task question reply ≡ false
     pub told : end ≡ Refused reply.code reply.detail
 
   -- the connection didn't bring its reply
-  pub record IsUnanswered (question : Question) (end : OperateFault) (c c' : C) : Type 0 where
+  pub record IsUnanswered (question : Asking) (end : OperateFault) (c c' : C) : Type 0 where
     pub fault : TalkFault
-    pub exchanged : Exchanged question (Err fault) (sent c) (sent c') (left c) (left c')
+    pub exchanged : Brought (asking_frame question) (Err fault) (sent c) (sent c') (left c) (left c')
     pub told : end ≡ Talk fault
 
   -- it is done, but its answer couldn't be printed whole, or what it led to couldn't be kept
-  pub record IsUnprinted (question : Question) (end : OperateFault) (text : List ℕ) (c c' : C) : Type 0 where
+  pub record IsUnprinted (question : Asking) (end : OperateFault) (text : List ℕ) (c c' : C) : Type 0 where
     pub reply : Reply
     pub done : IsDone question reply c c'
     pub part : IsFront text (shown format task question reply)
     pub told : (end ≡ Talk Write) ⊎ (end ≡ Talk Memory)
 
   -- by the end of a question: it is done and printed, and what it led to is to be asked; or it failed
-  abbrev pub QuestionEnds : {X : Type 0} → Question → Result X OperateFault → List Question → List Question → List ℕ → C → C
+  abbrev pub QuestionEnds : {X : Type 0} → Asking → Result X OperateFault → List Asking → List Asking → List ℕ → C → C
       → Type 0
   QuestionEnds question (Ok x) agenda agenda' text c c' =
       (reply : Reply) × IsDone question reply c c' × (text ≡ shown format task question reply)
@@ -77,7 +78,7 @@ module _ {C : Type 0} (format : Format) (task : Task) (sent left : C → Option 
 
   -- By the end of a task, behind so many questions that are done. Ok: none is left. A fault: the next one failed so, or no
   -- more can be counted.
-  abbrev pub TaskEnds : {X : Type 0} → Result X OperateFault → List Question → ℕ → List ℕ → C → C → Type 0
+  abbrev pub TaskEnds : {X : Type 0} → Result X OperateFault → List Asking → ℕ → List ℕ → C → C → Type 0
   TaskEnds (Ok x) agenda n text c c' = (agenda ≡ []) × (text ≡ []) × (c' ≡ c)
   TaskEnds (Err fault) [] n text c c' = (n ≡ 2 ^ 64 - 1) × (text ≡ [])
   TaskEnds (Err fault) (question ∷ agenda) n text c c' =
@@ -88,7 +89,7 @@ module _ {C : Type 0} (format : Format) (task : Task) (sent left : C → Option 
   pub record AskedOver {X : Type 0} (name : List ℕ) (end : Result X OperateFault) (output output' : Option (List ℕ))
       : Type 0 where
     pub replies : List Reply
-    pub agenda : List Question
+    pub agenda : List Asking
     pub text : List ℕ
     pub last : List ℕ
     pub c : C

@@ -1,3 +1,4 @@
+pub mod Askings
 pub mod Tasks
 pub mod Agendas
 pub mod Answers

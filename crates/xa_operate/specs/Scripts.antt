@@ -1,18 +1,22 @@
 -- The script of `xarm talk` that asks what a task asks.
-use Rattle.std.specs.Prelude.{ℕ, ◌≡◌, List, [], ◌∷◌, ◌++◌, Option, codes, if◌then◌else◌}
+use Rattle.std.specs.Fmt.{decimal}
+use Rattle.std.specs.Prelude.{ℕ, ◌≡◌, ◌≤◌, ◌<◌, ◌^◌, List, [], ◌∷◌, ◌++◌, Option, codes, if◌then◌else◌}
 use Rattle.xa_codes.specs.declared.direction.Direction.{Direction}
 use Rattle.xa_codes.specs.declared.direction.Direction.TheVariants as direction
 use Rattle.xa_codes.specs.declared.flags.TheConstants.{TMNOFLAGS}
-use Rattle.xa_frame.specs.declared.question.Question.{Question}
+use Rattle.xa_control.specs.declared.control.Control.TheVariants as control
 use Rattle.xa_frame.specs.declared.question.Question.TheVariants as question
 use Rattle.xa_frame.specs.declared.request.Request.TheVariants.{Open}
 use Rattle.xa_script.specs.Lines.{line_of}
 use Rattle.xa_script.specs.declared.line.Line.{Line}
 use Rattle.xa_script.specs.declared.line.Line.TheVariants as line
 use Rattle.xa_operate.specs.Agendas.{question_of}
+use Rattle.xa_operate.specs.Askings.{called}
 use Rattle.xa_operate.specs.Tasks.{opens_session}
+use Rattle.xa_operate.specs.declared.asking.Asking.{Asking}
+use Rattle.xa_operate.specs.declared.asking.Asking.TheVariants as asking
 use Rattle.xa_operate.specs.declared.task.Task.{Task}
-use Rattle.xa_operate.specs.declared.task.Task.TheVariants.{Status, Metrics, AtWork, Branches, Branch, Abandoned, Recover, RollbackMarked, Commit, Rollback, Forget, Decide, Doom, Trim, Restart}
+use Rattle.xa_operate.specs.declared.task.Task.TheVariants.{Status, Metrics, AtWork, Branches, Branch, Abandoned, Recover, RollbackMarked, Commit, Rollback, Forget, Decide, Doom, Disconnect, Trim, Restart}
 use Rattle.xa_xid.specs.Spelling.{text_of}
 use Rattle.xa_xid.specs.Triple.{IsWithinLimits, Triple}
 
@@ -35,6 +39,7 @@ call_text (Rollback xid) = codes "1 rollback TMNOFLAGS " ++ text_of xid
 call_text (Forget xid) = codes "1 forget TMNOFLAGS " ++ text_of xid
 call_text (Decide direction xid) = codes "1 decide " ++ direction_text direction ++ codes " " ++ text_of xid
 call_text (Doom xid) = codes "1 doom " ++ text_of xid
+call_text (Disconnect session) = codes "1 disconnect " ++ decimal session
 call_text Trim = codes "1 trim"
 call_text Restart = codes "1 restart"
 
@@ -71,22 +76,24 @@ script_of name task =
     ++ ended (codes "1 hangup")
 
 -- the line of a script in which session 1 asks this
-abbrev pub said : Question → Line
-said (question.Call request) = line.Call 1 request
-said question.Status = line.Status 1
+abbrev pub said : Asking → Line
+said (asking.Question (question.Call request)) = line.Call 1 request
+said (asking.Question question.Status) = line.Status 1
+said (asking.Disconnect session) = line.Control 1 (control.Disconnect session)
 
 -- `xarm talk` reads the lines of a task's script as what the task asks first.
 pub record TalkReads (xid_of : List ℕ → Option Triple) (name : List ℕ) (task : Task) : Type 0 where
   pub connects : line_of xid_of (codes "connect") ≡ line.Connect
-  pub opens : line_of xid_of (open_line name) ≡ said (question.Call (Open TMNOFLAGS name))
+  pub opens : line_of xid_of (open_line name) ≡ said (called (Open TMNOFLAGS name))
   pub asks : line_of xid_of (call_text task) ≡ said (question_of task)
   pub hangs_up : line_of xid_of (codes "1 hangup") ≡ line.Hangup 1
 
--- the XID that a task names is one
-abbrev pub NamesXid : Task → Type 0
-NamesXid (Commit xid) = IsWithinLimits xid
-NamesXid (Rollback xid) = IsWithinLimits xid
-NamesXid (Forget xid) = IsWithinLimits xid
-NamesXid (Decide direction xid) = IsWithinLimits xid
-NamesXid (Doom xid) = IsWithinLimits xid
-NamesXid _ = Unit {0}
+-- the XID that a task names is one, and so is the number of a session
+abbrev pub NamesWell : Task → Type 0
+NamesWell (Commit xid) = IsWithinLimits xid
+NamesWell (Rollback xid) = IsWithinLimits xid
+NamesWell (Forget xid) = IsWithinLimits xid
+NamesWell (Decide direction xid) = IsWithinLimits xid
+NamesWell (Doom xid) = IsWithinLimits xid
+NamesWell (Disconnect session) = (1 ≤ session) × (session < 2 ^ 64)
+NamesWell _ = Unit {0}

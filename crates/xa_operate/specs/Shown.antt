@@ -3,7 +3,6 @@ use Rattle.std.specs.Prelude.{ℕ, Bool, true, List, [], if◌then◌else◌, fl
 use Rattle.xa_frame.specs.declared.body.Body.{Body}
 use Rattle.xa_frame.specs.declared.body.Body.TheVariants as body
 use Rattle.xa_frame.specs.declared.known_branch.KnownBranch.{KnownBranch}
-use Rattle.xa_frame.specs.declared.question.Question.{Question}
 use Rattle.xa_frame.specs.declared.question.Question.TheVariants as question
 use Rattle.xa_frame.specs.declared.reply.Reply.{Reply}
 use Rattle.xa_frame.specs.declared.request.Request.{Request}
@@ -13,6 +12,8 @@ use Rattle.xa_operate.specs.Agendas.{is_abandoned}
 use Rattle.xa_operate.specs.Answers.{passes_over}
 use Rattle.xa_operate.specs.Lines.{at_work_text, branch_line, end_text, rolled_line, status_text, xid_lines}
 use Rattle.xa_operate.specs.Metrics.{metrics_text}
+use Rattle.xa_operate.specs.declared.asking.Asking.{Asking}
+use Rattle.xa_operate.specs.declared.asking.Asking.TheVariants as asking
 use Rattle.xa_operate.specs.declared.format.Format.{Format}
 use Rattle.xa_operate.specs.declared.task.Task.{Task}
 use Rattle.xa_operate.specs.declared.task.Task.TheVariants.{Abandoned, AtWork, Branch, Metrics, RollbackMarked}
@@ -50,11 +51,11 @@ shown_rollback format (request.Rollback flags xid) reply =
     if passes_over RollbackMarked reply.code then [] else rolled_line format xid reply.code
 shown_rollback format _ reply = []
 
-abbrev pub shown_marked : Format → Question → Reply → List ℕ
-shown_marked format (question.Call request) reply = shown_rollback format request reply
-shown_marked format question.Status reply = []
+abbrev pub shown_marked : Format → Asking → Reply → List ℕ
+shown_marked format (asking.Question (question.Call request)) reply = shown_rollback format request reply
+shown_marked format _ reply = []
 
 -- Where marked branches are rolled back, those are shown, and else what a reply carries.
-abbrev pub shown : Format → Task → Question → Reply → List ℕ
+abbrev pub shown : Format → Task → Asking → Reply → List ℕ
 shown format RollbackMarked question reply = shown_marked format question reply
 shown format task question reply = shown_body format task reply.body

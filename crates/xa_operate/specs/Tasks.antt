@@ -1,7 +1,7 @@
 -- What kinds of tasks there are.
 use Rattle.std.specs.Prelude.{Bool, true, false}
 use Rattle.xa_operate.specs.declared.task.Task.{Task}
-use Rattle.xa_operate.specs.declared.task.Task.TheVariants.{Status, Metrics, AtWork, Branches, Branch, Abandoned, Recover, RollbackMarked, Commit, Rollback, Forget, Decide, Doom, Trim, Restart}
+use Rattle.xa_operate.specs.declared.task.Task.TheVariants.{Status, Metrics, AtWork, Branches, Branch, Abandoned, Recover, RollbackMarked, Commit, Rollback, Forget, Trim}
 
 -- a transaction manager's calls are asked in a session that is opened
 abbrev pub opens_session : Task → Bool

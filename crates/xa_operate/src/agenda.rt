@@ -1,10 +1,11 @@
 //! What a task asks, and what it goes on to ask by an answer.
 ghost use Rattle.std.specs.Prelude.{◌≡◌, ◌≤◌, ◌++◌, All, IfOk, OnOk, length};
-ghost use Rattle.xa_frame.specs.Questions.{IsQuestion};
 ghost use Rattle.xa_limits.specs.declared.TheConstants.{MOST_INFO};
 ghost use Rattle.xa_operate.specs.Agendas.{after_page, after_scan, asked_first, behind, has_no_association, is_abandoned, question_of, rollback_of};
 ghost use Rattle.xa_operate.specs.Agendas.{rollbacks_of};
+ghost use Rattle.xa_operate.specs.Askings.{IsAsking, called};
 
+use crate::asking::Asking;
 use crate::task::Task;
 use std::alloc::{AllocError, Global};
 use std::collections::VecDeque;
@@ -19,14 +20,14 @@ pub(crate) fn asked_first(
     alloc: Global,
     name: &str,
     task: &Task,
-) -> Result<VecDeque<Question>, AllocError>
+) -> Result<VecDeque<Asking>, AllocError>
     requires { length name.now ≤ MOST_INFO }
     ensures questions { IfOk result (λ agenda. agenda.items ≡ asked_first name.now task.now) }
-    ensures limits { IfOk result (λ agenda. All IsQuestion agenda.items) }
+    ensures limits { IfOk result (λ agenda. All IsAsking agenda.items) }
 {
     let mut agenda = VecDeque::new(alloc);
     if task.opens_session() {
-        agenda.push_back(Question::Call(Request::Open {
+        agenda.push_back(called(Request::Open {
             flags: TMNOFLAGS,
             info: Bytes::from_slice(alloc, name.as_bytes())?,
         }))?;
@@ -35,13 +36,20 @@ pub(crate) fn asked_first(
     Ok(agenda)
 }
 
-fn question_of(task: &Task) -> Question
+fn called(request: Request) -> Asking
+    ensures { result ≡ called request }
+{
+    Asking::Question(Question::Call(request))
+}
+
+fn question_of(task: &Task) -> Asking
     ensures value { result ≡ question_of task.now }
-    ensures limits { IsQuestion result }
+    ensures limits { IsAsking result }
 {
     let flags = TMNOFLAGS;
-    Question::Call(match task {
-        Task::Status | Task::Metrics | Task::AtWork => return Question::Status,
+    called(match task {
+        Task::Status | Task::Metrics | Task::AtWork => return Asking::Question(Question::Status),
+        Task::Disconnect(session) => return Asking::Disconnect(*session),
         Task::Branches | Task::Branch(_) | Task::Abandoned | Task::RollbackMarked => {
             Request::Branches {
                 count: PAGE,
@@ -76,13 +84,13 @@ fn question_of(task: &Task) -> Question
 
 /// Adds what a task goes on to ask once this is answered.
 pub(crate) fn push_behind(
-    agenda: &mut VecDeque<Question>,
+    agenda: &mut VecDeque<Asking>,
     task: &Task,
     reply: &Reply,
 ) -> Result<(), AllocError>
-    requires { All IsQuestion agenda.old.items }
+    requires { All IsAsking agenda.old.items }
     ensures questions { OnOk result (agenda.new.items ≡ agenda.old.items ++ behind task.now reply.now) }
-    ensures limits { OnOk result (All IsQuestion agenda.new.items) }
+    ensures limits { OnOk result (All IsAsking agenda.new.items) }
 {
     match (task, &reply.body) {
         (Task::Recover, Body::Xids(xids)) => push_scan(agenda, xids.as_slice().len()),
@@ -98,13 +106,13 @@ pub(crate) fn push_behind(
 }
 
 /// The scan goes on behind a full page.
-fn push_scan(agenda: &mut VecDeque<Question>, count: usize) -> Result<(), AllocError>
-    requires { All IsQuestion agenda.old.items }
+fn push_scan(agenda: &mut VecDeque<Asking>, count: usize) -> Result<(), AllocError>
+    requires { All IsAsking agenda.old.items }
     ensures questions { OnOk result (agenda.new.items ≡ agenda.old.items ++ after_scan count) }
-    ensures limits { OnOk result (All IsQuestion agenda.new.items) }
+    ensures limits { OnOk result (All IsAsking agenda.new.items) }
 {
     if count == PAGE as usize {
-        agenda.push_back(Question::Call(Request::Recover {
+        agenda.push_back(called(Request::Recover {
             flags: TMNOFLAGS,
             count: PAGE,
         }))?;
@@ -113,16 +121,16 @@ fn push_scan(agenda: &mut VecDeque<Question>, count: usize) -> Result<(), AllocE
 }
 
 /// The list goes on above the last branch of a full page.
-fn push_page(agenda: &mut VecDeque<Question>, branches: &[KnownBranch]) -> Result<(), AllocError>
-    requires { All IsQuestion agenda.old.items }
+fn push_page(agenda: &mut VecDeque<Asking>, branches: &[KnownBranch]) -> Result<(), AllocError>
+    requires { All IsAsking agenda.old.items }
     ensures questions { OnOk result (agenda.new.items ≡ agenda.old.items ++ after_page branches.now) }
-    ensures limits { OnOk result (All IsQuestion agenda.new.items) }
+    ensures limits { OnOk result (All IsAsking agenda.new.items) }
 {
     if branches.len() != PAGE as usize {
         return Ok(());
     }
     if let Some(last) = branches.last() {
-        agenda.push_back(Question::Call(Request::Branches {
+        agenda.push_back(called(Request::Branches {
             count: PAGE,
             after: Some(last.xid.copied()),
         }))?;
@@ -131,13 +139,10 @@ fn push_page(agenda: &mut VecDeque<Question>, branches: &[KnownBranch]) -> Resul
 }
 
 /// Each abandoned branch is to be rolled back.
-fn push_rollbacks(
-    agenda: &mut VecDeque<Question>,
-    branches: &[KnownBranch],
-) -> Result<(), AllocError>
-    requires { All IsQuestion agenda.old.items }
+fn push_rollbacks(agenda: &mut VecDeque<Asking>, branches: &[KnownBranch]) -> Result<(), AllocError>
+    requires { All IsAsking agenda.old.items }
     ensures questions { OnOk result (agenda.new.items ≡ agenda.old.items ++ rollbacks_of branches.now) }
-    ensures limits { OnOk result (All IsQuestion agenda.new.items) }
+    ensures limits { OnOk result (All IsAsking agenda.new.items) }
 {
     for branch in branches {
         push_rollback(agenda, branch)?;
@@ -145,13 +150,13 @@ fn push_rollbacks(
     Ok(())
 }
 
-fn push_rollback(agenda: &mut VecDeque<Question>, branch: &KnownBranch) -> Result<(), AllocError>
-    requires { All IsQuestion agenda.old.items }
+fn push_rollback(agenda: &mut VecDeque<Asking>, branch: &KnownBranch) -> Result<(), AllocError>
+    requires { All IsAsking agenda.old.items }
     ensures questions { OnOk result (agenda.new.items ≡ agenda.old.items ++ rollback_of branch.now) }
-    ensures limits { OnOk result (All IsQuestion agenda.new.items) }
+    ensures limits { OnOk result (All IsAsking agenda.new.items) }
 {
     if is_abandoned(branch) {
-        agenda.push_back(Question::Call(Request::Rollback {
+        agenda.push_back(called(Request::Rollback {
             flags: TMNOFLAGS,
             xid: branch.xid.copied(),
         }))?;

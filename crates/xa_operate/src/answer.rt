@@ -1,9 +1,10 @@
 //! Whether a reply is what was asked for.
 ghost use Rattle.std.specs.Prelude.{◌≡◌};
-ghost use Rattle.xa_operate.specs.Answers.{answers, answers_call, answers_rollback, is_branches, is_first_mark};
+ghost use Rattle.xa_operate.specs.Answers.{answers, answers_call, answers_question, answers_rollback, is_branches, is_first_mark};
 ghost use Rattle.xa_operate.specs.Answers.{is_last_mark, is_mark, is_number, is_status, is_xids};
 ghost use Rattle.xa_operate.specs.Answers.{passes_over};
 
+use crate::asking::Asking;
 use crate::task::Task;
 use xa_codes::{
     Code, XA_OK, XA_RBCOMMFAIL, XA_RBDEADLOCK, XA_RBINTEGRITY, XA_RBOTHER, XA_RBPROTO,
@@ -12,8 +13,17 @@ use xa_codes::{
 use xa_frame::{Body, Question, Reply, Request};
 
 /// Whether a reply says that what was asked is done. Any other is a refusal.
-pub(crate) fn answers(task: &Task, question: &Question, reply: &Reply) -> bool
-    ensures { result ≡ answers task.now question.now reply.now }
+pub(crate) fn answers(task: &Task, asking: &Asking, reply: &Reply) -> bool
+    ensures { result ≡ answers task.now asking.now reply.now }
+{
+    match asking {
+        Asking::Question(question) => answers_question(task, question, reply),
+        Asking::Disconnect(_) => reply.code == XA_OK,
+    }
+}
+
+fn answers_question(task: &Task, question: &Question, reply: &Reply) -> bool
+    ensures { result ≡ answers_question task.now question.now reply.now }
 {
     match question {
         Question::Status => reply.code == XA_OK && is_status(&reply.body),

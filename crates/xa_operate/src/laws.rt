@@ -2,7 +2,7 @@ ghost use Rattle.std.specs.Prelude.{◌≡◌, ℕ, All, List, Option, true};
 ghost use Rattle.xa_frame.specs.declared.reply.Reply.{Reply};
 ghost use Rattle.xa_operate.specs.Agendas.{asked_first, behind};
 ghost use Rattle.xa_operate.specs.Previews.{LooksOnly, preview_of};
-ghost use Rattle.xa_operate.specs.Scripts.{NamesXid, TalkReads};
+ghost use Rattle.xa_operate.specs.Scripts.{NamesWell, TalkReads};
 ghost use Rattle.xa_operate.specs.declared.task.Task.{Task};
 ghost use Rattle.xa_script.specs.Requests.{ReadsTexts, is_name};
 ghost use Rattle.xa_xid.specs.Triple.{Triple};
@@ -10,7 +10,7 @@ ghost use Rattle.xa_xid.specs.Triple.{Triple};
 /// `xarm talk` reads the lines of a task's script as what the task asks first.
 pub fn talk_reads()
     ensures { (xid_of : List ℕ → Option Triple) → ReadsTexts xid_of → (name : List ℕ) (task : Task)
-        → is_name name ≡ true → NamesXid task → TalkReads xid_of name task }
+        → is_name name ≡ true → NamesWell task → TalkReads xid_of name task }
 {}
 
 /// What is asked before who is asked has said yes changes nothing.

@@ -4,7 +4,7 @@
 //! - `task`: `Task`, what is asked; `opens_session`, `decides`
 //! - `name`: `is_name`, whether a script can name a resource manager so
 //! - `preview`: `preview_of`, what is shown before it is asked whether a task is to be done; `question`: how that is asked
-//! - `agenda`: the questions of a task, and those that an answer leads to; `PAGE`
+//! - `asking`: `Asking`, one question of a server; `agenda`: the questions of a task, and those that an answer leads to; `PAGE`
 //! - `answer`: whether a reply is what was asked for
 //! - `shown`: what is printed of an answer, in a `format`: `Format`; `metrics`: a server's numbers for Prometheus
 //! - `run`: `operate_run`, which asks a server; `print_text`; `fault`: `OperateFault`, why the task isn't done
@@ -16,6 +16,7 @@
 
 mod agenda;
 mod answer;
+mod asking;
 mod confirm;
 mod fault;
 mod format;

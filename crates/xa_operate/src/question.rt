@@ -14,7 +14,7 @@ pub(crate) fn question_text(alloc: Global, task: &Task) -> Result<Vec<u8>, Alloc
     ensures { IfOk result (λ text. text.items ≡ question_text task.now) }
 {
     let mut text = Vec::new(alloc);
-    push_order(&mut text, task)?;
+    push_order(alloc, &mut text, task)?;
     text.extend_from_slice(b"? [y/N] ")?;
     Ok(text)
 }
@@ -27,7 +27,7 @@ pub(crate) fn is_yes(line: &[u8]) -> bool
 }
 
 /// Adds a task's words, as the command line has them.
-fn push_order(text: &mut Vec<u8>, task: &Task) -> Result<(), AllocError>
+fn push_order(alloc: Global, text: &mut Vec<u8>, task: &Task) -> Result<(), AllocError>
     ensures { OnOk result (text.new.items ≡ text.old.items ++ order_text task.now) }
 {
     match task {
@@ -36,6 +36,10 @@ fn push_order(text: &mut Vec<u8>, task: &Task) -> Result<(), AllocError>
         Task::Forget(xid) => push_named(text, "forget ", xid),
         Task::Decide(direction, xid) => push_named(text, decision(*direction), xid),
         Task::Doom(xid) => push_named(text, "doom ", xid),
+        Task::Disconnect(session) => {
+            let words = format!(in alloc; "disconnect {session}")?;
+            text.extend_from_slice(words.as_bytes())
+        }
         Task::RollbackMarked => text.extend_from_slice(b"rollback-marked"),
         Task::Restart => text.extend_from_slice(b"restart"),
         _ => text.extend_from_slice(b"go on"),

@@ -1,13 +1,14 @@
 //! A task is asked of a server.
 ghost use Rattle.std.specs.Io.KnownBytes.{Appends};
 ghost use Rattle.std.specs.Prelude.{◌≡◌, ◌≤◌, All, List, OnOk, ℕ, length};
-ghost use Rattle.xa_frame.specs.Questions.{IsQuestion};
 ghost use Rattle.xa_limits.specs.declared.TheConstants.{MOST_INFO};
+ghost use Rattle.xa_operate.specs.Askings.{IsAsking};
 ghost use Rattle.xa_operate.specs.Courses.{Operates, Prints, QuestionEnds};
 ghost use Rattle.xa_talk.specs.declared.dial.Connection.{Connection};
 
 use crate::agenda::{asked_first, push_behind};
 use crate::answer::answers;
+use crate::asking::{Asking, bring};
 use crate::fault::OperateFault;
 use crate::format::Format;
 use crate::shown::shown;
@@ -15,9 +16,9 @@ use crate::task::Task;
 use std::alloc::Global;
 use std::collections::VecDeque;
 use std::io::{Read, Write};
-use xa_frame::{Question, Reply};
+use xa_frame::Reply;
 use xa_output::write_text;
-use xa_talk::{Connection, Dial, TalkFault, exchange};
+use xa_talk::{Connection, Dial, TalkFault};
 
 /// Opens a connection and asks a server what a task asks, one question behind the other, each once the one before it is
 /// answered. What an answer says is printed in a format, and flushed, before the next one is asked.
@@ -62,19 +63,19 @@ fn ask<O: Write, R: Read, W: Write>(
     alloc: Global,
     output: &mut O,
     connection: &mut Connection<R, W>,
-    agenda: &mut VecDeque<Question>,
+    agenda: &mut VecDeque<Asking>,
     task: &Task,
     format: Format,
-    question: &Question,
+    question: &Asking,
 ) -> Result<(), OperateFault>
-    requires asked { IsQuestion question.now }
-    requires agenda { All IsQuestion agenda.old.items }
+    requires asked { IsAsking question.now }
+    requires agenda { All IsAsking agenda.old.items }
     ensures ends { (text : List ℕ) × Appends (O.contents output.old) (O.contents output.new) text
         × QuestionEnds {C = Connection R W} format task.now (λ c. W.contents c.writer) (λ c. R.remaining c.reader)
         question.now result agenda.old.items agenda.new.items text connection.old connection.new }
-    ensures limits { OnOk result (All IsQuestion agenda.new.items) }
+    ensures limits { OnOk result (All IsAsking agenda.new.items) }
 {
-    let reply = match exchange(alloc, connection, question) {
+    let reply = match bring(alloc, connection, question) {
         Ok(reply) => reply,
         Err(fault) => return Err(OperateFault::Talk(fault)),
     };

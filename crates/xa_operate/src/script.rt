@@ -1,4 +1,5 @@
 //! The script that asks what a task asks.
+ghost use Rattle.std.specs.Fmt.{decimal};
 ghost use Rattle.std.specs.Prelude.{◌≡◌, ◌++◌, IfOk, OnOk, codes};
 ghost use Rattle.xa_operate.specs.Scripts.{call_text, comments_text, direction_text, ended, marked_comments, more_branches, open_text, script_of};
 ghost use Rattle.xa_xid.specs.Spelling.{text_of};
@@ -16,7 +17,7 @@ pub fn script_text(alloc: Global, name: &str, task: &Task) -> Result<Vec<u8>, Al
     let mut text = Vec::new(alloc);
     push_line(&mut text, "connect")?;
     push_open(&mut text, name, task)?;
-    push_call(&mut text, task)?;
+    push_call(alloc, &mut text, task)?;
     push_comments(&mut text, task)?;
     push_line(&mut text, "1 hangup")?;
     Ok(text)
@@ -43,7 +44,7 @@ fn push_open(text: &mut Vec<u8>, name: &str, task: &Task) -> Result<(), AllocErr
 }
 
 /// Adds the line of the task's question.
-fn push_call(text: &mut Vec<u8>, task: &Task) -> Result<(), AllocError>
+fn push_call(alloc: Global, text: &mut Vec<u8>, task: &Task) -> Result<(), AllocError>
     ensures { OnOk result (text.new.items ≡ text.old.items ++ ended (call_text task.now)) }
 {
     match task {
@@ -57,9 +58,18 @@ fn push_call(text: &mut Vec<u8>, task: &Task) -> Result<(), AllocError>
         Task::Forget(xid) => push_about(text, "1 forget TMNOFLAGS ", xid),
         Task::Decide(direction, xid) => push_about(text, decide_words(*direction), xid),
         Task::Doom(xid) => push_about(text, "1 doom ", xid),
+        Task::Disconnect(session) => push_session(alloc, text, *session),
         Task::Trim => push_line(text, "1 trim"),
         Task::Restart => push_line(text, "1 restart"),
     }
+}
+
+/// Adds the line that has a session hung up.
+fn push_session(alloc: Global, text: &mut Vec<u8>, session: u64) -> Result<(), AllocError>
+    ensures { OnOk result (text.new.items ≡ text.old.items ++ ended (codes "1 disconnect " ++ decimal session)) }
+{
+    let line = format!(in alloc; "1 disconnect {session}")?;
+    push_line(text, line.as_str())
 }
 
 fn decide_words(direction: Direction) -> &'static str

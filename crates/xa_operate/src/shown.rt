@@ -4,6 +4,7 @@ ghost use Rattle.xa_operate.specs.Shown.{shown, shown_body, shown_line, shown_li
 
 use crate::agenda::is_abandoned;
 use crate::answer::passes_over;
+use crate::asking::Asking;
 use crate::format::Format;
 use crate::line::{push_at_work, push_branch, push_log_end, push_rolled, push_status, push_xids};
 use crate::metrics::push_metrics;
@@ -16,7 +17,7 @@ pub(crate) fn shown(
     alloc: Global,
     format: Format,
     task: &Task,
-    question: &Question,
+    question: &Asking,
     reply: &Reply,
 ) -> Result<Vec<u8>, AllocError>
     ensures { IfOk result (λ text. text.items ≡ shown format task.now question.now reply.now) }
@@ -110,14 +111,14 @@ fn push_numbers(
 fn shown_marked(
     alloc: Global,
     format: Format,
-    question: &Question,
+    question: &Asking,
     reply: &Reply,
 ) -> Result<Vec<u8>, AllocError>
     ensures { IfOk result (λ text. text.items ≡ shown_marked format question.now reply.now) }
 {
     match question {
-        Question::Call(request) => shown_rollback(alloc, format, request, reply),
-        Question::Status => Ok(Vec::new(alloc)),
+        Asking::Question(Question::Call(request)) => shown_rollback(alloc, format, request, reply),
+        _ => Ok(Vec::new(alloc)),
     }
 }
 

@@ -34,6 +34,8 @@ pub enum Task {
     Decide(Direction, Xid),
     /// That it mark a branch at work, which can then only be rolled back.
     Doom(Xid),
+    /// That it hang up the session of this number, as if its connection had broken.
+    Disconnect(u64),
     /// That it go on in the log's other file, with only what is still needed.
     Trim,
     /// That it reread its log, which ends all work.
@@ -59,6 +61,7 @@ impl Task {
             | Task::Abandoned
             | Task::Decide(..)
             | Task::Doom(_)
+            | Task::Disconnect(_)
             | Task::Trim
             | Task::Restart => false,
         }
@@ -83,6 +86,7 @@ impl Task {
             | Task::Forget(_)
             | Task::Decide(..)
             | Task::Doom(_)
+            | Task::Disconnect(_)
             | Task::Restart => true,
         }
     }

@@ -17,7 +17,7 @@ use Rattle.xa_manager.specs.Believed.Answered.{may_want_memory, wanted_memory}
 use Rattle.xa_manager.specs.declared.manager.Manager.{Manager}
 use Rattle.xa_xid.specs.Triple.{Triple}
 use Rattle.xa_script.specs.declared.line.Line.{Line}
-use Rattle.xa_script.specs.declared.line.Line.TheVariants.{Silent, Unknown, Connect, Hangup, Call, Status, Shutdown, Fail, Stop, Reopen, Crash}
+use Rattle.xa_script.specs.declared.line.Line.TheVariants.{Silent, Unknown, Connect, Hangup, Call, Status, Control, Fail, Stop, Reopen, Crash}
 use Rattle.xa_script.specs.declared.call_effect.CallEffect.{CallEffect}
 use Rattle.xa_script.specs.declared.log_file.LogFile.{LogFile}
 use Rattle.xa_script.specs.declared.log_file.LogFile.TheVariants.{Current, Other}
@@ -62,7 +62,7 @@ plays_then name log_bytes P Q run Connect text f h = (h.0, h.1, said_then P Q ru
 plays_then name log_bytes P Q run (Hangup n) text f h = (h.0, h.1, said_then P Q run (event.Hangup n) h.0 (is_memory h.0.detail) f h.2)
 plays_then name log_bytes P Q run (Call n request) text f h = (h.0, h.1, said_then P Q run (event.Call n request) h.0 (is_memory h.0.detail) f h.2)
 plays_then name log_bytes P Q run (Status n) text f h = (h.0, h.1, h.2, f run h.3)
-plays_then name log_bytes P Q run (Shutdown n) text f h = (h.0, f run h.1)
+plays_then name log_bytes P Q run (Control n control) text f h = (h.0, f run h.1)
 plays_then name log_bytes P Q run (Fail file call effect) text f h = (h.0, f run h.1)
 plays_then name log_bytes P Q run (Stop file call) text f h = (h.0, f run h.1)
 plays_then name log_bytes P Q run Reopen text f h = (h.0, (h.1.0, (h.1.1.0, h.1.1.1, f _ h.1.1.2)))
@@ -130,7 +130,7 @@ line_plays trusted files laws name n m m' (Hangup k) answer run h stands = shows
 line_plays trusted files laws name n m m' (Call k request) answer run h stands = shows trusted n m m' (event.Call k request) answer run h.1 h.0 stands
 line_plays trusted files laws name n m m' (Status k) answer run h stands =
     (h.0, h.1, tells m k h.0 h.1 answer run.now stands.0 h.2, subst (λ (o : Manager MemDisk). StandsAs name n o run) (sym h.3) stands)
-line_plays trusted files laws name n m m' (Shutdown k) answer run h stands =
+line_plays trusted files laws name n m m' (Control k control) answer run h stands =
     (tells_end m k answer run.now stands.0 h.0, subst (λ (o : Manager MemDisk). StandsAs name n o run) (sym h.1) stands)
 line_plays trusted files laws name n m m' (Fail file call effect) answer run h stands =
     (ap printed h.0, (planned_stays (Ok tt) file call effect m m' h.1 run.now stands.0, stands.1, stands.2))

@@ -12,7 +12,7 @@ use Rattle.xa_manager.specs.declared.manager.Manager.{Manager}
 use Rattle.xa_manager.specs.Believed.Parts.{log_of}
 use Rattle.xa_xid.specs.Triple.{Triple}
 use Rattle.xa_script.specs.declared.line.Line.{Line}
-use Rattle.xa_script.specs.declared.line.Line.TheVariants.{Silent, Unknown, Connect, Hangup, Call, Status, Shutdown, Fail, Stop, Reopen, Crash}
+use Rattle.xa_script.specs.declared.line.Line.TheVariants.{Silent, Unknown, Connect, Hangup, Call, Status, Control, Fail, Stop, Reopen, Crash}
 use Rattle.xa_script.specs.declared.log_file.LogFile.{LogFile}
 use Rattle.xa_output.specs.Output.{IsPart}
 use Rattle.xa_script.specs.Lines as lines
@@ -78,7 +78,7 @@ module _ (name : List ℕ) (log_bytes : ℕ) where
       IsAsked request × IsSomeAnd answer (λ reply. Answered m (event.Call n request) reply m')
   LineAnswered m (Status n) answer m' =
       (versions : ℕ) × (calls : ℕ) × IsSomeAnd answer (λ reply. Tells m n versions calls reply) × (m' ≡ m)
-  LineAnswered m (Shutdown n) answer m' = IsSomeAnd answer (λ reply. TellsEnd m n reply) × (m' ≡ m)
+  LineAnswered m (Control n control) answer m' = IsSomeAnd answer (λ reply. TellsEnd m n reply) × (m' ≡ m)
   LineAnswered m (Fail file call effect) answer m' = (answer ≡ None) × Planned (Ok tt) file call effect m m'
   LineAnswered m (Stop file call) answer m' = (answer ≡ None) × Stopped file call m m'
   LineAnswered m Reopen answer m' =

@@ -23,7 +23,7 @@ use Rattle.xa_manager.specs.Status.{status_behind}
 use Rattle.xa_xid.specs.Triple.{Triple}
 use Rattle.xa_output.specs.Output.{IsPart}
 use Rattle.xa_script.specs.declared.line.Line.{Line}
-use Rattle.xa_script.specs.declared.line.Line.TheVariants.{Silent, Unknown, Connect, Hangup, Call, Status, Shutdown, Fail, Stop, Reopen, Crash}
+use Rattle.xa_script.specs.declared.line.Line.TheVariants.{Silent, Unknown, Connect, Hangup, Call, Status, Control, Fail, Stop, Reopen, Crash}
 use Rattle.xa_script.specs.Lines as lines
 use Rattle.xa_script.specs.Parts.{parts}
 use Rattle.xa_script.specs.Replies as replies
@@ -86,7 +86,7 @@ module _ (name : List ℕ) (log_bytes : ℕ) where
   PlaysLine run (Call n request) text Then = Shows run (event.Call n request) text Then
   PlaysLine run (Status n) text Then =
       (versions : ℕ) × (calls : ℕ) × (text ≡ replies.line_of (told_status run.now n versions calls)) × Then run
-  PlaysLine run (Shutdown n) text Then = (text ≡ replies.line_of (told_end run.now n)) × Then run
+  PlaysLine run (Control n control) text Then = (text ≡ replies.line_of (told_end run.now n)) × Then run
   PlaysLine run (Fail file call effect) text Then = (text ≡ []) × Then run
   PlaysLine run (Stop file call) text Then = (text ≡ []) × Then run
   PlaysLine run Reopen text Then = (text ≡ opened_line) × Reopens run Then

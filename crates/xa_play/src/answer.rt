@@ -52,8 +52,8 @@ pub fn answer(
             let reply = status(&manager, session, calls);
             Ok((manager, Some(reply)))
         }
-        Line::Shutdown(session) => {
-            let reply = shutdown(&manager, session);
+        Line::Control(session, _) => {
+            let reply = control(&manager, session);
             Ok((manager, Some(reply)))
         }
         Line::Fail { file, call, effect } => {
@@ -114,8 +114,8 @@ fn status(manager: &Manager<MemDisk>, session: u64, calls: u64) -> Reply
     }
 }
 
-/// What asks a server to end is answered to a session that is connected, since there is no server.
-fn shutdown(manager: &Manager<MemDisk>, session: u64) -> Reply
+/// What asks a server something is answered to a session that is connected, since there is no server.
+fn control(manager: &Manager<MemDisk>, session: u64) -> Reply
     ensures { TellsEnd manager.now session result }
 {
     if manager.has_session(session) {

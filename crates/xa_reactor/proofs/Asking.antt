@@ -1,6 +1,6 @@
 -- Asks that are answered together.
 use Rattle.std.proofs.Common.{◌≡◌, ◌∙◌, ℕ, List, [], ◌∷◌, ◌++◌, drop, get_or, set, take, Option, Some, None, Result, refl, sym, ap, inl, subst}
-use Rattle.std.specs.Prelude.{All, IsSomeAnd}
+use Rattle.std.specs.Prelude.{All, IsSomeAnd, MatchOption}
 use Rattle.std.proofs.lemmas.List.Elements.{All-cons, All-get_or, All-head, All-nil, All-push, All-same, All-set, All-tail, All-weaker}
 use Rattle.xa_assoc.specs.declared.fault.ConnectFault.{ConnectFault}
 use Rattle.xa_connection.specs.declared.connection.Connection.{Connection}
@@ -14,7 +14,7 @@ use Rattle.xa_frame.specs.declared.question.Question.TheVariants.{Call}
 use Rattle.xa_frame.specs.declared.reply.Reply.{Reply}
 use Rattle.xa_frame.specs.declared.request.Request.{Request}
 use Rattle.xa_reactor.specs.declared.ask.Ask.{Ask}
-use Rattle.xa_reactor.specs.Asking.{HasRequest, IsAnswered, IsAsking, IsLent, IsOpen, IsTold, PutsAll, Tells, TellsAll, TellsEach, TellsOne, TurnedAll}
+use Rattle.xa_reactor.specs.Asking.{HasRequest, IsAnswered, IsAsking, IsLeft, IsLent, IsOpen, MayBeTold, Puts, PutsAll, Tells, TellsEach, TellsOne, TellsSome, TurnedSome}
 use Rattle.xa_reactor.specs.Opening.{Opens, OpensAt}
 use Rattle.xa_reactor.specs.Believed.Tending.{Table, Tends}
 use Rattle.xa_reactor.specs.Turning.{HasAnswered}
@@ -78,11 +78,54 @@ module _ {D : Type 0} (called : ℕ → D → Question → Reply → D → Type 
         (asked (called a.session) a.front a.request one.tells.request one.ask.reply a.connection m.1 e
         (now.1 one.tells.request one.tells.asked) one.tells.asked one.tells.told) refl)
 
-    pub tends_turned : (table : Table) (asks put : List Ask) (d e : D) → All (IsLent table) asks → TurnedAll called d asks put e
+    pub tends_turned : (table : Table) (asks told : List Ask) (d e : D) → All (IsLent table) asks → TellsSome called d asks told e
         → Tends connected called left table d table e
-    tends_turned table asks put d e lent turned =
+    tends_turned table asks told d e lent tells =
         let stay : All (Stays table) asks = All-weaker (IsLent table) (Stays table) (λ a h. (h.0, λ q is. h.1.1)) asks lent in
-        tends_told table asks turned.told d e turned.tells.some.0 turned.tells.some.1 stay
+        tends_told table asks told d e tells.0 tells.1 stay
+
+  -- what was answered, or is lent still, is so when the replies are put
+  abbrev Lasts : Table → Ask → Type 0
+  Lasts table a = (q : Request) → a.request ≡ Some q → IsLent table a
+
+  lasts_still : (table : Table) (d e : D) (a b : Ask) → Lasts table a → Tells called d a b e → Lasts table b
+  lasts_still table d e a b lasts tells q is = absurd (cc (sym tells.gone ∙ is))
+
+  is_left : (table : Table) (a b : Ask) (asked : Option Request) → a.request ≡ asked → Lasts table a → MatchOption asked (Puts a b) (λ q. b ≡ a) → IsLeft table b
+  is_left table a b None none lasts puts = subst (λ (x : Option Request). MatchOption x (Unit {0}) (λ q. IsLent table b)) (sym (puts.request ∙ none)) tt
+  is_left table a b (Some q) some lasts same =
+      subst (λ (c : Ask). IsLeft table c) (sym same)
+      (subst (λ (x : Option Request). MatchOption x (Unit {0}) (λ q. IsLent table a)) (sym some) (lasts q some))
+
+  put_left : (table : Table) (told put : List Ask) → All (Lasts table) told → PutsAll told put → All (IsLeft table) put
+  put_left table [] [] last puts = All-nil (IsLeft table)
+  put_left table [] (b ∷ put) last puts = absurd puts
+  put_left table (a ∷ told) [] last puts = absurd puts
+  put_left table (a ∷ told) (b ∷ put) last puts =
+      All-cons (IsLeft table) b put (is_left table a b a.request refl (All-head (Lasts table) a told last) puts.0)
+      (put_left table told put (All-tail (Lasts table) a told last) puts.1)
+
+  pub left_turned : (table : Table) (asks put : List Ask) (d e : D) → All (IsLent table) asks → TurnedSome called d asks put e → All (IsLeft table) put
+  left_turned table asks put d e lent turned =
+      put_left table turned.told put
+      (all_left_true (Lasts table) (lasts_still table) asks turned.told d e turned.tells.0 turned.tells.1
+      (All-weaker (IsLent table) (Lasts table) (λ a h q is. h) asks lent))
+      turned.puts
+
+some_left : (table : Table) (a : Ask) (asked : Option Request) → IsLent table a → MatchOption asked (Unit {0}) (λ q. IsLent table a)
+some_left table a None lent = tt
+some_left table a (Some q) lent = lent
+
+pub are_left : (table : Table) (asks : List Ask) → All (IsLent table) asks → All (IsLeft table) asks
+are_left table asks lent = All-weaker (IsLent table) (IsLeft table) (λ a h. some_left table a a.request h) asks lent
+
+left_lent : (table : Table) (a : Ask) (asked : Option Request) → (asked ≡ None → ⊥) → MatchOption asked (Unit {0}) (λ q. IsLent table a) → IsLent table a
+left_lent table a None some h = absurd (some refl)
+left_lent table a (Some q) some h = h
+
+-- what isn't answered is lent
+pub lent_left : (table : Table) (a : Ask) → (IsAnswered a → ⊥) → IsLeft table a → IsLent table a
+lent_left table a some h = left_lent table a a.request some h
 
 -- a turn was opened of a connection whose session is served
 pub opens_at : {D : Type 0} (called : ℕ → D → Question → Reply → D → Type 0) (connected : D → Result ℕ ConnectFault → D → Type 0) (left : ℕ → D → D → Type 0)
@@ -117,22 +160,16 @@ short c (Whole count) None h = absurd h
 short c Cut request h = absurd h
 short c TooLong request h = absurd h
 
-all_told : (told : List Ask) → All Ready told → All IsAnswered told → All IsTold told
-all_told [] ready gone = All-nil IsTold
-all_told (a ∷ rest) ready gone =
-    let one : Ready a = All-head Ready a rest ready in
-    All-cons IsTold a rest (one.0, one.1 (All-head IsAnswered a rest gone))
-    (all_told rest (All-tail Ready a rest ready) (All-tail IsAnswered a rest gone))
-
 opened_ready : (a : Ask) (request : Option Request) → a.request ≡ request → IsSomeAnd request IsRequest → IsShortFront a.front → Ready a
 opened_ready a (Some q) is has is_short = (is_short, λ gone. absurd (cc (sym is ∙ gone)))
 opened_ready a None is has is_short = absurd has
 
 pub are_told : {D : Type 0} (called : ℕ → D → Question → Reply → D → Type 0) (asks told : List Ask) (d e : D) → All IsOpen asks
-    → TellsAll called d asks told e → All IsTold told
+    → TellsSome called d asks told e → All MayBeTold told
 are_told called asks told d e opened tells =
     let ready : All Ready asks = All-weaker IsOpen Ready (λ a h. opened_ready a a.request refl h.0 (short a.connection a.front a.request h.1)) asks opened in
-    all_told told (all_left_true called Ready (still_ready called) asks told d e tells.some.0 tells.some.1 ready) tells.none
+    All-weaker Ready MayBeTold (λ a h gone. (h.0, h.1 gone)) told
+    (all_left_true called Ready (still_ready called) asks told d e tells.0 tells.1 ready)
 
 -- their requests are gone still
 pub put_answered : (told put : List Ask) → PutsAll told put → All IsAnswered told → All IsAnswered put
@@ -140,4 +177,8 @@ put_answered [] [] puts gone = All-nil IsAnswered
 put_answered [] (b ∷ put) puts gone = absurd puts
 put_answered (a ∷ told) [] puts gone = absurd puts
 put_answered (a ∷ told) (b ∷ put) puts gone =
-    All-cons IsAnswered b put (puts.0.request ∙ All-head IsAnswered a told gone) (put_answered told put puts.1 (All-tail IsAnswered a told gone))
+    All-cons IsAnswered b put (was_put a b a.request (All-head IsAnswered a told gone) refl puts.0) (put_answered told put puts.1 (All-tail IsAnswered a told gone))
+  where
+    was_put : (a b : Ask) (asked : Option Request) → a.request ≡ None → a.request ≡ asked → MatchOption asked (Puts a b) (λ q. b ≡ a) → IsAnswered b
+    was_put a b None none is puts = puts.request ∙ none
+    was_put a b (Some q) none is same = absurd (cc (sym none ∙ is))

@@ -8,3 +8,5 @@ pub mod Asking
 pub mod Telling
 pub mod Noticed
 pub mod Looking
+pub mod Left
+pub mod Keeping

@@ -1,5 +1,5 @@
 -- Requests of connections that are answered together.
-use Rattle.std.specs.Prelude.{ℕ, ◌≡◌, ◌<◌, All, List, [], ◌∷◌, get_or, length, set, Option, Some, None, IsSomeAnd}
+use Rattle.std.specs.Prelude.{ℕ, ◌≡◌, ◌<◌, All, List, [], ◌∷◌, get_or, length, set, Option, Some, None, IsSomeAnd, MatchOption}
 use Rattle.std.specs.List.{AllZip}
 use Rattle.xa_connection.specs.declared.answering.Answering.{Answering}
 use Rattle.xa_connection.specs.declared.asked.Asked.TheVariants.{One}
@@ -77,6 +77,14 @@ pub record TellsAll {D : Type 0} (called : ℕ → D → Question → Reply → 
 abbrev pub IsTold : Ask → Type 0
 IsTold a = IsShortFront a.front × IsReply a.reply
 
+-- so it is, if the ask was answered
+abbrev pub MayBeTold : Ask → Type 0
+MayBeTold a = IsAnswered a → IsTold a
+
+-- it was answered, or is an open one of the connection of a session that is served under its key
+abbrev pub IsLeft : Table → Ask → Type 0
+IsLeft table a = MatchOption a.request (Unit {0}) (λ q. IsLent table a)
+
 -- the reply of an ask was put to its connection
 pub record Puts (a b : Ask) : Type 0 where
   pub key : b.key ≡ a.key
@@ -85,8 +93,19 @@ pub record Puts (a b : Ask) : Type 0 where
   pub answering : Answering
   pub replies : Replies a.connection a.front a.reply answering b.connection
 
+-- so was that of one that was answered; any other stayed as it was
+abbrev pub PutsIf : Ask → Ask → Type 0
+PutsIf a b = MatchOption a.request (Puts a b) (λ q. b ≡ a)
+
 abbrev pub PutsAll : List Ask → List Ask → Type 0
-PutsAll told put = AllZip Puts told put
+PutsAll told put = AllZip PutsIf told put
+
+-- some were answered at the door, and then the reply of each of these was put to its connection
+pub record TurnedSome {D : Type 0} (called : ℕ → D → Question → Reply → D → Type 0) (d : D) (asks turned : List Ask) (e : D)
+    : Type 0 where
+  pub told : List Ask
+  pub tells : TellsSome called d asks told e
+  pub puts : PutsAll told turned
 
 -- all were answered at the door, and then the reply of each was put to its connection
 pub record TurnedAll {D : Type 0} (called : ℕ → D → Question → Reply → D → Type 0) (d : D) (asks turned : List Ask) (e : D)

@@ -13,4 +13,6 @@ pub mod Asking
 pub mod Opening
 pub mod Together
 pub mod Peers
+pub mod Orders
+pub mod Cuts
 pub mod Reception

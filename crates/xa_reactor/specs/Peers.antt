@@ -7,10 +7,11 @@ use Rattle.mio.specs.declared.event.event.Event.{Event}
 use Rattle.mio.specs.declared.token.Token.{Token}
 use Rattle.slab.specs.Slab.{Slab, Updates, get, with_value}
 use Rattle.xa_connection.specs.declared.connection.Connection.{Connection}
+use Rattle.xa_reactor.specs.Orders.{new_wish, with_wish}
 use Rattle.xa_reactor.specs.Turning.{HasSent, StepsTo}
 use Rattle.xa_reactor.specs.declared.peer.Peer.{Peer}
 use Rattle.xa_reactor.specs.declared.peer.Step.{Step}
-use Rattle.xa_reactor.specs.declared.peer.Step.TheVariants.{Waits, Goes, Ends, Stops}
+use Rattle.xa_reactor.specs.declared.peer.Step.TheVariants.{Waits, Goes, Ends, Stops, Asks}
 use Rattle.xa_reactor.specs.declared.peers.Peers.{Peers}
 use Rattle.xa_reactor.specs.declared.socket.Socket.{Socket}
 
@@ -26,24 +27,26 @@ turns_of peers = deque_items peers.queue
 pub record HasEnded (old : Peers) (key : ℕ) (new : Peers) : Type 0 where
   pub ended : Updates old.all new.all key None
   pub turns : turns_of new ≡ turns_of old
-  pub stopper : new.stopper ≡ old.stopper
+  pub orders : new.orders ≡ old.orders
 
 -- the connection under a key has a turn behind the others, and nothing else is changed
 pub record IsLast (old : Peers) (key : ℕ) (new : Peers) : Type 0 where
   pub all : new.all ≡ old.all
   pub turns : turns_of new ≡ turns_of old ++ key ∷ []
-  pub stopper : new.stopper ≡ old.stopper
+  pub orders : new.orders ≡ old.orders
 
 -- it has one; or, as where there is no memory for that, it has ended
 abbrev pub HasTurn : Peers → ℕ → Peers → Type 0
 HasTurn old key new = IsLast old key new ⊎ HasEnded old key new
 
--- What comes behind a turn of the connection under a key: nothing, a turn more, its end, or that the server is to end.
+-- What comes behind a turn of the connection under a key: nothing, a turn more, its end, that the server is to end, or what it
+-- asks of that besides, unless there is no memory for it.
 abbrev pub GoesOn : Peers → ℕ → Step → Peers → Type 0
 GoesOn old key Waits new = new ≡ old
 GoesOn old key Goes new = HasTurn old key new
 GoesOn old key Ends new = HasEnded old key new
-GoesOn old key Stops new = new ≡ record old { stopper = Some key }
+GoesOn old key Stops new = new ≡ record old { orders = (Some key, old.orders.1) }
+GoesOn old key Asks new = (new ≡ record old { orders = with_wish old.orders (new_wish key) }) ⊎ HasEnded old key new
 
 -- ---- what events tell
 
@@ -108,11 +111,11 @@ pub record IsTurned (old : Peers) (key : ℕ) (rest : List ℕ) (new : Peers) : 
   pub step : Step
   pub turned : HadTurn old.all key step between.all
   pub turns : turns_of between ≡ rest
-  pub stopper : between.stopper ≡ old.stopper
+  pub orders : between.orders ≡ old.orders
   pub goes : GoesOn between key step new
 
 -- the connection that asked the server to end, if one did, has ended, and its socket is kept
 abbrev pub HasParted : Peers → Option Socket → Peers → Type 0
 HasParted old socket new =
-    MatchOption old.stopper ((socket ≡ None) × (new ≡ old))
+    MatchOption old.orders.0 ((socket ≡ None) × (new ≡ old))
     (λ key. HasEnded old key new × (socket ≡ option_map (λ p. p.socket) (get old.all key)))

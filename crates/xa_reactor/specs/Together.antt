@@ -1,10 +1,10 @@
 -- What a round has lent.
-use Rattle.std.specs.Prelude.{ℕ, ◌≡◌, ◌+◌, ◌≤◌, Bool, ◌&&◌, nat_le, nat_lt, All, List, [], ◌∷◌, ◌++◌, length}
+use Rattle.std.specs.Prelude.{ℕ, ◌≡◌, ◌+◌, ◌≤◌, Bool, ◌&&◌, ◌||◌, nat_le, nat_lt, All, List, [], ◌∷◌, ◌++◌, length}
 use Rattle.std.specs.Vec.{vec_capacity, vec_len}
 use Rattle.std.specs.VecDeque.{deque_len}
 use Rattle.xa_reactor.specs.Asking.{IsLent}
 use Rattle.xa_reactor.specs.Believed.Tending.{Table, sessions_of}
-use Rattle.xa_reactor.specs.Peers.{GoesOn}
+use Rattle.xa_reactor.specs.Peers.{GoesOn, turns_of}
 use Rattle.xa_reactor.specs.declared.peer.Step.{Step}
 use Rattle.xa_reactor.specs.declared.peers.Peers.{Peers}
 use Rattle.xa_reactor.specs.declared.together.Together.{Together}
@@ -13,6 +13,7 @@ use Rattle.xa_reactor.specs.declared.together.Together.{Together}
 pub record HasLent (table : Table) (t : Together) : Type 0 where
   pub quick : All (IsLent table) t.quick.items
   pub waiting : All (IsLent table) t.waiting.items
+  pub left : t.left.items ≡ []
   pub room : vec_len t.over + vec_len t.quick + vec_len t.waiting ≤ vec_capacity t.over
 
 -- how many turns of a round aren't behind it: of requests that were brought in, and of those of which something comes after
@@ -28,22 +29,31 @@ abbrev pub GoesOnAll : Peers → List (ℕ × Step) → Peers → Type 0
 GoesOnAll old [] new = new ≡ old
 GoesOnAll old (turn ∷ rest) new = (between : Peers) × GoesOn old turn.0 turn.1 between × GoesOnAll between rest new
 
--- What comes after each turn of a round came, those that were over before first; till then whose turn comes next stayed.
+-- What comes after some turns was kept, behind that of others; or it was a turn more, which those have behind the others.
+pub record HasKept (old : Peers) (over : List (ℕ × Step)) (new : Peers) (over' : List (ℕ × Step)) : Type 0 where
+  pub keys : List ℕ
+  pub turns : turns_of new ≡ turns_of old ++ keys
+  pub many : deque_len new.queue ≡ deque_len old.queue + length keys
+  pub later : List (ℕ × Step)
+  pub are : over' ≡ over ++ later
+
+-- What comes after each turn of a round came, once: a turn more at once, or behind all turns, that of those that were over
+-- before first.
 pub record HaveGone (t : Together) (old new : Peers) : Type 0 where
   pub between : Peers
-  pub later : List (ℕ × Step)
-  pub count : length later ≡ vec_len t.quick + vec_len t.waiting
+  pub over : List (ℕ × Step)
+  pub kept : HasKept old t.over.items between over
+  pub count : length kept.keys + length kept.later ≡ vec_len t.quick + vec_len t.waiting
   pub same : sessions_of between.all ≡ sessions_of old.all
-  pub turns : between.queue ≡ old.queue
-  pub goes : GoesOnAll between (t.over.items ++ later) new
+  pub goes : GoesOnAll between over new
 
 -- nothing is lent any more, and each turn is over
 abbrev pub IsOver : Together → Type 0
 IsOver t = (t.quick.items ≡ []) × (t.waiting.items ≡ []) × (t.over.items ≡ [])
 
--- some requests wait, by their number, and the round has had fewer than 100,000 turns that are over
-abbrev pub may_gather : ℕ → ℕ → Bool
-may_gather waiting over = nat_lt 0 waiting && nat_lt over 100000
+-- some requests wait, by their numbers, and the round has had fewer than 100,000 turns that are over
+abbrev pub may_gather : ℕ → ℕ → ℕ → Bool
+may_gather quick waiting over = (nat_lt 0 quick || nat_lt 0 waiting) && nat_lt over 100000
 
 -- some wait, of three or more connections not all, and the round has had fewer than 64
 abbrev pub may_grow : ℕ → ℕ → ℕ → Bool

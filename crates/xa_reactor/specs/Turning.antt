@@ -10,7 +10,7 @@ use Rattle.xa_frame.specs.declared.reply.Reply.{Reply}
 use Rattle.xa_frame.specs.declared.question.Question.{Question}
 use Rattle.xa_reactor.specs.declared.peer.Peer.{Peer}
 use Rattle.xa_reactor.specs.declared.peer.Step.{Step}
-use Rattle.xa_reactor.specs.declared.peer.Step.TheVariants.{Waits, Goes, Ends, Stops}
+use Rattle.xa_reactor.specs.declared.peer.Step.TheVariants.{Waits, Goes, Ends, Stops, Asks}
 
 -- bytes that came in were taken, or none
 abbrev pub HasFed : Connection → Connection → Type 0
@@ -56,3 +56,5 @@ StepsTo Waits p = Rests p × (p.is_queued ≡ false)
 StepsTo Goes p = p.is_queued ≡ true
 StepsTo Ends p = Unit {0}
 StepsTo Stops p = Unit {0}
+-- nor does an event put one into the queue that waits for the server itself
+StepsTo Asks p = p.is_queued ≡ true

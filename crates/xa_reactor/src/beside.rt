@@ -108,7 +108,7 @@ pub(crate) fn take_in<D: Reception, R: Clock + Wait>(
         let Some(socket) = common.take(rt, index) else {
             return;
         };
-        if !peers.add(rt, round, clock, door, socket) {
+        if !peers.add(rt, round, clock, common, door, socket) {
             common.leave(1);
         }
     }
@@ -137,7 +137,7 @@ pub(crate) fn stop<D: Reception, R: AllocGlobal + Clock + Eprint + Wait>(
     now: u64,
 )
     ensures aside { IsAside D.connected D.called D.left TRIM door.old door.new }
-    ensures none { peers.now.stopper ≡ None → door.new ≡ door.old }
+    ensures none { peers.now.orders.0 ≡ None → door.new ≡ door.old }
 {
     if peers.is_to_stop() {
         common.stop();

@@ -2,12 +2,14 @@ ghost use Rattle.std.specs.Prelude.{◌≡◌, ◌≤◌, ℕ, vec_len};
 ghost use Rattle.xa_reactor.specs.Admission.{has_path, may_admit, most_open};
 
 use crate::admission::{Origin, may_admit, most_open};
+use crate::cuts::Cuts;
 use crate::listener::Listener;
 use crate::mailbox::Mailbox;
 use crate::socket::Socket;
 use crate::ticks::Ticks;
 use crate::trims::Trims;
 use crate::watch::Watch;
+use std::alloc::Global;
 use std::sync::atomic::{AtomicBool, AtomicU64, Ordering};
 use std::sync::{Mutex, Wait};
 
@@ -41,6 +43,7 @@ pub(crate) struct Common<'a> {
     pub(crate) watch: &'a Watch,
     pub(crate) trims: Mutex<Trims>,
     pub(crate) ticks: Mutex<Ticks>,
+    pub(crate) cuts: Cuts,
     /// Until a loop has taken it, the first one that begins.
     listener: Mutex<Option<Listener>>,
     /// Whether the listener has a Unix socket.
@@ -61,6 +64,7 @@ impl<'a> Common<'a> {
         boxes: Vec<Mailbox>,
         watch: &'a Watch,
         listener: Listener,
+        alloc: Global,
     ) -> Common<'a>
         ensures { (result.settings ≡ settings) × (result.has_path ≡ has_path listener) × (result.boxes ≡ boxes) }
     {
@@ -71,6 +75,7 @@ impl<'a> Common<'a> {
             watch,
             trims: Mutex::new(Trims::new()),
             ticks: Mutex::new(Ticks::new()),
+            cuts: Cuts::new(alloc),
             listener: Mutex::new(Some(listener)),
             has_path,
             open: AtomicU64::new(0),
@@ -173,6 +178,33 @@ impl<'a> Common<'a> {
         }
     }
 
+    /// How many orders to end a connection a loop has looked at.
+    pub(crate) fn looked(&self, index: usize) -> u64 {
+        match self.boxes.get(index) {
+            Some(mailbox) => mailbox.looked(),
+            None => u64::MAX,
+        }
+    }
+
+    /// A loop has looked at so many. Others wait for that.
+    pub(crate) fn look(&self, index: usize, count: u64) {
+        if let Some(mailbox) = self.boxes.get(index) {
+            mailbox.look(count);
+        }
+        self.wake_all();
+    }
+
+    /// Whether each loop that has begun has looked at the order of this number. One that begins later has no connection that
+    /// it means.
+    pub(crate) fn all_have_looked(&self, number: u64) -> bool {
+        for mailbox in self.boxes.iter() {
+            if mailbox.has_begun() && mailbox.looked() <= number {
+                return false;
+            }
+        }
+        true
+    }
+
     /// No more connections come.
     pub(crate) fn end(&self) {
         self.is_over.store(true, Ordering::SeqCst);
@@ -193,7 +225,7 @@ impl<'a> Common<'a> {
         self.is_stopped.load(Ordering::SeqCst)
     }
 
-    fn wake_all(&self) {
+    pub(crate) fn wake_all(&self) {
         for mailbox in self.boxes.iter() {
             mailbox.wake();
         }

@@ -95,7 +95,7 @@ pub fn run_loops<
     if rt.println(listener.ready_lines()).is_err() {
         return Err(LoopFault::Write);
     }
-    let common = Common::new(settings, boxes, watch, listener);
+    let common = Common::new(settings, boxes, watch, listener, rt.alloc());
     Ok(run_all(rt, &common, seeds)?)
 }
 

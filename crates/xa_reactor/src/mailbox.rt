@@ -2,7 +2,7 @@ use crate::socket::Socket;
 use mio::Waker;
 use std::alloc::Global;
 use std::collections::VecDeque;
-use std::sync::atomic::{AtomicBool, Ordering};
+use std::sync::atomic::{AtomicBool, AtomicU64, Ordering};
 use std::sync::{Mutex, Wait};
 
 /// The connections that were handed to a loop and that it hasn't yet taken.
@@ -12,6 +12,8 @@ pub(crate) struct Mailbox {
     sockets: Mutex<VecDeque<Socket>>,
     /// Whether the loop has begun: one for which there is no thread may never.
     has_begun: AtomicBool,
+    /// How many orders to end a connection the loop has looked at.
+    looked: AtomicU64,
 }
 
 impl Mailbox {
@@ -20,6 +22,7 @@ impl Mailbox {
             waker,
             sockets: Mutex::new(VecDeque::new(alloc)),
             has_begun: AtomicBool::new(false),
+            looked: AtomicU64::new(0),
         }
     }
 
@@ -29,6 +32,14 @@ impl Mailbox {
 
     pub(crate) fn has_begun(&self) -> bool {
         self.has_begun.load(Ordering::SeqCst)
+    }
+
+    pub(crate) fn looked(&self) -> u64 {
+        self.looked.load(Ordering::SeqCst)
+    }
+
+    pub(crate) fn look(&self, count: u64) {
+        self.looked.store(count, Ordering::SeqCst);
     }
 
     /// Hands a connection to the loop. Whether there was memory for that; else it is closed.

@@ -1,10 +1,11 @@
-ghost use Rattle.std.specs.Prelude.{◌≡◌, ◌-◌, ◌↔◌, IsTrue, not, false, true, if◌then◌else◌};
+ghost use Rattle.std.specs.Prelude.{◌≡◌, ◌-◌, ◌↔◌, IfSome, IsTrue, None, Some, not, false, true};
 ghost use Rattle.xa_connection.specs.Calls.{Asks, IsAsked, Turns, new_connection};
 ghost use Rattle.xa_connection.specs.declared.answering.Answering.{Answering};
-ghost use Rattle.xa_connection.specs.declared.asked.Asked.TheVariants.{Shutdown};
+ghost use Rattle.xa_control.specs.Answers.{IsAnswer};
 ghost use Rattle.xa_reactor.specs.{Asking.IsAnswered, Opening.Opens, Opening.OpensTo, Timing.IsRead, Timing.after_wait};
 ghost use Rattle.xa_reactor.specs.Peers.{noticed};
 ghost use Rattle.xa_reactor.specs.Since.{FedAt, OwesFrame, SentAt, TakenAt};
+ghost use Rattle.xa_reactor.specs.Orders.{HasTold, control_in};
 ghost use Rattle.xa_reactor.specs.Turning.{CarriesOn, HasAnswered, HasFed, HasSent, HasTaken, HoldsMore, StepsTo};
 
 use crate::ask::Ask;
@@ -19,6 +20,7 @@ use std::mem;
 use std::rt::Clock;
 use xa_codes::XA_OK;
 use xa_connection::{Asked, Connection, Front, MOST_INPUT};
+use xa_control::{Answer, Control};
 use xa_desk::Door;
 use xa_frame::{Question, Reply};
 
@@ -38,6 +40,10 @@ pub(crate) struct Peer {
     is_queued: bool,
     /// When bytes last came or went, by the loop's clock.
     since: u64,
+    /// Which of the server's connections it is, in the order in which their sessions were connected.
+    pub(crate) serial: u64,
+    /// The number of the order that it waits for, which it gave.
+    order: Option<u64>,
 }
 
 /// What comes behind a turn.
@@ -51,6 +57,8 @@ pub(crate) enum Step {
     Ends,
     /// It asked the server to end.
     Stops,
+    /// It asked something else of the server itself, which is answered between rounds.
+    Asks,
 }
 
 /// What a turn comes to that is opened.
@@ -63,8 +71,9 @@ pub(crate) enum Opened {
 }
 
 impl Peer {
-    pub(crate) fn new(alloc: Global, socket: Socket, session: u64, now: u64) -> Peer
+    pub(crate) fn new(alloc: Global, socket: Socket, session: u64, serial: u64, now: u64) -> Peer
         ensures new { (result.session ≡ session) × (result.connection ≡ new_connection) }
+        ensures counted { (result.serial ≡ serial) × (result.order ≡ None) }
         ensures since { result.since ≡ now }
         ensures waits { (result.is_queued ≡ false) × (result.reads ≡ false) × (result.writes ≡ false) × (result.is_ending ≡ false) }
     {
@@ -77,6 +86,8 @@ impl Peer {
             writes: false,
             is_queued: false,
             since: now,
+            serial,
+            order: None,
         }
     }
 
@@ -117,10 +128,10 @@ impl Peer {
             return Step::Ends;
         }
         let asked = self.connection.asked(round.alloc);
-        let stops = asks_to_end(&asked);
+        let control = control_in(&asked);
         self.answer(clock, door, asked);
         let step = self.send(rt, round, clock, key);
-        stop_or(stops, step)
+        self.order_or(control, step)
     }
 
     /// A turn up to a request, which is answered together with those of other connections, by the connection that is lent
@@ -155,10 +166,10 @@ impl Peer {
                 })
             }
             asked => {
-                let stops = asks_to_end(&asked);
+                let control = control_in(&asked);
                 self.answer(clock, door, asked);
                 let step = self.send(rt, round, clock, key);
-                Opened::Over(stop_or(stops, step))
+                Opened::Over(self.order_or(control, step))
             }
         }
     }
@@ -186,6 +197,68 @@ impl Peer {
         self.connection = connection;
         self.is_queued = false;
         self.send(rt, round, clock, key)
+    }
+
+    /// What it asks of the server itself, if it waits for no order.
+    pub(crate) fn control(&self, alloc: Global) -> Option<Control> {
+        if self.order.is_some() {
+            return None;
+        }
+        control_in(&self.connection.asked(alloc))
+    }
+
+    /// It waits for an order of this number.
+    pub(crate) fn wait_for(&mut self, order: u64)
+        ensures { self.new ≡ record self.old { order = Some order } }
+    {
+        self.order = Some(order);
+    }
+
+    /// Answers what it asks of the server itself, where it waits for this order, or for none, and sends the answer. What comes
+    /// behind that; None where it asks nothing, or waits for another one.
+    pub(crate) fn answer_control<R: Clock>(
+        &mut self,
+        rt: &R,
+        round: Round<'_>,
+        clock: &mut LoopClock,
+        key: usize,
+        order: Option<u64>,
+        answer: &Answer,
+    ) -> Option<Step>
+        requires { IsAnswer answer.now }
+        ensures session { self.new.session ≡ self.old.session }
+        ensures answered { IfSome result (λ step. HasTold self.old.connection answer.now self.new.connection) }
+        ensures steps { IfSome result (λ step. StepsTo step self.new) }
+        ensures none { result ≡ None → self.new ≡ self.old }
+    {
+        if self.order != order {
+            return None;
+        }
+        match self.connection.asked(round.alloc) {
+            Asked::Control(count, control) => {
+                let _answering = self.connection.answer_control(count, control, answer);
+                self.order = None;
+                self.is_queued = false;
+                Some(self.send(rt, round, clock, key))
+            }
+            _ => None,
+        }
+    }
+
+    // What comes behind a turn in which this was asked of the server itself, or else this step.
+    fn order_or(&mut self, control: Option<Control>, step: Step) -> Step
+        ensures same { (self.new.session ≡ self.old.session) × (self.new.connection ≡ self.old.connection) }
+        ensures steps { StepsTo step self.old → StepsTo result self.new }
+    {
+        match control {
+            None => step,
+            Some(Control::Shutdown) => Step::Stops,
+            Some(_) => {
+                // no event opens another turn while it waits
+                self.is_queued = true;
+                Step::Asks
+            }
+        }
     }
 
     // Answers what was asked, for which it may wait.
@@ -335,18 +408,14 @@ impl Peer {
     }
 }
 
-// Whether the server is asked to end.
-fn asks_to_end(asked: &Asked) -> bool
-    ensures { IsTrue result ↔ (asked.now ≡ Shutdown) }
+// What is asked of the server itself.
+fn control_in(asked: &Asked) -> Option<Control>
+    ensures { result ≡ control_in asked.now }
 {
-    matches!(asked, Asked::Shutdown)
-}
-
-// What comes behind a turn that was asked to stop the server, or else this.
-fn stop_or(stops: bool, step: Step) -> Step
-    ensures { result ≡ if stops then Step.Stops else step }
-{
-    if stops { Step::Stops } else { step }
+    match asked {
+        Asked::Control(_, control) => Some(*control),
+        _ => None,
+    }
 }
 
 // Whether a read or a write that failed so may go on later.

@@ -1,15 +1,17 @@
-ghost use Rattle.std.specs.Prelude.{◌≡◌, ◌+◌, ◌++◌, [], ◌∷◌, ℕ, List, None, IsTrue, false, is_some, length, if◌then◌else◌, option_to_list};
+ghost use Rattle.std.specs.Prelude.{◌≡◌, ◌+◌, ◌++◌, [], ◌∷◌, ℕ, List, MatchBool, None, IsTrue, false, is_some, length, if◌then◌else◌, option_to_list};
 ghost use Rattle.std.specs.{Option.option_map, VecDeque.deque_len};
 ghost use Rattle.slab.specs.Slab.{Updates, get, slab_len};
+ghost use Rattle.xa_control.specs.Answers.{IsAnswer};
 ghost use Rattle.xa_reactor.specs.{Asking.IsAnswered, Opening.IsOpened, Opening.OpensAt};
-ghost use Rattle.xa_reactor.specs.Peers.{GoesOn, HadTurn, HasParted, HasRoom, IsClosed, IsNews, IsNoticed, IsTurned, turns_of};
+ghost use Rattle.xa_reactor.specs.Peers.{GoesOn, HadTurn, HasParted, HasRoom, IsClosed, IsLast, IsNews, IsNoticed, IsTurned, turns_of};
 ghost use Rattle.xa_reactor.specs.Believed.Tending.{Tends, nobody, sessions_of};
 ghost use Rattle.xa_reactor.specs.{Since.Looks, Since.LooksAll, Timing.IsToEnd, Timing.after_wait};
 ghost use Rattle.xa_reactor.specs.declared.peer.Step.{Step};
 
 use crate::ask::Ask;
 use crate::clock::LoopClock;
-use crate::common::Settings;
+use crate::common::{Common, Settings};
+use crate::orders::{Orders, Wish};
 use crate::peer::{Opened, Peer, Step};
 use crate::reception::Reception;
 use crate::round::Round;
@@ -22,6 +24,7 @@ use std::alloc::Global;
 use std::collections::VecDeque;
 use std::rt::Clock;
 use xa_assoc::ConnectFault;
+use xa_control::{Answer, Control};
 
 /// The connections of a loop, under the keys that are their tokens.
 #[derive(Drop)]
@@ -29,19 +32,19 @@ pub(crate) struct Peers {
     pub(crate) all: Slab<Peer>,
     /// The keys of those that have a turn next, in their order.
     queue: VecDeque<usize>,
-    /// The key of one that asked the server to end.
-    stopper: Option<usize>,
+    /// What they ask of the server itself.
+    pub(crate) orders: Orders,
 }
 
 impl Peers {
     pub(crate) fn new(alloc: Global) -> Peers
         ensures nobody { sessions_of result.all ≡ nobody }
-        ensures turns { (turns_of result ≡ []) × (result.stopper ≡ None) }
+        ensures turns { (turns_of result ≡ []) × (result.orders ≡ (None, [])) }
     {
         Peers {
             all: Slab::new(alloc),
             queue: VecDeque::new(alloc),
-            stopper: None,
+            orders: Orders::new(alloc),
         }
     }
 
@@ -65,12 +68,13 @@ impl Peers {
         rt: &R,
         round: Round<'_>,
         clock: &mut LoopClock,
+        common: &Common<'_>,
         door: &mut D,
         socket: Socket,
     ) -> bool
         ensures tends { Tends D.connected D.called D.left (sessions_of self.old.all) door.old (sessions_of self.new.all) door.new }
         ensures count { slab_len self.new.all ≡ (if result then slab_len self.old.all + 1 else slab_len self.old.all) }
-        ensures turns { (turns_of self.new ≡ turns_of self.old) × (self.new.stopper ≡ self.old.stopper) }
+        ensures turns { (turns_of self.new ≡ turns_of self.old) × (self.new.orders ≡ self.old.orders) }
     {
         if self.queue.reserve(1).is_err() || self.all.reserve(1).is_err() {
             return false;
@@ -82,10 +86,12 @@ impl Peers {
         let Ok(session) = connect(clock, door) else {
             return false;
         };
+        // counted once it is connected: an order of before that means another connection of this session
+        let serial = common.cuts.count();
         let now = clock.now(rt);
         let _key = self
             .all
-            .insert_reserved(Peer::new(round.alloc, socket, session, now));
+            .insert_reserved(Peer::new(round.alloc, socket, session, serial, now));
         true
     }
 
@@ -113,7 +119,7 @@ impl Peers {
 
     /// Makes room for so many turns more. Whether there was memory for it.
     pub(crate) fn reserve(&mut self, turns: usize) -> bool
-        ensures same { (self.new.all ≡ self.old.all) × (turns_of self.new ≡ turns_of self.old) × (self.new.stopper ≡ self.old.stopper) }
+        ensures same { (self.new.all ≡ self.old.all) × (turns_of self.new ≡ turns_of self.old) × (self.new.orders ≡ self.old.orders) }
         ensures room { IsTrue result → HasRoom self.new turns }
     {
         self.queue.reserve(turns).is_ok()
@@ -122,7 +128,7 @@ impl Peers {
     /// The key of the next connection that has a turn.
     pub(crate) fn next(&mut self) -> Option<usize>
         ensures same { self.new.all ≡ self.old.all }
-        ensures stopper { self.new.stopper ≡ self.old.stopper }
+        ensures orders { self.new.orders ≡ self.old.orders }
         ensures turns { turns_of self.old ≡ option_to_list result ++ turns_of self.new }
         ensures count { deque_len self.new.queue + length (option_to_list result) ≡ deque_len self.old.queue }
     {
@@ -140,7 +146,7 @@ impl Peers {
         key: usize,
     ) -> Opened
         ensures same { sessions_of self.new.all ≡ sessions_of self.old.all }
-        ensures turns { (self.new.queue ≡ self.old.queue) × (self.new.stopper ≡ self.old.stopper) }
+        ensures turns { (self.new.queue ≡ self.old.queue) × (self.new.orders ≡ self.old.orders) }
         ensures opens { OpensAt D.connected D.called D.left (sessions_of self.old.all) door.old result door.new }
         ensures opened { IsOpened self.old.all key result self.new.all }
     {
@@ -160,7 +166,7 @@ impl Peers {
     ) -> Step
         requires { IsAnswered ask }
         ensures same { sessions_of self.new.all ≡ sessions_of self.old.all }
-        ensures turns { (self.new.queue ≡ self.old.queue) × (self.new.stopper ≡ self.old.stopper) }
+        ensures turns { (self.new.queue ≡ self.old.queue) × (self.new.orders ≡ self.old.orders) }
         ensures closed { IsClosed self.old.all ask.key ask.connection result self.new.all }
     {
         match self.all.get_mut(ask.key) {
@@ -202,15 +208,67 @@ impl Peers {
                 }
             }
             Step::Ends => end_in(&mut self.all, door, key),
-            Step::Stops => self.stopper = Some(key),
+            Step::Stops => self.orders.stop(key),
+            Step::Asks => {
+                if !self.orders.put(Wish { key, cut: None }) {
+                    end_in(&mut self.all, door, key);
+                }
+            }
         }
+    }
+
+    /// What the connection under this key asks of the server itself, if it waits for no order.
+    pub(crate) fn control(&self, alloc: Global, key: usize) -> Option<Control> {
+        self.all.get(key)?.control(alloc)
+    }
+
+    /// The connection under this key waits for the order of this number. Whether there was memory for that.
+    pub(crate) fn wait_for(&mut self, key: usize, number: u64) -> bool
+        ensures same { sessions_of self.new.all ≡ sessions_of self.old.all }
+    {
+        wait_in(&mut self.all, key, number);
+        self.orders.put(Wish {
+            key,
+            cut: Some(number),
+        })
+    }
+
+    /// Answers what a connection asked of the server itself. What comes behind that; None where it asks nothing any more.
+    pub(crate) fn answer_control<R: Clock>(
+        &mut self,
+        rt: &R,
+        round: Round<'_>,
+        clock: &mut LoopClock,
+        wish: Wish,
+        answer: &Answer,
+    ) -> Option<Step>
+        requires { IsAnswer answer.now }
+        ensures same { sessions_of self.new.all ≡ sessions_of self.old.all }
+        ensures turns { (self.new.queue ≡ self.old.queue) × (self.new.orders ≡ self.old.orders) }
+    {
+        match self.all.get_mut(wish.key) {
+            Some(peer) => peer.answer_control(rt, round, clock, wish.key, wish.cut, answer),
+            None => None,
+        }
+    }
+
+    /// Has a turn next, where there is room for that. Whether there was.
+    pub(crate) fn go_on_now(&mut self, key: usize) -> bool
+        ensures turn { MatchBool result (IsLast self.old key self.new) (self.new ≡ self.old) }
+        ensures count { deque_len self.new.queue ≡ (if result then deque_len self.old.queue + 1 else deque_len self.old.queue) }
+    {
+        let has_room = self.queue.len() < self.queue.capacity();
+        if has_room {
+            self.queue.push_back_reserved(key);
+        }
+        has_room
     }
 
     /// Ends those that are overdue inside a frame, and those that were quiet for too long, by whether they have an association.
     pub(crate) fn end_overdue<D: Reception>(&mut self, door: &mut D, now: u64, settings: &Settings)
         ensures tends { Tends D.connected D.called D.left (sessions_of self.old.all) door.old (sessions_of self.new.all) door.new }
         ensures looks { LooksAll D.associates settings.now now self.old.all self.new.all }
-        ensures turns { (self.new.queue ≡ self.old.queue) × (self.new.stopper ≡ self.old.stopper) }
+        ensures turns { (self.new.queue ≡ self.old.queue) × (self.new.orders ≡ self.old.orders) }
     {
         for key in 0..self.all.capacity() {
             end_if_overdue(&mut self.all, door, key, now, settings);
@@ -219,9 +277,9 @@ impl Peers {
 
     /// Whether one of them asked the server to end.
     pub(crate) fn is_to_stop(&self) -> bool
-        ensures { result ≡ is_some self.now.stopper }
+        ensures { result ≡ is_some self.now.orders.0 }
     {
-        self.stopper.is_some()
+        self.orders.stopper().is_some()
     }
 
     /// Hangs the session of one that asked the server to end up; its socket stays open until it is dropped.
@@ -229,7 +287,7 @@ impl Peers {
         ensures tends { Tends D.connected D.called D.left (sessions_of self.old.all) door.old (sessions_of self.new.all) door.new }
         ensures parted { HasParted self.old result self.new }
     {
-        part_in(&mut self.all, door, self.stopper?)
+        part_in(&mut self.all, door, self.orders.stopper()?)
     }
 
     /// Ends all of them.
@@ -250,6 +308,15 @@ fn connect<D: Reception>(clock: &mut LoopClock, door: &mut D) -> Result<u64, Con
     let connected = door.connect();
     clock.pass();
     connected
+}
+
+// The connection under this key waits for the order of this number.
+fn wait_in(all: &mut Slab<Peer>, key: usize, number: u64)
+    ensures { sessions_of all.new ≡ sessions_of all.old }
+{
+    if let Some(peer) = all.get_mut(key) {
+        peer.wait_for(number);
+    }
 }
 
 // Whether the connection that an event tells of is to be put into the queue.
@@ -343,7 +410,7 @@ fn part_in<D: Reception>(all: &mut Slab<Peer>, door: &mut D, key: usize) -> Opti
 }
 
 // Ends the connection under this key, if there is one, and hangs its session up.
-fn end_in<D: Reception>(all: &mut Slab<Peer>, door: &mut D, key: usize)
+pub(crate) fn end_in<D: Reception>(all: &mut Slab<Peer>, door: &mut D, key: usize)
     ensures tends { Tends D.connected D.called D.left (sessions_of all.old) door.old (sessions_of all.new) door.new }
     ensures updates { Updates all.old all.new key None }
     ensures others { (other : ℕ) → get all.old other ≡ None → get all.new other ≡ None }

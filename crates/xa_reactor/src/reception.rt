@@ -8,7 +8,7 @@ pub trait Reception: Door {
     ghost use Rattle.std.specs.Prelude.{ℕ, ◌≡◌, ◌⊎◌, All, Bool, IsSomeAnd, Result};
     ghost use Rattle.xa_assoc.specs.declared.fault.ConnectFault.{ConnectFault};
     ghost use Rattle.xa_frame.specs.declared.request.Request.{Request};
-    ghost use Rattle.xa_reactor.specs.{Asking.HasRequest, Asking.TellsAll, Reception.IsPosted, Reception.KeepsSettled};
+    ghost use Rattle.xa_reactor.specs.{Asking.HasRequest, Asking.TellsAll, Asking.TellsSome, Reception.IsPosted, Reception.KeepsSettled};
 
     /// A connect took it from one to the other, with this result.
     ghost connected: { Self → Result ℕ ConnectFault → Self → Type 0 };
@@ -45,10 +45,11 @@ pub trait Reception: Door {
         ensures told { TellsAll Self.called self.old asks.old asks.new self.new }
         ensures settled { is_settled self.new };
 
-    /// The same of requests of which none was posted. What was posted is left.
+    /// The same of requests of which none was posted, but for those that have to wait for what another door has under way:
+    /// each of these is left as it was. What was posted is left.
     fn call_quick(&mut self, asks: &mut [Ask])
         requires { All HasRequest asks.old }
-        ensures { TellsAll Self.called self.old asks.old asks.new self.new };
+        ensures { TellsSome Self.called self.old asks.old asks.new self.new };
 
     /// Whether the answer to a request may wait for a device. A hint: those of a round that don't are answered before the
     /// others, by `call_quick`, and aren't posted.

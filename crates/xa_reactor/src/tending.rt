@@ -6,6 +6,7 @@ ghost use Rattle.xa_reactor.specs.Believed.Tending.{HasTended, TendsPosting, ses
 ghost use Rattle.xa_reactor.specs.Together.{HasLent, IsOver};
 
 use crate::acceptor::Acceptor;
+use crate::attending::attend;
 use crate::beside::{accept, begin, goes_on, look, stop, take_in, tell, wait_for};
 use crate::clock::LoopClock;
 use crate::common::Common;
@@ -15,7 +16,7 @@ use crate::reception::Reception;
 use crate::round::Round;
 use crate::socket::Socket;
 use crate::ticking::keep_time;
-use crate::timing::{FEW_EVENTS, GATHERS, gather_wait, looks_of};
+use crate::timing::{FEW_EVENTS, GATHERS, MORE_TURNS, gather_wait, looks_of};
 use crate::tools::{Tools, give_each};
 use crate::trimming::{begin_trims, keep_short};
 use mio::{Events, Poll};
@@ -48,6 +49,8 @@ pub(crate) fn tend<D: Reception, R: AllocGlobal + Clock + Eprint + Wait>(
     common.leave(peers.len() as u64);
     let stopper = peers.part_stopper(door);
     peers.end_all(door);
+    // no other loop waits for this one
+    common.look(index, u64::MAX);
     (is_whole, stopper)
 }
 
@@ -139,6 +142,8 @@ impl Loop {
         let gathered = self.give_turns(rt, common, peers, door);
         // what came in while turns were given isn't read yet: nobody is overdue by that time
         look(common, woke, peers, door, is_look);
+        let round = Round::new(&self.poll, rt.alloc());
+        attend(rt, common, self.index, round, &mut self.clock, peers, door);
         common.leave(before.saturating_sub(peers.len()) as u64);
         let accepts = noticed || gathered;
         let now = self.clock.now(rt);
@@ -202,15 +207,17 @@ impl Loop {
     {
         self.due = door.due();
         self.open_turns(rt, peers, door);
+        self.answer_quick(rt, peers, door);
         let gathered = self.gather(rt, peers, door);
         let lingered = self.linger(rt, peers, door);
+        let given = self.give_more(rt, peers, door);
         let more = self.gather(rt, peers, door);
         let round = Round::new(&self.poll, rt.alloc());
         self.tools
             .together
             .close_all(rt, peers, round, &mut self.clock, door);
         keep_short(rt, common, door, &mut self.clock, &mut self.tools.seen);
-        gathered | lingered | more
+        gathered | lingered | given | more
     }
 
     // Opens the turns of those that have one.
@@ -230,6 +237,25 @@ impl Loop {
         self.tools
             .together
             .open_turns(rt, peers, round, &mut self.clock, scratch, door);
+    }
+
+    // Answers the requests that wait for no device.
+    fn answer_quick<D: Reception, R: AllocGlobal + Clock>(
+        &mut self,
+        rt: &R,
+        peers: &mut Peers,
+        door: &mut D,
+    )
+        requires { HasLent (sessions_of peers.old.all) self.old.tools.together }
+        ensures tends { TendsPosting D.posted D.connected D.called D.left
+            (sessions_of peers.old.all) door.old (sessions_of peers.new.all) door.new }
+        ensures lent { HasLent (sessions_of peers.new.all) self.new.tools.together }
+        ensures events { self.new.events ≡ self.old.events }
+    {
+        let round = Round::new(&self.poll, rt.alloc());
+        self.tools
+            .together
+            .answer_quick(rt, peers, round, &mut self.clock, door);
     }
 
     // While requests wait for a device at which another loop is, answers those that don't, and opens the turns of those that
@@ -259,10 +285,13 @@ impl Loop {
         accepts
     }
 
-    // Whether there are requests that may wait for the device, another loop is at it, and none of them can have been answered
-    // yet; unless the round had too many turns.
+    // Whether there are requests that may wait for the device, another loop is at it, and none that was posted can have been
+    // answered yet; unless the round had too many turns. Those that weren't posted are asked again meanwhile.
     fn is_held_up<D: Reception>(&self, door: &D) -> bool {
-        self.tools.together.may_gather() && !door.is_free() && !door.is_due(self.due)
+        let together = &self.tools.together;
+        together.may_gather()
+            && !door.is_free()
+            && !(together.has_waiting() && door.is_due(self.due))
     }
 
     // While requests are to be answered that may wait for a device, answers those that don't, and opens the turns of those
@@ -287,6 +316,33 @@ impl Loop {
         }
         let (accepts, came) = self.look_on(rt, peers, door, looks);
         self.tools.patience.learn(came);
+        accepts
+    }
+
+    // While requests are to be answered that may wait for a device, gives further turns to those that have more to do, but not
+    // too often: what they ask needn't wait for the device. Whether a connection waits to be accepted.
+    fn give_more<D: Reception, R: AllocGlobal + Clock>(
+        &mut self,
+        rt: &R,
+        peers: &mut Peers,
+        door: &mut D,
+    ) -> bool
+        requires { HasLent (sessions_of peers.old.all) self.old.tools.together }
+        ensures tends { TendsPosting D.posted D.connected D.called D.left
+            (sessions_of peers.old.all) door.old (sessions_of peers.new.all) door.new }
+        ensures lent { HasLent (sessions_of peers.new.all) self.new.tools.together }
+    {
+        let mut accepts = false;
+        for _ in 0..MORE_TURNS {
+            if peers.queued() == 0 || !self.tools.together.has_waiting() {
+                return accepts;
+            }
+            let Ok(told) = self.linger_once(rt, peers, door, Duration::ZERO) else {
+                // the next wait fails too
+                return accepts;
+            };
+            accepts |= told;
+        }
         accepts
     }
 
@@ -319,8 +375,8 @@ impl Loop {
         (accepts, came)
     }
 
-    // Answers the requests that wait for no device, and looks for events once, for so long, where there is room for the turns
-    // that they make, which are opened.
+    // Looks for events once, for so long, where there is room for the turns that they make, and opens all that there are; and
+    // answers the requests that wait for no device. Where there is a turn to open it waits for no event.
     fn linger_once<D: Reception, R: AllocGlobal + Clock>(
         &mut self,
         rt: &R,
@@ -333,25 +389,23 @@ impl Loop {
             (sessions_of peers.old.all) door.old (sessions_of peers.new.all) door.new }
         ensures lent { HasLent (sessions_of peers.new.all) self.new.tools.together }
     {
-        let round = Round::new(&self.poll, rt.alloc());
-        self.tools
-            .together
-            .answer_quick(rt, peers, round, &mut self.clock, door);
         if !peers.reserve(self.events.capacity()) {
             return Ok(false);
         }
+        let has_turn = peers.queued() > 0;
+        let wait = if has_turn { Duration::ZERO } else { wait };
         look_for(
             &mut self.poll,
             &mut self.events,
             &mut self.clock,
             Some(wait),
         )?;
-        if self.events.is_empty() {
+        if self.events.is_empty() && !has_turn {
             yield_now();
-            return Ok(false);
         }
         let accepts = note_all(peers, &self.events);
         self.open_turns(rt, peers, door);
+        self.answer_quick(rt, peers, door);
         Ok(accepts)
     }
 

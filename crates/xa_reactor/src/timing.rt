@@ -23,6 +23,10 @@ pub(crate) const GATHERS: u32 = 61_000;
 /// How often of these it waits for none.
 const QUICK_GATHERS: u32 = 1_000;
 
+/// How often at most a loop gives more turns to those that have more to do before it answers those that may wait for a device:
+/// a client that sends requests without end doesn't hold these up.
+pub(crate) const MORE_TURNS: u32 = 64;
+
 /// How many connections a loop has at least that looks for more requests before it answers those that may wait for a
 /// device.
 pub(crate) const COMPANY: usize = 3;

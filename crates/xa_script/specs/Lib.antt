@@ -7,3 +7,4 @@ pub mod Flags
 pub mod Requests
 pub mod Lines
 pub mod Replies
+pub mod Answers

@@ -3,6 +3,8 @@ use Rattle.std.specs.Prelude.{ℕ, ◌==◌, Bool, true, if◌then◌else◌, by
 use Rattle.std.specs.Prelude.{List, [], ◌∷◌, Option, Some, None, option_and_then, unwrap_or}
 use Rattle.std.specs.Io.BufRead.{strip_last}
 use Rattle.std.specs.Option.{option_map}
+use Rattle.xa_control.specs.declared.control.Control.TheVariants as control
+use Rattle.xa_control.specs.declared.hello.TheConstants.{REVISION}
 use Rattle.xa_script.specs.Words.{alone, by_one, by_two, words}
 use Rattle.xa_script.specs.Numbers.{byte_count_of, call_number_of, number_of}
 use Rattle.xa_script.specs.Requests.{verb_of, request_of}
@@ -11,7 +13,7 @@ use Rattle.xa_script.specs.declared.call_effect.CallEffect.TheVariants.{Kept, Lo
 use Rattle.xa_script.specs.declared.log_file.LogFile.{LogFile}
 use Rattle.xa_script.specs.declared.log_file.LogFile.TheVariants.{Current, Other}
 use Rattle.xa_script.specs.declared.line.Line.{Line}
-use Rattle.xa_script.specs.declared.line.Line.TheVariants.{Silent, Unknown, Connect, Hangup, Call, Status, Shutdown, Fail, Stop, Reopen, Crash}
+use Rattle.xa_script.specs.declared.line.Line.TheVariants.{Silent, Unknown, Connect, Hangup, Call, Status, Control, Fail, Stop, Reopen, Crash}
 use Rattle.xa_frame.specs.Limits.{IsRequest}
 use Rattle.xa_xid.specs.Triple.{Triple}
 
@@ -60,6 +62,10 @@ file_of (word ∷ words) = if bytes_eq word (codes "other") then (Other, words) 
 abbrev pub by_file : (LogFile → List (List ℕ) → Option Line) → List (List ℕ) → Option Line
 by_file asked words = asked (file_of words).0 (file_of words).1
 
+-- that the session of a number be hung up
+abbrev pub disconnect_of : ℕ → List (List ℕ) → Option Line
+disconnect_of n words = by_one number_of (λ other. Control n (control.Disconnect other)) words
+
 -- over what reads the texts of XIDs
 module _ (xid_of : List ℕ → Option Triple) where
   abbrev pub call_of : ℕ → List ℕ → List (List ℕ) → Option Line
@@ -68,6 +74,16 @@ module _ (xid_of : List ℕ → Option Triple) where
       (λ v. option_map (λ request. Call n request) (request_of xid_of v arguments))
       (verb_of name)
 
+  -- what a session asks of its server, or by a call
+  abbrev pub asks_of : ℕ → List ℕ → List (List ℕ) → Option Line
+  asks_of n name arguments =
+      if bytes_eq name (codes "shutdown") then alone (Control n control.Shutdown) arguments
+      else if bytes_eq name (codes "hello")
+      then alone (Control n (control.Hello (record { revision = REVISION; features = 0 }))) arguments
+      else if bytes_eq name (codes "metrics") then alone (Control n control.Metrics) arguments
+      else if bytes_eq name (codes "disconnect") then disconnect_of n arguments
+      else call_of n name arguments
+
   -- what a session's number says, and the words behind it
   abbrev pub asked_of : List ℕ → List (List ℕ) → Option Line
   asked_of session [] = None
@@ -75,8 +91,7 @@ module _ (xid_of : List ℕ → Option Triple) where
       option_and_then
       (λ n. if bytes_eq name (codes "hangup") then alone (Hangup n) arguments
       else if bytes_eq name (codes "status") then alone (Status n) arguments
-      else if bytes_eq name (codes "shutdown") then alone (Shutdown n) arguments
-      else call_of n name arguments)
+      else asks_of n name arguments)
       (number_of session)
 
   -- what a first word asks, and the words after it

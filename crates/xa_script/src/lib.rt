@@ -1,8 +1,8 @@
 //! The script of `xarm play`: what each line of it asks, and the line that shows a reply.
 //!
 //! A line is `connect`, or the number of a session and what it asks: a hang-up, a request of any kind, how the server is
-//! doing, or that the server end; or it speaks of the log's disks: a device call that is to fail, a stop, a reopening, a
-//! crash. Any other is `Line::Unknown`.
+//! doing, or a control of the server, as that it end; or it speaks of the log's disks: a device call that is to fail, a
+//! stop, a reopening, a crash. Any other is `Line::Unknown`.
 //!
 //! - `line`: `Line` and `read_line`
 //! - `verb`: the call that a word names; `request`: the request of a call and the words behind it
@@ -11,7 +11,7 @@
 //! - `log_file`: `LogFile`, which file such a line speaks of; `call_effect`: `CallEffect`, what a device call that is to
 //!   fail does all the same
 //! - `mistake`: `mistake_text`, what is told of a line that asks nothing; `teller`: `Teller`, who is told
-//! - `reply`: `reply_line`; `styled_line`, the same in a `Style`
+//! - `reply`: `reply_line`; `styled_line`, the same in a `Style`; `answer`: `answer_line`, the line of a control's answer
 //! - `laws`: `reader_exists`, the texts of XIDs can be read, so that the contract of `read_line` says something; `texts_are_read`,
 //!   text in quotes is read as the bytes that it was made of
 //!
@@ -19,6 +19,7 @@
 //! the format.
 #![tactic(auto)]
 
+mod answer;
 mod call_effect;
 mod flags;
 mod hexadecimal;
@@ -36,6 +37,7 @@ mod text;
 mod verb;
 mod words;
 
+pub use answer::answer_line;
 pub use call_effect::CallEffect;
 pub use laws::{reader_exists, texts_are_read};
 pub use line::{Line, read_line};

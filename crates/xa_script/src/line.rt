@@ -2,8 +2,8 @@ ghost use Rattle.std.specs.Io.BufRead.{strip_last};
 ghost use Rattle.std.specs.Option.{option_copied};
 ghost use Rattle.std.specs.Prelude.{◌≡◌, ◌≢◌, ◌∷◌, [], ℕ, IfOk, IfSome, List, Option, false, unwrap_or};
 ghost use Rattle.xa_xid.specs.Triple.{Triple};
-ghost use Rattle.xa_script.specs.Lines.{IsWithinLimits, asked_of, by_file, by_words, call_of, crash_of, fail_of, file_of, line_of, sole_of};
-ghost use Rattle.xa_script.specs.Lines.{said_of, stop_of};
+ghost use Rattle.xa_script.specs.Lines.{IsWithinLimits, asked_of, asks_of, by_file, by_words, call_of, crash_of, disconnect_of};
+ghost use Rattle.xa_script.specs.Lines.{fail_of, file_of, line_of, said_of, sole_of, stop_of};
 ghost use Rattle.xa_script.specs.Requests.{ReadsTexts};
 ghost use Rattle.xa_script.specs.Words.{alone, words, words_behind};
 
@@ -14,6 +14,7 @@ use crate::request::read_request;
 use crate::verb::read_verb;
 use crate::words::{first_word, only_word, two_words};
 use std::alloc::{AllocError, Global};
+use xa_control::{Control, Hello, REVISION};
 use xa_frame::Request;
 
 /// What a line of a script says.
@@ -30,8 +31,8 @@ pub enum Line {
     Call(u64, Request),
     /// A session asks how the server is doing.
     Status(u64),
-    /// A session asks the server to end.
-    Shutdown(u64),
+    /// A session asks the server something.
+    Control(u64, Control),
     /// A device call of a log file's disk is to fail.
     Fail {
         file: LogFile,
@@ -189,10 +190,46 @@ fn read_call(alloc: Global, session: &[u8], call: &[u8]) -> Result<Line, AllocEr
     if verb == b"status".as_slice() {
         return Ok(read_bare(Line::Status(session), words));
     }
+    read_asks(alloc, session, verb, words)
+}
+
+/// What a session asks of its server, or by the verb of a request, and the words behind it.
+fn read_asks(
+    alloc: Global,
+    session: u64,
+    verb: &[u8],
+    words: Option<&[u8]>,
+) -> Result<Line, AllocError>
+    ensures value { (xid_of : List ℕ → Option Triple) → ReadsTexts xid_of →
+        IfOk result (λ said. said ≡ unwrap_or (asks_of xid_of session verb.now (words_behind (option_copied words.entry))) Line.Unknown) }
+    ensures limits { IfOk result IsWithinLimits }
+{
     if verb == b"shutdown".as_slice() {
-        return Ok(read_bare(Line::Shutdown(session), words));
+        return Ok(read_bare(Line::Control(session, Control::Shutdown), words));
+    }
+    if verb == b"hello".as_slice() {
+        let hello = Hello {
+            revision: REVISION,
+            features: 0,
+        };
+        return Ok(read_bare(Line::Control(session, Control::Hello(hello)), words));
+    }
+    if verb == b"metrics".as_slice() {
+        return Ok(read_bare(Line::Control(session, Control::Metrics), words));
+    }
+    if verb == b"disconnect".as_slice() {
+        return Ok(read_disconnect(session, words).unwrap_or(Line::Unknown));
     }
     read_request_of(alloc, session, verb, words)
+}
+
+/// What the word after `disconnect` asks: that the session of that number be hung up.
+fn read_disconnect(session: u64, words: Option<&[u8]>) -> Option<Line>
+    ensures value { result ≡ disconnect_of session (words_behind (option_copied words.entry)) }
+    ensures limits { IfSome result IsWithinLimits }
+{
+    let other = read_number(only_word(words)?)?;
+    Some(Line::Control(session, Control::Disconnect(other)))
 }
 
 /// What a session asks by the verb of a request, and the words behind it.

@@ -25,6 +25,7 @@ enum Part {
     DeviceCall,
     Effect,
     Bytes,
+    Session,
 }
 
 /// Why a line asks nothing, as it is told to people: which word isn't as it has to be, and that word. Lines for disks in
@@ -47,6 +48,7 @@ pub fn mistake_text(alloc: Global, line: &[u8], has_disks: bool) -> Result<Vec<u
     let (verb, words) = first_word(asked);
     match read_verb(verb) {
         Some(call) => first_mistake(alloc, parts_of(call), words),
+        None if verb == b"disconnect".as_slice() => first_mistake(alloc, &[Part::Session], words),
         None if is_bare(verb) => told(alloc, "too many words", words.unwrap_or(verb)),
         None => told(alloc, "call", verb),
     }
@@ -86,7 +88,11 @@ fn is_for_disks(word: &[u8]) -> bool {
 
 /// Whether a word is asked alone.
 fn is_bare(verb: &[u8]) -> bool {
-    verb == b"hangup".as_slice() || verb == b"status".as_slice() || verb == b"shutdown".as_slice()
+    verb == b"hangup".as_slice()
+        || verb == b"status".as_slice()
+        || verb == b"shutdown".as_slice()
+        || verb == b"hello".as_slice()
+        || verb == b"metrics".as_slice()
 }
 
 /// The first word that isn't as such parts have to be.
@@ -143,6 +149,7 @@ fn part_name(part: Part) -> &'static str {
         Part::DeviceCall => "device call",
         Part::Effect => "effect",
         Part::Bytes => "bytes",
+        Part::Session => "session",
     }
 }
 
@@ -168,6 +175,7 @@ fn is_read(alloc: Global, part: Part, word: &[u8]) -> Result<bool, AllocError> {
         Part::DeviceCall => read_call_number(word).is_some(),
         Part::Effect => read_effect(word).is_some(),
         Part::Bytes => read_byte_count(word).is_some(),
+        Part::Session => read_number(word).is_some(),
     })
 }
 

@@ -33,7 +33,7 @@ pub fn styled_line(alloc: Global, reply: &Reply, style: Style) -> Result<Vec<u8>
     Ok(line)
 }
 
-fn line_front(
+pub(crate) fn line_front(
     alloc: Global,
     code: Code,
     detail: Detail,
@@ -201,7 +201,7 @@ fn push_word(line: &mut Vec<u8>, word: &[u8]) -> Result<(), AllocError>
     line.extend_from_slice(word)
 }
 
-fn push_number(alloc: Global, line: &mut Vec<u8>, number: u64) -> Result<(), AllocError>
+pub(crate) fn push_number(alloc: Global, line: &mut Vec<u8>, number: u64) -> Result<(), AllocError>
     ensures { OnOk result (line.new.items ≡ line.old.items ++ 32 ∷ decimal number) }
 {
     let text = format!(in alloc; " {number}")?;

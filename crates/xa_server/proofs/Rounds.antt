@@ -1,5 +1,5 @@
 -- Asks that are answered in an order of the door's own.
-use Rattle.std.proofs.Common.{◌≡◌, ◌∙◌, ℕ, ◌<◌, zero, suc, arith, List, [], ◌∷◌, ◌++◌, get_or, length, set, Option, Some, None, refl, sym, ap, subst, inl, inr}
+use Rattle.std.proofs.Common.{◌≡◌, ◌∙◌, ℕ, ◌<◌, zero, suc, arith, List, [], ◌∷◌, ◌++◌, get_or, length, set, Option, Some, None, refl, sym, ap, subst, ◌⊎◌, inl, inr}
 use Rattle.std.specs.Prelude.{All, IfSome, IsSomeAnd}
 use Rattle.std.proofs.lemmas.List.{set-get_or}
 use Rattle.std.proofs.lemmas.List.Elements.{All-head, All-same, All-weaker}
@@ -96,6 +96,25 @@ module _ {D : Type 0} (called : ℕ → D → Question → Reply → D → Type 
 
   pub none_still : (asks told : List Ask) (d e : D) → asks ≡ [] → TellsSome called d asks told e → told ≡ []
   none_still asks told d e none h = none_each told d e h.0 (subst (λ (xs : List Ask). TellsEach called d xs h.0 told e) none h.1)
+
+-- what is known by a part of a door, asks were answered, or nothing changed
+pub tells_by : {D E : Type 0} (called : ℕ → E → Question → Reply → E → Type 0) (f : D → E) (d e : D) (a b : Ask)
+    → ((b ≡ a) × (e ≡ d)) ⊎ Tells called (f d) a b (f e) → TellsAtMost (λ s x q r y. called s (f x) q r (f y)) d a b e
+tells_by called f d e a b (inl same) = inl same
+tells_by called f d e a b (inr t) = inr (record {
+  key = t.key;
+  session = t.session;
+  connection = t.connection;
+  front = t.front;
+  request = t.request;
+  asked = t.asked;
+  gone = t.gone;
+  told = t.told;
+  limits = t.limits;
+})
+
+abbrev pub TellsBy : {D E : Type 0} → D → (D → E) → (ℕ → E → Question → Reply → E → Type 0) → List Ask → List Ask → D → Type 0
+TellsBy d f called asks told e = TellsSome (λ s x q r y. called s (f x) q r (f y)) d asks told e
 
 -- ---- letters that come back
 

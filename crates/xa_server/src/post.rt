@@ -37,8 +37,8 @@ pub(crate) struct Post<'a, M: GroupCommits, S: Start, B: Book, R> {
 }
 
 impl<'a, M: GroupCommits, S: Start, B: Book, R: Clock + Wait> Post<'a, M, S, B, R> {
-    ghost use Rattle.std.specs.Prelude.{◌≡◌, ◌<◌, ◌≤◌, [], All, IfOk, IsTrue, None, is_none};
-    ghost use Rattle.xa_reactor.specs.Asking.{IsAnswered, TellsSome};
+    ghost use Rattle.std.specs.Prelude.{◌≡◌, ◌⊎◌, ◌<◌, ◌≤◌, [], All, IfOk, IsTrue, None, is_none};
+    ghost use Rattle.xa_reactor.specs.Asking.{HasRequest, IsAnswered, Tells, TellsSome};
     ghost use Rattle.xa_server.specs.{Believed.Loops.Called, Rounds.IsWithin, Rounds.TakesBack, Rounds.TellsAtMost};
     ghost use Rattle.xa_server.specs.Believed.Watching.{IsSeenLast};
     ghost use Rattle.xa_tokens.specs.Believed.Account.{Owes};
@@ -189,8 +189,8 @@ impl<'a, M: GroupCommits, S: Start, B: Book, R: Clock + Wait> Post<'a, M, S, B, 
         held
     }
 
-    // Answers those that are left, one by one; whether they may wait for the device.
-    fn answer_left(&mut self, asks: &mut [Ask], lets_go: bool)
+    // Answers those that are left, one by one.
+    fn answer_left(&mut self, asks: &mut [Ask])
         requires { All IsWithin asks.old }
         ensures some { TellsSome (Called M.manages S.start S.base) self.old.handle.asker asks.old asks.new
             self.new.handle.asker }
@@ -198,15 +198,14 @@ impl<'a, M: GroupCommits, S: Start, B: Book, R: Clock + Wait> Post<'a, M, S, B, 
         ensures none { All IsAnswered asks.new }
         ensures settled { Owes self.old.handle.asker 0 → Owes self.new.handle.asker 0 }
     {
-        let mut held = None;
         for ask in asks.iter_mut() {
-            self.answer(&mut held, ask, lets_go);
+            self.answer(ask);
         }
     }
 
-    // Answers an ask that is left. The next one goes on by the same lock, but not after a call that may have waited for the
-    // device: others have their turn first. One that a pending group holds up waits until that is finished.
-    fn answer(&mut self, held: &mut Option<Held<'a, M, S, B>>, ask: &mut Ask, lets_go: bool)
+    // Answers an ask that is left; one that a pending group holds up waits until that is finished. As it may have waited for
+    // the device, others have their turn behind it.
+    fn answer(&mut self, ask: &mut Ask)
         requires { IsWithin ask.old }
         ensures told { TellsAtMost (Called M.manages S.start S.base) self.old.handle.asker ask.old ask.new
             self.new.handle.asker }
@@ -214,26 +213,35 @@ impl<'a, M: GroupCommits, S: Start, B: Book, R: Clock + Wait> Post<'a, M, S, B, 
         ensures settled { Owes self.old.handle.asker 0 → Owes self.new.handle.asker 0 }
     {
         if let Some(request) = ask.request.take() {
-            let is_restart = self.count(&request, lets_go);
-            let lock = self.lock(held);
-            let (reply, lock) = self.handle.call_held(lock, ask.session, request);
+            let is_restart = self.count(&request, may_log(&request));
+            let held = self.handle.hold();
+            let (reply, held) = self.handle.call_held(held, ask.session, request);
             self.watch.see(self.rt, &mut self.seen, is_restart, &reply);
             ask.reply = reply;
-            if lets_go {
-                drop(lock);
-                yield_now();
-            } else {
-                *held = lock;
-            }
+            drop(held);
+            yield_now();
         }
     }
 
-    // The lock, where it was taken before, or newly taken.
-    fn lock(&self, held: &mut Option<Held<'a, M, S, B>>) -> Held<'a, M, S, B> {
-        match held.take() {
-            Some(lock) => lock,
-            None => self.handle.hold(),
-        }
+    // Answers an ask, under the lock that was taken, unless a pending group holds it up: then nothing changes.
+    fn answer_now(&mut self, held: &mut Held<'a, M, S, B>, ask: &mut Ask)
+        requires { HasRequest ask.old }
+        ensures { ((ask.new ≡ ask.old) × (self.new ≡ self.old))
+            ⊎ Tells (Called M.manages S.start S.base) self.old.handle.asker ask.old ask.new self.new.handle.asker }
+    {
+        let Some(request) = ask.request.take() else {
+            unreachable!()
+        };
+        let is_restart = is_restart(&request);
+        let reply = match self.handle.call_now(held, ask.session, request) {
+            Ok(reply) => reply,
+            Err(request) => {
+                ask.request = Some(request);
+                return;
+            }
+        };
+        self.watch.see(self.rt, &mut self.seen, is_restart, &reply);
+        ask.reply = reply;
     }
 
     // A request is to be answered that may log, or not. Whether it is a Restart.
@@ -315,11 +323,14 @@ impl<M: GroupCommits, S: Start, B: Book, R: Clock + Wait> Reception for Post<'_,
 
     fn call_all(&mut self, asks: &mut [Ask]) {
         self.take_back(asks);
-        self.answer_left(asks, true);
+        self.answer_left(asks);
     }
 
     fn call_quick(&mut self, asks: &mut [Ask]) {
-        self.answer_left(asks, false);
+        let mut held = self.handle.hold();
+        for ask in asks.iter_mut() {
+            self.answer_now(&mut held, ask);
+        }
     }
 
     fn may_wait(&self, request: &Request) -> bool {

@@ -2,7 +2,11 @@
 use Rattle.std.specs.Int.{to_be_bytes, w32}
 use Rattle.std.specs.Prelude.{ℕ, ◌≡◌, ◌<◌, ◌⊎◌, List, [], Option, Some, None, Result, Ok, Err}
 use Rattle.std.specs.Io.KnownBytes.{Appends, Consumes, IsAtEnd}
+use Rattle.xa_control.specs.Answers.{SpellsAnswer}
+use Rattle.xa_control.specs.Controls.{bytes_of_control}
 use Rattle.xa_control.specs.Shutdown.{shutdown_content}
+use Rattle.xa_control.specs.declared.answer.Answer.{Answer}
+use Rattle.xa_control.specs.declared.control.Control.{Control}
 use Rattle.xa_desk.specs.Believed.Frames.{frame}
 use Rattle.xa_frame.specs.declared.question.Question.{Question}
 use Rattle.xa_frame.specs.declared.reply.Reply.{Reply}
@@ -20,6 +24,10 @@ question_frame question = frame (bytes_of_question question)
 abbrev pub shutdown_frame : List ℕ
 shutdown_frame = frame shutdown_content
 
+-- what asks a server something
+abbrev pub control_frame : Control → List ℕ
+control_frame control = frame (bytes_of_control control)
+
 -- some first bytes of a frame are sent, or all
 abbrev pub SendsPart : List ℕ → Option (List ℕ) → Option (List ℕ) → Type 0
 SendsPart text output output' = (sent : List ℕ) × IsFront sent text × Appends output output' sent
@@ -34,12 +42,6 @@ IsBroken _ = ⊥
 abbrev pub Sends : {X : Type 0} → List ℕ → Result X TalkFault → Option (List ℕ) → Option (List ℕ) → Type 0
 Sends text (Ok x) output output' = Appends output output' text
 Sends text (Err fault) output output' = IsBroken fault × SendsPart text output output'
-
--- a length that no frame has, or a frame that spells no reply
-abbrev pub IsNoReply : List ℕ → Type 0
-IsNoReply read =
-    ((n : ℕ) × (MOST_CONTENT < n) × (read ≡ to_be_bytes w32 n))
-    ⊎ ((content : List ℕ) × (read ≡ frame content) × ((reply : Reply) → SpellsReply content reply → ⊥))
 
 -- the connection ended, with no byte left to read
 abbrev pub Closes : Option (List ℕ) → Option (List ℕ) → Type 0
@@ -56,27 +58,62 @@ abbrev pub LacksContent : ℕ → TalkFault → Option (List ℕ) → Option (Li
 LacksContent n NoReply input input' = (MOST_CONTENT < n) × (input' ≡ input)
 LacksContent n fault input input' = IsBroken fault
 
--- the frame of this reply is read, or what is no reply; or the connection ended before its first byte
-abbrev pub Receives : Result (Option Reply) TalkFault → Option (List ℕ) → Option (List ℕ) → Type 0
-Receives (Ok None) input input' = Closes input input'
-Receives (Ok (Some reply)) input input' =
-    (content : List ℕ) × SpellsReply content reply × Consumes input input' (frame content)
-Receives (Err NoReply) input input' = (read : List ℕ) × IsNoReply read × Consumes input input' read
-Receives (Err fault) input input' = IsBroken fault
+-- no frame is read: its length is none's, or the connection ended or failed, or memory ran out
+abbrev pub LacksFrame : TalkFault → Option (List ℕ) → Option (List ℕ) → Type 0
+LacksFrame NoReply input input' = (n : ℕ) × (MOST_CONTENT < n) × Consumes input input' (to_be_bytes w32 n)
+LacksFrame fault input input' = IsBroken fault
 
--- A frame is sent, and then the frame of this reply is read, or what is no reply, or the connection ended before that.
--- Where it broke or memory ran out, some first bytes were sent, or all.
+-- of answers that are spelled so
+module _ {A : Type 0} (Spelled : List ℕ → A → Type 0) where
+  -- a length that no frame has, or a frame that spells no answer
+  abbrev pub IsNone : List ℕ → Type 0
+  IsNone read =
+      ((n : ℕ) × (MOST_CONTENT < n) × (read ≡ to_be_bytes w32 n))
+      ⊎ ((content : List ℕ) × (read ≡ frame content) × ((answer : A) → Spelled content answer → ⊥))
+
+  -- the frame of this answer is read, or what is none; or the connection ended before its first byte
+  abbrev pub ReceivesBy : Result (Option A) TalkFault → Option (List ℕ) → Option (List ℕ) → Type 0
+  ReceivesBy (Ok None) input input' = Closes input input'
+  ReceivesBy (Ok (Some answer)) input input' =
+      (content : List ℕ) × Spelled content answer × Consumes input input' (frame content)
+  ReceivesBy (Err NoReply) input input' = (read : List ℕ) × IsNone read × Consumes input input' read
+  ReceivesBy (Err fault) input input' = IsBroken fault
+
+  -- A frame is sent, and then the frame of this answer is read, or what is none, or the connection ended before that.
+  -- Where it broke or memory ran out, some first bytes were sent, or all.
+  abbrev pub AskedBy : List ℕ → Result (Option A) TalkFault → Option (List ℕ) → Option (List ℕ) → Option (List ℕ)
+      → Option (List ℕ) → Type 0
+  AskedBy text (Ok answer) output output' input input' =
+      Appends output output' text × ReceivesBy (Ok answer) input input'
+  AskedBy text (Err NoReply) output output' input input' =
+      Appends output output' text × ReceivesBy (Err NoReply) input input'
+  AskedBy text (Err fault) output output' input input' = IsBroken fault × SendsPart text output output'
+
+  -- the same where an answer is to come: a connection that ended before it broke
+  abbrev pub BroughtBy : List ℕ → Result A TalkFault → Option (List ℕ) → Option (List ℕ) → Option (List ℕ)
+      → Option (List ℕ) → Type 0
+  BroughtBy text (Ok answer) output output' input input' = AskedBy text (Ok (Some answer)) output output' input input'
+  BroughtBy text (Err fault) output output' input input' = AskedBy text (Err fault) output output' input input'
+
+-- a frame is sent, and a reply awaited: one is read, or what is none, or the connection ended before that
+abbrev pub Receives : Result (Option Reply) TalkFault → Option (List ℕ) → Option (List ℕ) → Type 0
+Receives = ReceivesBy SpellsReply
+
 abbrev pub Asked : List ℕ → Result (Option Reply) TalkFault → Option (List ℕ) → Option (List ℕ) → Option (List ℕ)
     → Option (List ℕ) → Type 0
-Asked text (Ok answer) output output' input input' = Appends output output' text × Receives (Ok answer) input input'
-Asked text (Err NoReply) output output' input input' =
-    Appends output output' text × Receives (Err NoReply) input input'
-Asked text (Err fault) output output' input input' = IsBroken fault × SendsPart text output output'
+Asked = AskedBy SpellsReply
 
--- the same of a question, whose reply is to come: a connection that ended before it broke
+-- the same of a frame whose reply is to come
+abbrev pub Brought : List ℕ → Result Reply TalkFault → Option (List ℕ) → Option (List ℕ) → Option (List ℕ)
+    → Option (List ℕ) → Type 0
+Brought = BroughtBy SpellsReply
+
+-- of a question
 abbrev pub Exchanged : Question → Result Reply TalkFault → Option (List ℕ) → Option (List ℕ) → Option (List ℕ)
     → Option (List ℕ) → Type 0
-Exchanged question (Ok reply) output output' input input' =
-    Asked (question_frame question) (Ok (Some reply)) output output' input input'
-Exchanged question (Err fault) output output' input input' =
-    Asked (question_frame question) (Err fault) output output' input input'
+Exchanged question = Brought (question_frame question)
+
+-- of what a server is asked, whose own answer is to come
+abbrev pub Tells : Control → Result Answer TalkFault → Option (List ℕ) → Option (List ℕ) → Option (List ℕ)
+    → Option (List ℕ) → Type 0
+Tells control = BroughtBy SpellsAnswer (control_frame control)

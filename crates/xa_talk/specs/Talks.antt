@@ -5,14 +5,20 @@ use Rattle.std.specs.Io.KnownBytes.{Appends, Consumes, IsAtEnd, Keeps}
 use Rattle.std.specs.Ordering.{int_eq}
 use Rattle.std.specs.Prelude.{ℕ, ◌≡◌, ◌<◌, ◌⊎◌, pos, Bool, true, false, not, ◌&&◌, List, [], ◌∷◌, ◌++◌, length, Option, Some, None, IfSome, Result, Ok, Err, IsErrOf, MatchBool}
 use Rattle.xa_codes.specs.declared.codes.TheConstants.{XA_RDONLY}
+use Rattle.xa_control.specs.declared.answer.Answer.{Answer}
+use Rattle.xa_control.specs.declared.answer.Answer.TheVariants as own
 use Rattle.xa_frame.specs.declared.body.Body.{Body}
 use Rattle.xa_frame.specs.declared.body.Body.TheVariants.{Xids}
 use Rattle.xa_frame.specs.declared.reply.Reply.{Reply}
 use Rattle.xa_output.specs.Output.{IsFront}
+use Rattle.xa_script.specs.Answers.{answer_line}
 use Rattle.xa_script.specs.Lines as lines
 use Rattle.xa_script.specs.Replies as replies
 use Rattle.xa_script.specs.Requests.{ReadsTexts}
+use Rattle.xa_script.specs.declared.style.Style.{Style}
 use Rattle.xa_xid.specs.Triple.{Triple}
+use Rattle.xa_talk.specs.declared.answered.Answered.{Answered}
+use Rattle.xa_talk.specs.declared.answered.Answered.TheVariants as answered
 use Rattle.xa_talk.specs.declared.fault.TalkFault.{TalkFault}
 use Rattle.xa_talk.specs.declared.fault.TalkFault.TheVariants.{Memory, Read, Refused, Write}
 use Rattle.xa_talk.specs.declared.manner.Manner.{Manner}
@@ -24,29 +30,43 @@ is_listing (Xids xids) = true
 is_listing _ = false
 
 -- A reply is an error: its code is neither 0 nor that of a branch that has nothing to commit, nor how many XIDs are listed.
-abbrev pub is_error : Reply → Bool
-is_error reply = (not (int_eq reply.code (pos 0)) && not (int_eq reply.code XA_RDONLY)) && not (is_listing reply.body)
+abbrev pub refuses : Reply → Bool
+refuses reply = (not (int_eq reply.code (pos 0)) && not (int_eq reply.code XA_RDONLY)) && not (is_listing reply.body)
+
+abbrev pub is_refusal : Answer → Bool
+is_refusal (own.Refused code detail) = true
+is_refusal _ = false
+
+-- what a line is answered is an error
+abbrev pub is_error : Answered → Bool
+is_error (answered.Reply reply) = refuses reply
+is_error (answered.Control answer) = is_refusal answer
 
 -- a script that is talked strictly ends at an error
-abbrev pub ends_at : Bool → Reply → Bool
-ends_at strict reply = strict && is_error reply
+abbrev pub ends_at : Bool → Answered → Bool
+ends_at strict answer = strict && is_error answer
 
--- The line of a reply is written, and the script ends there if it is an error and the script is talked strictly. Where it
+-- the line that shows it in a style
+abbrev pub answered_line : Style → Answered → List ℕ
+answered_line style (answered.Reply reply) = replies.line_in style reply
+answered_line style (answered.Control answer) = answer_line style.has_names answer
+
+-- The line of an answer is written, and the script ends there if it is an error and the script is talked strictly. Where it
 -- failed, nothing, without memory, or some first bytes.
-abbrev pub Shows : {X : Type 0} → Manner → Reply → Result X TalkFault → List ℕ → Type 0
-Shows manner reply (Ok x) text =
-    (text ≡ replies.line_in manner.style reply) × (ends_at manner.is_strict reply ≡ false)
-Shows manner reply (Err Refused) text =
-    (text ≡ replies.line_in manner.style reply) × (ends_at manner.is_strict reply ≡ true)
-Shows manner reply (Err Memory) text = text ≡ []
-Shows manner reply (Err Write) text = IsFront text (replies.line_in manner.style reply)
-Shows manner reply (Err fault) text = ⊥
+abbrev pub Shows : {X : Type 0} → Manner → Answered → Result X TalkFault → List ℕ → Type 0
+Shows manner answer (Ok x) text =
+    (text ≡ answered_line manner.style answer) × (ends_at manner.is_strict answer ≡ false)
+Shows manner answer (Err Refused) text =
+    (text ≡ answered_line manner.style answer) × (ends_at manner.is_strict answer ≡ true)
+Shows manner answer (Err Memory) text = text ≡ []
+Shows manner answer (Err Write) text = IsFront text (answered_line manner.style answer)
+Shows manner answer (Err fault) text = ⊥
 
--- what is written behind an answer: nothing where there is no reply, and a fault is told on
-abbrev pub ShowsAnswer : {X : Type 0} → Manner → Result (Option Reply) TalkFault → Result X TalkFault → List ℕ → Type 0
+-- what is written behind an answer: nothing where there is none, and a fault is told on
+abbrev pub ShowsAnswer : {X : Type 0} → Manner → Result (Option Answered) TalkFault → Result X TalkFault → List ℕ → Type 0
 ShowsAnswer manner (Ok None) (Ok x) text = text ≡ []
 ShowsAnswer manner (Ok None) (Err fault) text = ⊥
-ShowsAnswer manner (Ok (Some reply)) end text = Shows manner reply end text
+ShowsAnswer manner (Ok (Some answer)) end text = Shows manner answer end text
 ShowsAnswer manner (Err fault) (Ok x) text = ⊥
 ShowsAnswer manner (Err fault) (Err told) text = (told ≡ fault) × (text ≡ [])
 
@@ -61,7 +81,7 @@ abbrev pub LineAsked : {C X : Type 0} → Manner → (C → Option (List ℕ)) �
     → List ℕ → List (Option C) → List (Option C) → Type 0
 LineAsked manner sent left line end text numbered numbered' =
     (IsErrOf end Memory × (text ≡ []) × (numbered' ≡ numbered))
-    ⊎ ((answer : Result (Option Reply) TalkFault) × ShowsAnswer manner answer end text
+    ⊎ ((answer : Result (Option Answered) TalkFault) × ShowsAnswer manner answer end text
     × ((xid_of : List ℕ → Option Triple) → ReadsTexts xid_of
     → LineAnswered sent left (lines.line_of xid_of line) answer numbered numbered'))
 

@@ -4,7 +4,9 @@ ghost use Rattle.xa_frame.specs.Questions.{IsQuestion};
 ghost use Rattle.xa_script.specs.Lines as lines;
 ghost use Rattle.xa_talk.specs.Answers.{CallAnswered, ConnectAnswered, EndAnswered, EndAsked, LineAnswered, shown};
 
+use crate::answered::Answered;
 use crate::connections::{Connections, index_of};
+use crate::controlling::control;
 use crate::dial::{Connection, Dial};
 use crate::exchanging::{ask_end, exchange};
 use crate::fault::TalkFault;
@@ -23,7 +25,7 @@ pub fn answer<R: Read + Drop, W: Write + Drop, D: Dial<R, W>>(
     dial: &mut D,
     connections: &mut Connections<R, W>,
     said: Line,
-) -> Result<Option<Reply>, TalkFault>
+) -> Result<Option<Answered>, TalkFault>
     requires { lines.IsWithinLimits said }
     ensures { LineAnswered (λ c. W.contents c.writer) (λ c. R.remaining c.reader) said result
         connections.old.numbered.items connections.new.numbered.items }
@@ -35,24 +37,24 @@ pub fn answer<R: Read + Drop, W: Write + Drop, D: Dial<R, W>>(
             if let Some(connection) = connections.take(number) {
                 dial.hang_up(connection);
             }
-            Ok(Some(Reply::plain(XA_OK)))
+            Ok(Some(Answered::Reply(Reply::plain(XA_OK))))
         }
         Line::Call(number, request) => {
             shown(call(alloc, connections, number, &Question::Call(request)))
         }
         Line::Status(number) => shown(call(alloc, connections, number, &Question::Status)),
-        Line::Shutdown(number) => shown(end(alloc, connections, number)),
+        Line::Control(number, asked) => control(alloc, connections, number, &asked),
         Line::Unknown | Line::Fail { .. } | Line::Stop { .. } | Line::Reopen | Line::Crash { .. } =>
-            Ok(Some(Reply::bad_frame())),
+            Ok(Some(Answered::Reply(Reply::bad_frame()))),
     }
 }
 
 /// A reply is shown, a fault isn't.
-fn shown(answer: Result<Reply, TalkFault>) -> Result<Option<Reply>, TalkFault>
+pub(crate) fn shown(answer: Result<Reply, TalkFault>) -> Result<Option<Answered>, TalkFault>
     ensures { result ≡ shown answer }
 {
     match answer {
-        Ok(reply) => Ok(Some(reply)),
+        Ok(reply) => Ok(Some(Answered::Reply(reply))),
         Err(fault) => Err(fault),
     }
 }
@@ -102,7 +104,7 @@ fn call<R: Read + Drop, W: Write + Drop>(
 }
 
 /// Asks the server to end over the connection of a number, which is gone if the server closes it.
-fn end<R: Read + Drop, W: Write + Drop>(
+pub(crate) fn end<R: Read + Drop, W: Write + Drop>(
     alloc: Global,
     connections: &mut Connections<R, W>,
     number: u64,

@@ -3,15 +3,16 @@ ghost use Rattle.std.specs.Io.KnownBytes.{Consumes};
 ghost use Rattle.std.specs.Prelude.{◌≡◌, Err, IfOk, MatchOption, MatchResult, length};
 ghost use Rattle.xa_desk.specs.Believed.Frames.{frame};
 ghost use Rattle.xa_frame.specs.Questions.{IsQuestion};
-ghost use Rattle.xa_talk.specs.Exchanges.{Asked, Closes, Exchanged, LacksContent, ReadsLength, Receives, Sends, question_frame};
-ghost use Rattle.xa_talk.specs.Exchanges.{shutdown_frame};
+ghost use Rattle.xa_control.specs.Answers.{SpellsAnswer};
+ghost use Rattle.xa_talk.specs.Exchanges.{Asked, Brought, Closes, Exchanged, LacksContent, LacksFrame, ReadsLength, Receives, ReceivesBy};
+ghost use Rattle.xa_talk.specs.Exchanges.{Sends, Tells, control_frame, question_frame, shutdown_frame};
 
 use crate::dial::Connection;
 use crate::fault::TalkFault;
 use std::alloc::{AllocError, Global};
 use std::io::{Read, Write};
 use xa_bytes::{number_of, put_u32};
-use xa_control::SHUTDOWN;
+use xa_control::{Answer, Control, SHUTDOWN, answer_of, control_content};
 use xa_frame::{FrameFault, Question, Reply, decode_reply, encode_question};
 use xa_limits::MOST_CONTENT;
 use xa_output::write_text;
@@ -28,7 +29,53 @@ pub fn exchange<R: Read, W: Write>(
         (R.remaining connection.old.reader) (R.remaining connection.new.reader) }
 {
     let frame = frame_of(alloc, question)?;
-    match ask(alloc, connection, frame.as_slice()) {
+    exchange_frame(alloc, connection, frame.as_slice())
+}
+
+/// Asks a server something that it answers by a reply: with a body that a reply may have, or none.
+pub fn exchange_control<R: Read, W: Write>(
+    alloc: Global,
+    connection: &mut Connection<R, W>,
+    control: &Control,
+) -> Result<Reply, TalkFault>
+    ensures { Brought (control_frame control.now) result
+        (W.contents connection.old.writer) (W.contents connection.new.writer)
+        (R.remaining connection.old.reader) (R.remaining connection.new.reader) }
+{
+    let frame = control_frame_of(alloc, control)?;
+    exchange_frame(alloc, connection, frame.as_slice())
+}
+
+/// Asks a server something, and gives its answer.
+pub fn ask_control<R: Read, W: Write>(
+    alloc: Global,
+    connection: &mut Connection<R, W>,
+    control: &Control,
+) -> Result<Answer, TalkFault>
+    ensures { Tells control.now result
+        (W.contents connection.old.writer) (W.contents connection.new.writer)
+        (R.remaining connection.old.reader) (R.remaining connection.new.reader) }
+{
+    let frame = control_frame_of(alloc, control)?;
+    send(&mut connection.writer, frame.as_slice())?;
+    match receive_answer(alloc, &mut connection.reader) {
+        Ok(Some(answer)) => Ok(answer),
+        Ok(None) => Err(TalkFault::Broken),
+        Err(fault) => Err(fault),
+    }
+}
+
+/// Sends a frame, and gives the reply that comes back.
+fn exchange_frame<R: Read, W: Write>(
+    alloc: Global,
+    connection: &mut Connection<R, W>,
+    frame: &[u8],
+) -> Result<Reply, TalkFault>
+    ensures { Brought frame.now result
+        (W.contents connection.old.writer) (W.contents connection.new.writer)
+        (R.remaining connection.old.reader) (R.remaining connection.new.reader) }
+{
+    match ask(alloc, connection, frame) {
         Ok(Some(reply)) => Ok(reply),
         Ok(None) => Err(TalkFault::Broken),
         Err(fault) => Err(fault),
@@ -85,6 +132,17 @@ fn frame_of(alloc: Global, question: &Question) -> Result<Vec<u8>, AllocError>
     Ok(bytes)
 }
 
+/// The same of what a server is asked.
+fn control_frame_of(alloc: Global, control: &Control) -> Result<Vec<u8>, AllocError>
+    ensures { IfOk result (λ bytes. bytes.items ≡ control_frame control.now) }
+{
+    let content = control_content(alloc, control)?;
+    let mut bytes = Vec::with_capacity(alloc, 4 + content.len())?;
+    put_u32(&mut bytes, content.len() as u32)?;
+    bytes.extend_from_slice(content.as_slice())?;
+    Ok(bytes)
+}
+
 /// Reads the frame of a reply, or finds none.
 fn receive<R: Read>(alloc: Global, reader: &mut R) -> Result<Option<Reply>, TalkFault>
     ensures { Receives result (R.remaining reader.old) (R.remaining reader.new) }
@@ -99,12 +157,25 @@ fn receive<R: Read>(alloc: Global, reader: &mut R) -> Result<Option<Reply>, Talk
     }
 }
 
+/// Reads the frame of a server's own answer, or finds none.
+fn receive_answer<R: Read>(alloc: Global, reader: &mut R) -> Result<Option<Answer>, TalkFault>
+    ensures { ReceivesBy SpellsAnswer result (R.remaining reader.old) (R.remaining reader.new) }
+{
+    let Some(content) = read_content(alloc, reader)? else {
+        return Ok(None);
+    };
+    match answer_of(alloc, content.as_slice())? {
+        Some(answer) => Ok(Some(answer)),
+        None => Err(TalkFault::NoReply),
+    }
+}
+
 /// Reads the content of a frame, or finds none.
 fn read_content<R: Read>(alloc: Global, reader: &mut R) -> Result<Option<Vec<u8>>, TalkFault>
     ensures { MatchResult result
         (λ content. MatchOption content (Closes (R.remaining reader.old) (R.remaining reader.new))
         (λ bytes. Consumes (R.remaining reader.old) (R.remaining reader.new) (frame bytes.items)))
-        (λ fault. Receives (Err fault) (R.remaining reader.old) (R.remaining reader.new)) }
+        (λ fault. LacksFrame fault (R.remaining reader.old) (R.remaining reader.new)) }
 {
     let Some(count) = read_length(reader)? else {
         return Ok(None);

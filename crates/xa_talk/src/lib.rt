@@ -4,10 +4,11 @@
 //!   line of its reply as soon as it is there; `read_next`, one line; `without_end`
 //! - `manner`: `Manner`, how a script is talked; `prompter`: `Prompter`, who is told that a line is awaited; `help`: the calls, as
 //!   who types a script is shown them
-//! - `answer`: what one line is answered; `MOST_CONNECTIONS`
+//! - `answer`: what one line is answered; `MOST_CONNECTIONS`; `controlling`: the same of what asks the server itself; `answered`:
+//!   `Answered`, an answer, and how it is shown
 //! - `connections`: the script's connections by their numbers
-//! - `exchanging`: `exchange`, a question that goes over a connection, and its reply that comes back; `ask_end`, what asks
-//!   a server to end
+//! - `exchanging`: `exchange`, a question that goes over a connection, and its reply that comes back; `ask_control` and
+//!   `exchange_control`, the same of what asks a server something; `ask_end`, what asks it to end
 //! - `dial`: `Dial`, what opens connections, and `Connection`
 //! - `fault`: `TalkFault`, why a script wasn't talked to its end
 //!
@@ -19,7 +20,9 @@
 #![tactic(auto)]
 
 mod answer;
+mod answered;
 mod connections;
+mod controlling;
 mod dial;
 mod exchanging;
 mod fault;
@@ -36,7 +39,7 @@ mod ticker;
 
 pub use answer::MOST_CONNECTIONS;
 pub use dial::{Connection, Dial};
-pub use exchanging::{ask_end, exchange};
+pub use exchanging::{ask_end, exchange, exchange_control};
 pub use fault::TalkFault;
 pub use manner::Manner;
 pub use prompter::Prompter;

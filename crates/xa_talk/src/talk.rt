@@ -4,9 +4,10 @@ ghost use Rattle.std.specs.Io.KnownBytes.{Appends};
 ghost use Rattle.std.specs.IoError.{error_kind};
 ghost use Rattle.std.specs.Prelude.{◌≡◌, ◌≢◌, List, ℕ};
 ghost use Rattle.xa_talk.specs.declared.dial.Connection.{Connection};
-ghost use Rattle.xa_talk.specs.Talks.{Helps, LineTalked, NextRead, Shows, Talks, ends_at, is_error, is_listing};
+ghost use Rattle.xa_talk.specs.Talks.{Helps, LineTalked, NextRead, Shows, Talks, ends_at};
 
 use crate::answer::answer;
+use crate::answered::{Answered, answered_line, is_error};
 use crate::connections::Connections;
 use crate::dial::Dial;
 use crate::fault::TalkFault;
@@ -15,10 +16,8 @@ use crate::manner::Manner;
 use crate::prompter::Prompter;
 use std::alloc::Global;
 use std::io::{BufRead, Error, ErrorKind, Read, Write};
-use xa_codes::{XA_OK, XA_RDONLY};
-use xa_frame::{Body, Reply};
 use xa_output::write_text;
-use xa_script::{Line, Teller, read_line, styled_line};
+use xa_script::{Line, Teller, read_line};
 
 /// Reads a script line by line. Each line is answered, and its reply written in a style and flushed, before the next one
 /// is read. Where the script is typed, the line `help` is answered with the calls. Before each line the prompter is told.
@@ -98,10 +97,10 @@ fn talk_line<O: Write, R: Read + Drop, W: Write + Drop, D: Dial<R, W>, T: Teller
     }
     let said = read_line(alloc, line)?;
     tell_unasked(teller, index, line, &said);
-    let Some(reply) = answer(alloc, dial, connections, said)? else {
+    let Some(answered) = answer(alloc, dial, connections, said)? else {
         return Ok(());
     };
-    write_reply(alloc, output, &reply, manner)
+    write_answer(alloc, output, &answered, manner)
 }
 
 /// Tells of a line that asks nothing which a server could be asked.
@@ -129,23 +128,23 @@ fn write_help<O: Write>(output: &mut O) -> Result<(), TalkFault>
     }
 }
 
-/// Writes the line of a reply, and flushes it.
-fn write_reply<O: Write>(
+/// Writes the line of an answer, and flushes it.
+fn write_answer<O: Write>(
     alloc: Global,
     output: &mut O,
-    reply: &Reply,
+    answered: &Answered,
     manner: Manner,
 ) -> Result<(), TalkFault>
     ensures { (text : List ℕ) × Appends (O.contents output.old) (O.contents output.new) text
-        × Shows manner reply.now result text }
+        × Shows manner answered.now result text }
 {
-    let text = styled_line(alloc, reply, manner.style)?;
+    let text = answered_line(alloc, answered, manner.style)?;
     if !write_text(output, text.as_slice()) {
         return Err(TalkFault::Write);
     }
     match output.flush() {
         Ok(()) => {
-            if ends_at(reply, manner.is_strict) {
+            if ends_at(answered, manner.is_strict) {
                 Err(TalkFault::Refused)
             } else {
                 Ok(())
@@ -155,28 +154,11 @@ fn write_reply<O: Write>(
     }
 }
 
-/// Whether a script ends at a reply.
-fn ends_at(reply: &Reply, is_strict: bool) -> bool
-    ensures { result ≡ ends_at is_strict reply.now }
+/// Whether a script ends at an answer.
+fn ends_at(answered: &Answered, is_strict: bool) -> bool
+    ensures { result ≡ ends_at is_strict answered.now }
 {
-    is_strict && is_error(reply)
-}
-
-/// Whether a reply is an error: its code is neither 0 nor that of a branch that has nothing to commit, nor how many XIDs
-/// are listed.
-fn is_error(reply: &Reply) -> bool
-    ensures { result ≡ is_error reply.now }
-{
-    reply.code != XA_OK && reply.code != XA_RDONLY && !is_listing(&reply.body)
-}
-
-fn is_listing(body: &Body) -> bool
-    ensures { result ≡ is_listing body.now }
-{
-    match body {
-        Body::Xids(_) => true,
-        _ => false,
-    }
+    is_strict && is_error(answered)
 }
 
 /// A line without the line feed that ends it.

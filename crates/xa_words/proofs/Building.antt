@@ -5,10 +5,10 @@ use Rattle.clap.specs.Simple.{App, Shape, new_app, with_rule, with_subcommand}
 use Rattle.clap.specs.Walk.{Rule}
 use Rattle.clap.specs.declared.builder.arg.Arg.{Arg}
 use Rattle.clap.specs.declared.builder.command.Command.{Command}
-use Rattle.xa_words.specs.Line.{HasRule, HasShape, IsApp, direction_rule, format_rule, host_rule, play_name_rule, port_rule, print_script_rule, seconds_rule, socket_rule, verb_shape, with_given, xid_rule, yes_rule}
-use Rattle.xa_words.specs.Verbs.{decides, lists, names_branch, names_direction, opens_session, verb_text}
+use Rattle.xa_words.specs.Line.{HasRule, HasShape, IsApp, direction_rule, format_rule, host_rule, play_name_rule, port_rule, print_script_rule, seconds_rule, session_rule, socket_rule, verb_shape, with_given, xid_rule, yes_rule}
+use Rattle.xa_words.specs.Verbs.{decides, lists, names_branch, names_direction, names_session, opens_session, verb_text}
 use Rattle.xa_words.specs.declared.verb.Verb.{Verb}
-use Rattle.xa_words.specs.declared.verb.Verb.TheVariants.{Status, Branches, Recover, Commit, Rollback, Forget, Decide, Doom, Trim, Restart, RollbackMarked}
+use Rattle.xa_words.specs.declared.verb.Verb.TheVariants.{Status, Branches, Recover, Commit, Rollback, Forget, Decide, Doom, Disconnect, Trim, Restart, RollbackMarked}
 
 pub adds_rule : (old : Command) (arg : Arg) (new : Command) (app : App) (rule : Rule) → IsApp app old → HasRule rule arg
     → AddsArg old arg new → IsApp (with_rule app rule) new
@@ -65,7 +65,7 @@ shaped (Err e) app shape same builds = tt
 abbrev pub built_app : Verb → App
 built_app verb =
     with_given (decides verb) yes_rule (with_rule (with_given (lists verb) format_rule (with_rule (with_given (opens_session verb) play_name_rule
-    (with_rule (with_rule (with_rule (with_given (names_branch verb) xid_rule (with_given (names_direction verb) direction_rule (new_app (verb_text verb))))
+    (with_rule (with_rule (with_rule (with_given (names_session verb) session_rule (with_given (names_branch verb) xid_rule (with_given (names_direction verb) direction_rule (new_app (verb_text verb)))))
     port_rule) host_rule) socket_rule)) seconds_rule)) print_script_rule)
 
 pub built_shape : (verb : Verb) → (built_app verb).top ≡ verb_shape verb
@@ -77,6 +77,7 @@ built_shape Rollback = refl
 built_shape Forget = refl
 built_shape Decide = refl
 built_shape Doom = refl
+built_shape Disconnect = refl
 built_shape Trim = refl
 built_shape Restart = refl
 built_shape RollbackMarked = refl

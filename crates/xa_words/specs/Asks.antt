@@ -1,8 +1,5 @@
 -- What the words of a command ask for.
-use Rattle.std.specs.Prelude.{◌≡◌, ◌≢◌, ◌⊎◌, ℕ, Bool, true, false, List, [], Option, Some, None, IsSome, codes, if◌then◌else◌}
-use Rattle.std.specs.Option.{option_map_or}
-use Rattle.std.specs.Str.Parse.{digits_value, without_leading_plus}
-use Rattle.clap.specs.ValueTests.{is_unsigned_in}
+use Rattle.std.specs.Prelude.{◌≡◌, ◌≢◌, ◌⊎◌, ℕ, Bool, true, false, List, [], Option, Some, None, IsSome, codes}
 use Rattle.clap.specs.Walk.{Row, Text, first_of, one_of}
 use Rattle.xa_limits.specs.declared.TheConstants.{MOST_LOG}
 use Rattle.xa_commands.specs.declared.server.Reach.{Reach}
@@ -10,33 +7,17 @@ use Rattle.xa_commands.specs.declared.server.Reach.TheVariants as reach
 use Rattle.xa_service.specs.declared.at.At.{At}
 use Rattle.xa_service.specs.declared.at.At.TheVariants as at
 use Rattle.xa_service.specs.declared.service.TheConstants.{MOST_SERVED}
-pub use Rattle.xa_words.specs.Rows.{text_in}
+pub use Rattle.xa_words.specs.Rows.{most_16, most_64, number_in, number_or, text_in}
 use Rattle.xa_operate.specs.Tasks.{decides}
 use Rattle.xa_operate.specs.declared.format.Format.{Format}
 use Rattle.xa_operate.specs.declared.task.Task.{Task}
 use Rattle.xa_words.specs.Conflicts.{conflict_in}
-use Rattle.xa_words.specs.Orders.{IsMalformedIn, IsNameIn, IsTaskIn, format_by, format_fault, format_named}
+use Rattle.xa_words.specs.Orders.{IsMalformedIn, IsNameIn, IsTaskIn, about_in, format_by, format_fault, format_named}
 use Rattle.xa_words.specs.Verbs.{verb_of}
 use Rattle.xa_words.specs.declared.malformed.Malformed.TheVariants as malformed
 use Rattle.xa_words.specs.declared.verb.Verb.{Verb}
 use Rattle.xa_words.specs.declared.asked.Asked.{Asked}
 use Rattle.xa_words.specs.declared.asked.Asked.TheVariants.{Play, Scan, Check, Serve, Loop, Talk, Tick, Shutdown, Operate, Script, Unconfirmed, Malformed, Conflict, Nowhere}
-
--- the number that a text spells, where it is at most `most`, or the one that stands for none
-abbrev pub number_or : ℕ → ℕ → Text → ℕ
-number_or most absent text =
-    if is_unsigned_in 0 most text then digits_value 10 (without_leading_plus text) else absent
-
--- the greatest numbers of 16 and of 64 bits
-abbrev pub most_16 : ℕ
-most_16 = 65535
-
-abbrev pub most_64 : ℕ
-most_64 = 18446744073709551615
-
--- the number of an argument, or the one that stands for none
-abbrev pub number_in : List Row → Text → ℕ → ℕ → ℕ
-number_in rows id most absent = option_map_or (number_or most absent) (one_of id rows) absent
 
 -- a flag is set
 pub record IsSet (text : Option Text) (flag : Bool) : Type 0 where
@@ -161,10 +142,10 @@ AsksBy command rows (Loop service accepts) =
 AsksBy command rows (Script name task) =
     IsOrder command rows task × IsNameIn rows name.now × IsSet (one_of (codes "print-script") rows) true
 -- what can't be taken back isn't confirmed
-AsksBy command rows (Unconfirmed reach seconds format name task xid) =
+AsksBy command rows (Unconfirmed reach seconds format name task about) =
     IsPrinted command rows task format × IsNameIn rows name.now × IsReachIn rows reach
     × (seconds ≡ number_in rows (codes "seconds") most_64 10)
-    × (xid.now ≡ text_in rows (codes "xid") [])
+    × (about.now ≡ about_in task rows)
     × IsSet (one_of (codes "print-script") rows) false × IsUnconfirmed rows task
 -- that a task be done
 AsksBy command rows (Operate reach seconds format name task) =

@@ -11,9 +11,9 @@ use Rattle.xa_limits.specs.declared.TheConstants.{LEAST_LOG, MOST_LOG}
 use Rattle.xa_service.specs.declared.loop_service.TheConstants.{MOST_LOOPS}
 use Rattle.xa_service.specs.declared.service.TheConstants.{MOST_SERVED, MOST_WORKERS}
 use Rattle.xa_talk.specs.declared.tick.TheConstants.{MOST_EVERY}
-use Rattle.xa_words.specs.Verbs.{decides, lists, names_branch, names_direction, opens_session, verb_text}
+use Rattle.xa_words.specs.Verbs.{decides, lists, names_branch, names_direction, names_session, opens_session, verb_text}
 use Rattle.xa_words.specs.declared.verb.Verb.{Verb}
-use Rattle.xa_words.specs.declared.verb.Verb.TheVariants.{Status, Branches, Recover, Commit, Rollback, Forget, Decide, Doom, Trim, Restart, RollbackMarked}
+use Rattle.xa_words.specs.declared.verb.Verb.TheVariants.{Status, Branches, Recover, Commit, Rollback, Forget, Decide, Doom, Disconnect, Trim, Restart, RollbackMarked}
 
 -- ---- kinds of arguments
 
@@ -122,6 +122,9 @@ direction_rule = required (positional (codes "direction"))
 abbrev pub xid_rule : Rule
 xid_rule = required (positional (codes "xid"))
 
+abbrev pub session_rule : Rule
+session_rule = required (number 1 18446744073709551615 (positional (codes "session")))
+
 abbrev pub seconds_rule : Rule
 seconds_rule = defaulting (codes "10") (number 1 3600 (option (codes "seconds")))
 
@@ -185,7 +188,7 @@ abbrev pub verb_shape : Verb → Shape
 verb_shape verb =
     command_of (verb_text verb)
     (given (names_direction verb) direction_rule ++ given (names_branch verb) xid_rule
-    ++ (port_rule ∷ host_rule ∷ socket_rule ∷ []) ++ given (opens_session verb) play_name_rule ++ (seconds_rule ∷ [])
+    ++ given (names_session verb) session_rule ++ (port_rule ∷ host_rule ∷ socket_rule ∷ []) ++ given (opens_session verb) play_name_rule ++ (seconds_rule ∷ [])
     ++ given (lists verb) format_rule ++ (print_script_rule ∷ []) ++ given (decides verb) yes_rule)
 
 -- the command line without its commands: its version
@@ -209,8 +212,8 @@ question_shapes = verb_shape Status ∷ verb_shape Branches ∷ verb_shape Recov
 
 abbrev pub order_shapes : List Shape
 order_shapes =
-    verb_shape Commit ∷ verb_shape Rollback ∷ verb_shape Forget ∷ verb_shape Decide ∷ verb_shape Doom ∷ verb_shape Trim
-    ∷ verb_shape Restart ∷ verb_shape RollbackMarked ∷ []
+    verb_shape Commit ∷ verb_shape Rollback ∷ verb_shape Forget ∷ verb_shape Decide ∷ verb_shape Doom
+    ∷ verb_shape Disconnect ∷ verb_shape Trim ∷ verb_shape Restart ∷ verb_shape RollbackMarked ∷ []
 
 abbrev pub others : App
 others = with_shapes other_shapes

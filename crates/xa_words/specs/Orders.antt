@@ -5,9 +5,9 @@ use Rattle.xa_codes.specs.declared.direction.Direction.{Direction}
 use Rattle.xa_operate.specs.declared.format.Format.{Format}
 use Rattle.xa_operate.specs.declared.format.Format.TheVariants as format
 use Rattle.xa_operate.specs.declared.task.Task.{Task}
-use Rattle.xa_operate.specs.declared.task.Task.TheVariants.{Status, Metrics, AtWork, Branches, Branch, Abandoned, Recover, RollbackMarked, Commit, Rollback, Forget, Decide, Doom, Trim, Restart}
+use Rattle.xa_operate.specs.declared.task.Task.TheVariants.{Status, Metrics, AtWork, Branches, Branch, Abandoned, Recover, RollbackMarked, Commit, Rollback, Forget, Decide, Doom, Disconnect, Trim, Restart}
 use Rattle.xa_script.specs.Requests.{direction_of, is_name}
-use Rattle.xa_words.specs.Rows.{text_in}
+use Rattle.xa_words.specs.Rows.{most_64, number_in, text_in}
 use Rattle.xa_words.specs.declared.malformed.Malformed.{Malformed}
 use Rattle.xa_words.specs.declared.malformed.Malformed.TheVariants as malformed
 use Rattle.xa_words.specs.declared.verb.Verb.{Verb}
@@ -69,8 +69,15 @@ IsTaskIn command rows (Forget xid) = (command ≡ verb.Forget) × IsXidIn rows x
 IsTaskIn command rows (Decide direction xid) =
     (command ≡ verb.Decide) × IsDirectionIn rows direction × IsXidIn rows xid
 IsTaskIn command rows (Doom xid) = (command ≡ verb.Doom) × IsXidIn rows xid
+IsTaskIn command rows (Disconnect session) =
+    (command ≡ verb.Disconnect) × (session ≡ number_in rows (codes "session") most_64 0)
 IsTaskIn command rows Trim = command ≡ verb.Trim
 IsTaskIn command rows Restart = command ≡ verb.Restart
+
+-- what a task is about, as it was given: the session's number, or the XID, if it names one
+abbrev pub about_in : Task → List Row → Text
+about_in (Disconnect session) rows = text_in rows (codes "session") []
+about_in _ rows = text_in rows (codes "xid") []
 
 -- the word that isn't as it has to be, other than the format
 abbrev pub IsMalformedIn : List Row → Malformed → Type 0

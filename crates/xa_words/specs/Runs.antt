@@ -51,7 +51,7 @@ IsRefusal kind status = status ≡ 2
 -- a resource manager is named as scripts can
 abbrev pub NamesWell : Asked → Type 0
 NamesWell (Operate reach seconds format name task) = is_name name.now ≡ true
-NamesWell (Unconfirmed reach seconds format name task xid) = is_name name.now ≡ true
+NamesWell (Unconfirmed reach seconds format name task about) = is_name name.now ≡ true
 NamesWell _ = Unit {0}
 
 -- a script was played under this name, with files of this size
@@ -98,7 +98,7 @@ module _ {I D C : Type 0} (terminals : Terminals) (T : Type 0) (remaining : I �
       × (exit_status code ≡ operate.status_of end)
   HasDone (Script name task) (Ended code) =
       (end : Result (Unit {0}) OperateFault) × HasShown name.now task end × (exit_status code ≡ operate.status_of end)
-  HasDone (Unconfirmed reach seconds format name task xid) (Ended code) =
+  HasDone (Unconfirmed reach seconds format name task about) (Ended code) =
       HasAsked reach format name.now task (exit_status code)
   HasDone (Malformed what) (Ended code) = exit_status code ≡ 2
   HasDone (Conflict option) (Ended code) = exit_status code ≡ 2

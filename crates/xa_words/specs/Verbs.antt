@@ -2,14 +2,14 @@
 use Rattle.std.specs.Prelude.{ℕ, Bool, true, false, List, [], ◌∷◌, Option, codes, bytes_eq, find}
 use Rattle.std.specs.Option.{option_map}
 use Rattle.xa_words.specs.declared.verb.Verb.{Verb}
-use Rattle.xa_words.specs.declared.verb.Verb.TheVariants.{Status, Branches, Recover, Commit, Rollback, Forget, Decide, Doom, Trim, Restart, RollbackMarked}
+use Rattle.xa_words.specs.declared.verb.Verb.TheVariants.{Status, Branches, Recover, Commit, Rollback, Forget, Decide, Doom, Disconnect, Trim, Restart, RollbackMarked}
 
 -- the words that name one
 abbrev pub named_verbs : List (List ℕ × Verb)
 named_verbs =
     (codes "status", Status) ∷ (codes "branches", Branches) ∷ (codes "recover", Recover) ∷ (codes "commit", Commit)
     ∷ (codes "rollback", Rollback) ∷ (codes "forget", Forget) ∷ (codes "decide", Decide) ∷ (codes "doom", Doom)
-    ∷ (codes "trim", Trim) ∷ (codes "restart", Restart) ∷ (codes "rollback-marked", RollbackMarked) ∷ []
+    ∷ (codes "disconnect", Disconnect) ∷ (codes "trim", Trim) ∷ (codes "restart", Restart) ∷ (codes "rollback-marked", RollbackMarked) ∷ []
 
 abbrev pub verb_of : List ℕ → Option Verb
 verb_of word = option_map (λ entry. entry.1) (find (λ entry. bytes_eq entry.0 word) named_verbs)
@@ -23,6 +23,7 @@ verb_text Rollback = codes "rollback"
 verb_text Forget = codes "forget"
 verb_text Decide = codes "decide"
 verb_text Doom = codes "doom"
+verb_text Disconnect = codes "disconnect"
 verb_text Trim = codes "trim"
 verb_text Restart = codes "restart"
 verb_text RollbackMarked = codes "rollback-marked"
@@ -35,6 +36,11 @@ names_branch Forget = true
 names_branch Decide = true
 names_branch Doom = true
 names_branch _ = false
+
+-- a session is named
+abbrev pub names_session : Verb → Bool
+names_session Disconnect = true
+names_session _ = false
 
 -- a direction is named
 abbrev pub names_direction : Verb → Bool

@@ -72,8 +72,8 @@ pub enum Asked<'a> {
         format: Format,
         name: &'a str,
         task: Task,
-        /// As it was given, where the task names one.
-        xid: &'a str,
+        /// What it is about, as it was given: an XID, or a session's number, where the task names one.
+        about: &'a str,
     },
     /// A word isn't as it has to be.
     Malformed(Malformed),

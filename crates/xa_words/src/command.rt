@@ -126,10 +126,10 @@ fn done<
             format,
             name,
             task,
-            xid,
+            about,
         } => {
             if !terminals.input {
-                unconfirmed(rt, &task, xid)
+                unconfirmed(rt, &task, about)
             } else if let Some(reach) = reach {
                 let mut server = Server::new(rt, reach, seconds);
                 let end = confirm(rt, &mut server, name, &task, format);
@@ -164,7 +164,7 @@ fn accepted<R: AllocGlobal + Eprint + Opens + Files>(
 }
 
 // What can't be taken back wasn't confirmed: it is told what would be done.
-fn unconfirmed<R: Eprint>(rt: &R, task: &Task, xid: &str) -> ExitCode
+fn unconfirmed<R: Eprint>(rt: &R, task: &Task, about: &str) -> ExitCode
     ensures { exit_status result ≡ 2 }
 {
     let would = match task {
@@ -174,6 +174,7 @@ fn unconfirmed<R: Eprint>(rt: &R, task: &Task, xid: &str) -> ExitCode
         Task::Decide(Direction::Commit, _) => "decide to commit the prepared branch ",
         Task::Decide(Direction::Rollback, _) => "decide to roll back the prepared branch ",
         Task::Doom(_) => "mark the branch at work, which can then only be rolled back: ",
+        Task::Disconnect(_) => "hang up, and mark what it is at work on, the session ",
         Task::RollbackMarked =>
             "roll back every branch that is marked and that nobody is at work for",
         Task::Restart => "have the server reread its log, and end all work that isn't prepared",
@@ -187,7 +188,7 @@ fn unconfirmed<R: Eprint>(rt: &R, task: &Task, xid: &str) -> ExitCode
         | Task::Trim => "do what can't be taken back",
     };
     let _ = eprintln!(rt;
-        "error: nothing was done: this would {would}{xid}\n\nGive --yes to do it."
+        "error: nothing was done: this would {would}{about}\n\nGive --yes to do it."
     );
     ExitCode::from(2)
 }

@@ -12,7 +12,8 @@ use crate::arguments::{
     serve_log_bytes, serve_socket, socket, strict, text, tick, trim, workers,
 };
 use crate::operator_arguments::{
-    direction, format, open_name, print_script, seconds, status_format, talk_seconds, xid, yes,
+    direction, format, open_name, print_script, seconds, session, status_format, talk_seconds, xid,
+    yes,
 };
 use crate::verb::Verb;
 use clap::{Arg, Command};
@@ -61,6 +62,7 @@ fn with_orders<'a>(alloc: Global, line: Command<'a>) -> Result<Command<'a>, Allo
         .subcommand(verb_command(alloc, Verb::Forget)?)?
         .subcommand(verb_command(alloc, Verb::Decide)?)?
         .subcommand(verb_command(alloc, Verb::Doom)?)?
+        .subcommand(verb_command(alloc, Verb::Disconnect)?)?
         .subcommand(verb_command(alloc, Verb::Trim)?)?
         .subcommand(verb_command(alloc, Verb::Restart)?)?
         .subcommand(verb_command(alloc, Verb::RollbackMarked)?)
@@ -74,6 +76,7 @@ fn verb_command<'a>(alloc: Global, verb: Verb) -> Result<Command<'a>, AllocError
         .after_help(verb.after_help());
     let command = with_argument(command, direction(alloc), verb.names_direction())?;
     let command = with_argument(command, xid(alloc), verb.names_branch())?;
+    let command = with_argument(command, session(alloc), verb.names_session())?;
     let command = command
         .arg(port(alloc))?
         .arg(host(alloc))?

@@ -4,7 +4,8 @@ ghost use Rattle.clap.specs.Matches.{found_of};
 ghost use Rattle.clap.specs.Walk.{rows_of};
 ghost use Rattle.xa_words.specs.Asks.{AsksBy, IsConfirmed, IsUnconfirmed, text_in};
 ghost use Rattle.xa_script.specs.Requests.{direction_of, is_name};
-ghost use Rattle.xa_words.specs.Orders.{IsDirectionIn, IsMalformedIn, IsTaskIn, IsXidIn, format_by, format_fault, format_named, is_metrics, status_format};
+ghost use Rattle.xa_words.specs.Orders.{IsDirectionIn, IsMalformedIn, IsTaskIn, IsXidIn, about_in, format_by, format_fault, format_named, is_metrics};
+ghost use Rattle.xa_words.specs.Orders.{status_format};
 ghost use Rattle.xa_words.specs.Verbs.{verb_of};
 
 use crate::asked::Asked;
@@ -51,13 +52,14 @@ fn order_of<'a>(
         return Asked::Script { name, task };
     }
     if !is_confirmed(matches, &task) {
+        let about = about_of(matches, &task);
         return Asked::Unconfirmed {
             reach: reach_of(matches),
             seconds: number_of(matches, "seconds", 10),
             format,
             name,
             task,
-            xid: text_of(matches, "xid", ""),
+            about,
         };
     }
     match reach_of(matches) {
@@ -69,6 +71,16 @@ fn order_of<'a>(
             task,
         },
         None => Asked::Nowhere,
+    }
+}
+
+// What a task is about, as it was given.
+fn about_of<'a>(matches: &ArgMatches<'a>, task: &Task) -> &'a str
+    ensures { result.now ≡ about_in task.now (rows_of (found_of matches.now)) }
+{
+    match task {
+        Task::Disconnect(_) => text_of(matches, "session", ""),
+        _ => text_of(matches, "xid", ""),
     }
 }
 
@@ -126,6 +138,7 @@ fn task_of(verb: Verb, matches: &ArgMatches<'_>) -> Result<Task, Malformed>
         Verb::Forget => Ok(Task::Forget(xid_of(matches)?)),
         Verb::Decide => decision_of(matches),
         Verb::Doom => Ok(Task::Doom(xid_of(matches)?)),
+        Verb::Disconnect => Ok(Task::Disconnect(number_of(matches, "session", 0))),
         Verb::Trim => Ok(Task::Trim),
         Verb::Restart => Ok(Task::Restart),
         Verb::RollbackMarked => Ok(Task::RollbackMarked),

@@ -1,6 +1,6 @@
 //! The arguments of an operator's commands, and how long a talk waits.
 ghost use Rattle.xa_words.specs.Line.{HasRule, direction_rule, format_rule, play_name_rule, print_script_rule, seconds_rule};
-ghost use Rattle.xa_words.specs.Line.{talk_seconds_rule, xid_rule, yes_rule};
+ghost use Rattle.xa_words.specs.Line.{session_rule, talk_seconds_rule, xid_rule, yes_rule};
 
 use clap::builder::ValueParser;
 use clap::{Arg, ArgAction};
@@ -27,6 +27,17 @@ pub fn xid<'a>(alloc: Global) -> Arg<'a>
         .help(
             "The branch, as 1:aa:bb: its format number in decimal, and both parts of its XID in lower case hexadecimal",
         )
+        .required(true)
+        .action(ArgAction::Set)
+}
+
+pub fn session<'a>(alloc: Global) -> Arg<'a>
+    ensures { HasRule session_rule result }
+{
+    Arg::new(alloc, "session")
+        .value_name("SESSION")
+        .help("The session, by its number: 1 to 18446744073709551615")
+        .value_parser(ValueParser::unsigned(1, u64::MAX))
         .required(true)
         .action(ArgAction::Set)
 }

@@ -1,6 +1,6 @@
 //! The commands that ask a running server one thing.
 ghost use Rattle.std.specs.Prelude.{◌≡◌};
-ghost use Rattle.xa_words.specs.Verbs.{decides, lists, names_branch, names_direction, opens_session, verb_of, verb_text};
+ghost use Rattle.xa_words.specs.Verbs.{decides, lists, names_branch, names_direction, names_session, opens_session, verb_of, verb_text};
 
 /// A command that asks a running server one thing.
 #[derive(Clone, Copy, Debug, PartialEq, Eq)]
@@ -13,6 +13,7 @@ pub enum Verb {
     Forget,
     Decide,
     Doom,
+    Disconnect,
     Trim,
     Restart,
     RollbackMarked,
@@ -31,6 +32,7 @@ pub(crate) fn read_verb(word: &str) -> Option<Verb>
         "forget" => Some(Verb::Forget),
         "decide" => Some(Verb::Decide),
         "doom" => Some(Verb::Doom),
+        "disconnect" => Some(Verb::Disconnect),
         "trim" => Some(Verb::Trim),
         "restart" => Some(Verb::Restart),
         "rollback-marked" => Some(Verb::RollbackMarked),
@@ -52,6 +54,7 @@ impl Verb {
             Verb::Forget => "forget",
             Verb::Decide => "decide",
             Verb::Doom => "doom",
+            Verb::Disconnect => "disconnect",
             Verb::Trim => "trim",
             Verb::Restart => "restart",
             Verb::RollbackMarked => "rollback-marked",
@@ -67,9 +70,20 @@ impl Verb {
             Verb::Status
             | Verb::Branches
             | Verb::Recover
+            | Verb::Disconnect
             | Verb::Trim
             | Verb::Restart
             | Verb::RollbackMarked => false,
+        }
+    }
+
+    /// Whether a session is named.
+    pub(crate) fn names_session(self) -> bool
+        ensures { result ≡ names_session self }
+    {
+        match self {
+            Verb::Disconnect => true,
+            _ => false,
         }
     }
 
@@ -94,6 +108,7 @@ impl Verb {
             | Verb::Branches
             | Verb::Decide
             | Verb::Doom
+            | Verb::Disconnect
             | Verb::Trim
             | Verb::Restart => false,
         }
@@ -111,6 +126,7 @@ impl Verb {
             | Verb::Forget
             | Verb::Decide
             | Verb::Doom
+            | Verb::Disconnect
             | Verb::Restart => false,
         }
     }
@@ -125,6 +141,7 @@ impl Verb {
             | Verb::Forget
             | Verb::Decide
             | Verb::Doom
+            | Verb::Disconnect
             | Verb::Restart
             | Verb::RollbackMarked => true,
             Verb::Status | Verb::Branches | Verb::Recover | Verb::Trim => false,
@@ -143,6 +160,8 @@ impl Verb {
             Verb::Forget => "Forgets a branch that the operator completed",
             Verb::Decide => "Completes a prepared branch by the operator's decision",
             Verb::Doom => "Marks a branch at work, which can then only be rolled back",
+            Verb::Disconnect =>
+                "Hangs a session up, as if its connection had broken: what it was at work on can then only be rolled back",
             Verb::Trim => "Has a server trim its log, and prints the log's new end in bytes",
             Verb::Restart => "Has a server reread its log, which ends all work that isn't prepared",
             Verb::RollbackMarked =>
@@ -169,6 +188,8 @@ impl Verb {
                 "Example: xarm decide --port 4187 --yes commit 1:aa:bb\nAn XID with a negative format number stands behind --.\nStatus 0: done. 1: the server refused it, or the answer wasn't yes. 2: the words are wrong. 3: no connection, or it was lost; the call may have been done.",
             Verb::Doom =>
                 "Example: xarm doom --port 4187 --yes 1:aa:bb\nAn XID with a negative format number stands behind --.\nStatus 0: done. 1: the server refused it, or the answer wasn't yes. 2: the words are wrong. 3: no connection, or it was lost; the call may have been done.",
+            Verb::Disconnect =>
+                "Example: xarm disconnect --port 4187 --yes 7\nStatus 0: done. 1: the server refused it (no connection has the session, or it disconnects none), or the answer wasn't yes. 2: the words are wrong. 3: no connection, or it was lost; the call may have been done.",
             Verb::Trim =>
                 "Example: xarm trim --port 4187\nStatus 0: done. 1: the server refused it. 2: the words are wrong. 3: no connection, or it was lost; the call may have been done.",
             Verb::Restart =>

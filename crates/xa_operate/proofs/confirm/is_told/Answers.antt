@@ -1,4 +1,4 @@
-use Rattle.std.proofs.Common.{◌∙◌, [], Err, subst}
+use Rattle.std.proofs.Common.{◌∙◌, [], subst}
 use Rattle.std.proofs.lemmas.Result.{err_from_is_err_and}
 use Rattle.xa_talk.proofs.Reading.{nothing_consumed}
 use Rattle.xa_talk.specs.Talks.{NextRead}

@@ -2,7 +2,7 @@ use Rattle.std.proofs.Common.{◌∙◌, [], refl, sym, inl, inr}
 use Rattle.std.proofs.lemmas.Result.{err_from_is_err_and}
 use Rattle.xa_output.proofs.Pieces.{nothing_appended}
 use Rattle.xa_operate.specs.Shown.{shown}
-use Rattle.xa_operate.proofs.Asking.{printed}
+use Rattle.xa_operate.proofs.Done.{printed}
 use Rattle.xa_operate.proofs.run.ask.Goals as goal
 
 pub returns-in-Err-clause-ends : goal.returns-in-Err-clause-ends
@@ -45,6 +45,6 @@ pub returns-clause-ends : goal.returns-clause-ends
 returns-clause-ends g c =
     printed c.args.format c.args.task.now (λ k. g.W.Write.contents k.writer) (λ k. g.R.Read.remaining k.reader) c.args.question.now c.in-Ok.reply
     c.print_text.result c.args.agenda.now.items c.push_behind.new.agenda.items c.as_slice.result.now (g.O.Write.contents c.args.output.now)
-    (g.O.Write.contents c.print_text.new.output) c.args.connection.now c.exchange.new.connection
+    (g.O.Write.contents c.print_text.new.output) c.args.connection.now c.bring.new.connection
     record { exchanged = c.in-Ok.ensures; done = sym c.answers.ensures ∙ c.if-not-answers.false }
     (c.as_slice.ensures.value ∙ c.in_ok-text.ensures) c.in_ok-push_behind.ensures.questions c.print_text.ensures

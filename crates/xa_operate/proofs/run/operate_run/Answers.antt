@@ -1,14 +1,14 @@
-use Rattle.std.proofs.Common.{◌≡◌, ◌∷◌, ◌++◌, List, [], refl, sym, inr, subst, arith, append-nil}
+use Rattle.std.proofs.Common.{◌∷◌, ◌++◌, List, [], refl, inr, subst, arith, append-nil}
 use Rattle.std.proofs.lemmas.List.{length-append}
 use Rattle.std.proofs.lemmas.Result.{err_from_is_err_and}
 use Rattle.std.specs.Prelude.{All}
-use Rattle.xa_frame.specs.Questions.{IsQuestion}
-use Rattle.xa_frame.specs.declared.question.Question.{Question}
+use Rattle.xa_operate.specs.declared.asking.Asking.{Asking}
 use Rattle.xa_output.proofs.Pieces.{appends_both, nothing_appended}
 use Rattle.xa_talk.specs.declared.dial.Connection.{Connection}
 use Rattle.xa_operate.specs.Agendas.{asked_first}
+use Rattle.xa_operate.specs.Askings.{IsAsking}
 use Rattle.xa_operate.specs.Courses.{AreDone}
-use Rattle.xa_operate.proofs.Asking.{all_behind, counted_out, done_more, none_popped}
+use Rattle.xa_operate.proofs.Done.{all_behind, counted_out, done_more, none_popped}
 use Rattle.xa_operate.proofs.run.operate_run.Goals as goal
 
 pub loop-init : goal.loop-init
@@ -44,8 +44,8 @@ returns-in_default-pop_front g c =
 
 pub ask-requires-clause-agenda : goal.ask-requires-clause-agenda
 ask-requires-clause-agenda g c =
-    all_behind IsQuestion c.in-Some.question c.pop_front.new.self.items
-    (subst (λ (l : List Question). All IsQuestion l) c.in-Some.ensures.items c.loop.invariant.6)
+    all_behind IsAsking c.in-Some.question c.pop_front.new.self.items
+    (subst (λ (l : List Asking). All IsAsking l) c.in-Some.ensures.items c.loop.invariant.6)
 
 pub returns-in_err-ask : goal.returns-in_err-ask
 returns-in_err-ask g c =
@@ -60,7 +60,7 @@ returns-in_err-ask g c =
       c = before.0;
       behind = c.loop.connection;
       c' = c.ask.new.connection;
-      done = subst (λ (l : List Question). AreDone {C = Connection g.row.R.Denot g.row.W.Denot} c.args.format c.args.task.now (λ k. g.W.Write.contents k.writer)
+      done = subst (λ (l : List Asking). AreDone {C = Connection g.row.R.Denot g.row.W.Denot} c.args.format c.args.task.now (λ k. g.W.Write.contents k.writer)
           (λ k. g.R.Read.remaining k.reader) (asked_first c.args.name.now c.args.task.now) before.1 l before.2 before.0 c.loop.connection) c.in-Some.ensures.items before.4;
       ended = inr now.2;
       written = appends_both _ _ _ before.2 now.0 before.5 now.1;
@@ -70,7 +70,7 @@ pub loop-preserved : goal.loop-preserved
 loop-preserved g c =
     let before = c.loop.invariant in
     let now = c.in_ok-ask.ensures.ends in
-    let done = subst (λ (l : List Question). AreDone {C = Connection g.row.R.Denot g.row.W.Denot} c.args.format c.args.task.now (λ k. g.W.Write.contents k.writer)
+    let done = subst (λ (l : List Asking). AreDone {C = Connection g.row.R.Denot g.row.W.Denot} c.args.format c.args.task.now (λ k. g.W.Write.contents k.writer)
     (λ k. g.R.Read.remaining k.reader) (asked_first c.args.name.now c.args.task.now) before.1 l before.2 before.0 c.loop.connection) c.in-Some.ensures.items before.4 in (
       before.0,
       before.1 ++ now.2.0 ∷ [],

@@ -13,10 +13,10 @@ returns-in-Status-clause-answered c =
     = (versions_of c.args.manager, c.args.calls, c.status-reply.ensures, refl) in
     subst (λ (said : Line). LineAnswered name log_bytes c.args.manager said (Some c.status-reply.result) c.args.manager) (sym c.in-Status.is) told
 
-pub returns-in-Shutdown-clause-answered : goal.returns-in-Shutdown-clause-answered
-returns-in-Shutdown-clause-answered c =
+pub returns-in-Control-clause-answered : goal.returns-in-Control-clause-answered
+returns-in-Control-clause-answered c =
     let name = c.args.settings.now.name in
     let log_bytes = c.args.settings.now.log_bytes in
-    let told : LineAnswered name log_bytes c.args.manager (line.Shutdown c.in-Shutdown.session) (Some c.shutdown-reply.result) c.args.manager
-    = (c.shutdown-reply.ensures, refl) in
-    subst (λ (said : Line). LineAnswered name log_bytes c.args.manager said (Some c.shutdown-reply.result) c.args.manager) (sym c.in-Shutdown.is) told
+    let told : LineAnswered name log_bytes c.args.manager (line.Control c.in-Control.session c.in-Control.field-1) (Some c.control-reply.result) c.args.manager
+    = (c.control-reply.ensures, refl) in
+    subst (λ (said : Line). LineAnswered name log_bytes c.args.manager said (Some c.control-reply.result) c.args.manager) (sym c.in-Control.is) told

@@ -5,7 +5,7 @@ pub call_all-requires : goal.call_all-requires
 call_all-requires g c = have_requests c.args.asks.now c.requires
 
 pub put_replies-requires : goal.put_replies-requires
-put_replies-requires g c = are_told g.D.Door.called c.args.asks.now c.call_all.new.asks c.args.door.now c.call_all.new.self c.requires c.call_all.ensures.told
+put_replies-requires g c = are_told g.D.Door.called c.args.asks.now c.call_all.new.asks c.args.door.now c.call_all.new.self c.requires c.call_all.ensures.told.some
 
 pub returns-clause-turned : goal.returns-clause-turned
 returns-clause-turned g c = record { told = c.call_all.new.asks; tells = c.call_all.ensures.told; puts = c.put_replies.ensures }

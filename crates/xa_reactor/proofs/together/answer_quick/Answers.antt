@@ -1,4 +1,4 @@
-use Rattle.xa_reactor.proofs.Asking.{are_told, have_requests, put_answered}
+use Rattle.xa_reactor.proofs.Asking.{are_told, have_requests}
 use Rattle.xa_reactor.proofs.together.answer_quick.Goals as goal
 
 pub call_quick-requires : goal.call_quick-requires
@@ -9,6 +9,3 @@ put_replies-requires g c = are_told g.D.Door.called c.args.asks.now c.call_quick
 
 pub returns-clause-turned : goal.returns-clause-turned
 returns-clause-turned g c = record { told = c.call_quick.new.asks; tells = c.call_quick.ensures; puts = c.put_replies.ensures }
-
-pub returns-clause-answered : goal.returns-clause-answered
-returns-clause-answered g c = put_answered c.call_quick.new.asks c.put_replies.new.asks c.put_replies.ensures c.call_quick.ensures.none

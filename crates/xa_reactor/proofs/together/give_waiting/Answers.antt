@@ -11,5 +11,5 @@ returns-clause-tends g c =
     let table : Table = sessions_of c.args.peers.now.all in
     let lent : All (IsLent table) c.deref_mut.result.now = subst (λ (xs : List Ask). All (IsLent table) xs) (sym c.deref_mut.ensures.value) c.requires.lent in
     subst (λ (t : Table). Tends g.D.Reception.connected g.D.Door.called g.D.Door.left table c.args.door.now t c.answer_all.new.door) (sym c.send_all.ensures.same)
-    (tends_turned g.D.Door.called g.D.Reception.connected g.D.Door.left table c.deref_mut.result.now c.answer_all.new.asks c.args.door.now c.answer_all.new.door
-    lent c.answer_all.ensures.turned)
+    (tends_turned g.D.Door.called g.D.Reception.connected g.D.Door.left table c.deref_mut.result.now c.answer_all.ensures.turned.told c.args.door.now c.answer_all.new.door
+    lent c.answer_all.ensures.turned.tells.some)

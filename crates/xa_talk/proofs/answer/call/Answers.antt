@@ -1,5 +1,8 @@
 use Rattle.std.proofs.Common.{◌≡◌, refl, ◌<◌, ◌∙◌, arith, length, sym, None, Some, Ok}
-use Rattle.xa_talk.proofs.Calls.{call_none, call_over, kept_at, there_at}
+use Rattle.xa_talk.proofs.Calls.{kept_at, over, over_none, there_at}
+use Rattle.xa_codes.specs.declared.codes.TheConstants.{XAER_PROTO}
+use Rattle.xa_frame.specs.Made.{plain}
+use Rattle.xa_talk.specs.Exchanges.{Exchanged}
 use Rattle.xa_talk.specs.Numbers.{index_of}
 use Rattle.xa_talk.proofs.answer.call.Goals as goal
 
@@ -8,7 +11,7 @@ returns-in-Some-index_mut g c =
     let numbered = c.args.connections.now.numbered.items in
     let is : index_of c.args.number ≡ Some c.in-Some.index = sym c.index_of.ensures ∙ c.in-Some.is in
     let within : c.in-Some.index < length numbered = omega (arith, c.if-index-len.false, c.len.ensures, c.args.connections.now.numbered.ok) in
-    call_over (λ k. g.W.Write.contents k.writer) (λ k. g.R.Read.remaining k.reader) c.args.number c.in-Some.index c.args.question.now c.exchange.result numbered is
+    over (λ k. g.W.Write.contents k.writer) (λ k. g.R.Read.remaining k.reader) c.args.number c.in-Some.index (Exchanged c.args.question.now) (plain XAER_PROTO) c.exchange.result numbered is
     c.in-Some-index_mut.connection c.exchange.new.connection
     (there_at numbered c.in-Some.index (Some c.in-Some-index_mut.connection) c.index_mut.result.now within (sym c.index_mut.ensures.value ∙ c.in-Some-index_mut.is)) c.exchange.ensures
 
@@ -19,6 +22,6 @@ returns-in-None g c =
     let within : c.in-Some.index < length numbered = omega (arith, c.if-index-len.false, c.len.ensures, c.args.connections.now.numbered.ok) in
     let value = sym c.index_mut.ensures.value in
     rw c.plain-in-None.ensures
-    (call_none (λ k. g.W.Write.contents k.writer) (λ k. g.R.Read.remaining k.reader) c.args.number c.in-Some.index c.args.question.now (Ok _) numbered is
+    (over_none (λ k. g.W.Write.contents k.writer) (λ k. g.R.Read.remaining k.reader) c.args.number c.in-Some.index (Exchanged c.args.question.now) (plain XAER_PROTO) (Ok _) numbered is
     _ (there_at numbered c.in-Some.index None c.index_mut.result.now within (value ∙ c.in-None.is)) refl
     (kept_at numbered c.in-Some.index c.index_mut.result.now c.index_mut.result.now within value))

@@ -7,5 +7,5 @@ use Rattle.xa_words.proofs.verb.read_verb.Goals as goal
 pub returns-in_default : goal.returns-in_default
 returns-in_default c =
     let differs : DiffersFromEach c.args.word.now named_verbs =
-    (search rules, (search rules, (search rules, (search rules, (search rules, (search rules, (search rules, (search rules, (search rules, (search rules, (search rules, tt))))))))))) in
+    (search rules, (search rules, (search rules, (search rules, (search rules, (search rules, (search rules, (search rules, (search rules, (search rules, (search rules, (search rules, tt)))))))))))) in
     ap (option_map (λ entry. entry.1)) (sym (find_absent c.args.word.now named_verbs differs))

@@ -1,4 +1,5 @@
-use Rattle.std.proofs.Common.{ℕ, subst}
+use Rattle.std.proofs.Common.{ℕ, subst, sym}
+use Rattle.xa_connection.specs.declared.connection.Connection.{Connection}
 use Rattle.xa_reactor.specs.Turning.{CarriesOn, HasAnswered}
 use Rattle.xa_reactor.proofs.Turning.{carries_on, carries_on_fed, has_answered, none_answered}
 use Rattle.xa_reactor.proofs.peer.Peer.turn.Goals as goal
@@ -20,7 +21,9 @@ returns-clause-answers g c =
 pub returns-clause-carries : goal.returns-clause-carries
 returns-clause-carries g c =
     let taken = c.take_turn.ensures.taken in
-    subst (λ (s : ℕ). CarriesOn (g.D.Door.called s) c.args.self.now.connection c.args.door.now c.send-step.new.self.connection c.answer.new.door)
+    subst (λ (x : Connection). CarriesOn (g.D.Door.called c.args.self.now.session) c.args.self.now.connection c.args.door.now x c.answer.new.door)
+    (sym c.order_or.ensures.same.1)
+    (subst (λ (s : ℕ). CarriesOn (g.D.Door.called s) c.args.self.now.connection c.args.door.now c.send-step.new.self.connection c.answer.new.door)
     c.take_turn.ensures.session
     (carries_on (g.D.Door.called c.take_turn.new.self.session) c.args.self.now.connection taken.0 c.take_turn.new.self.connection c.answer.new.self.connection c.send-step.new.self.connection
-    c.args.door.now c.answer.new.door c.answer.ensures.turns.0 taken.1 taken.2 c.answer.ensures.turns.1 c.send-step.ensures.sent)
+    c.args.door.now c.answer.new.door c.answer.ensures.turns.0 taken.1 taken.2 c.answer.ensures.turns.1 c.send-step.ensures.sent))

@@ -26,6 +26,6 @@ returns-clause-turn g c key rest is =
       step = c.turn_in-step.result;
       turned = subst (λ (k : ℕ). HadTurn c.args.self.now.all k c.turn_in-step.result all) first c.turn_in-step.ensures.turned;
       turns = tails c.in-Some.key key _ rest popped;
-      stopper = refl;
+      orders = refl;
       goes = subst (λ (k : ℕ). GoesOn between k c.turn_in-step.result c.go_on.new.self) first c.go_on.ensures.goes;
     }

@@ -27,7 +27,7 @@ returns-then-notice_in-clause-turn c =
     (λ p is. inl (record {
       all = is;
       turns = c.push_back_reserved.ensures.items ∙ ap (λ (t : Token). deque_items old.queue ++ t.0 ∷ []) c.token.ensures;
-      stopper = refl;
+      orders = refl;
     }))
 
 pub returns-else-notice_in-clause-turn : goal.returns-else-notice_in-clause-turn

@@ -12,3 +12,6 @@ pub returns-clause-settled : goal.returns-clause-settled
 returns-clause-settled g c was =
     still_settled g.D.Reception.connected g.D.Door.called g.D.Door.left g.D.Reception.is_settled g.met.D.Reception.keeps_settled _ _
     c.args.door.now c.give_each.new.door c.give_each.ensures was
+
+pub give_together-requires : goal.give_together-requires
+give_together-requires g c = c.begin.ensures.lent (sessions_of c.args.peers.now.all)

@@ -8,6 +8,7 @@ returns-clause-lent c = λ table.
     c.reserve.ensures.lent table
     (record {
       quick = All-same (IsLent table) _ [] c.clear.ensures.items (All-nil (IsLent table));
-      waiting = All-same (IsLent table) _ [] c.clear-2.ensures.items (All-nil (IsLent table));
-      room = omega (arith, c.clear.ensures.len, c.clear-2.ensures.len, c.clear-3.ensures.len);
+      waiting = All-same (IsLent table) _ [] c.clear-3.ensures.items (All-nil (IsLent table));
+      left = c.clear-2.ensures.items;
+      room = omega (arith, c.clear.ensures.len, c.clear-3.ensures.len, c.clear-4.ensures.len);
     })

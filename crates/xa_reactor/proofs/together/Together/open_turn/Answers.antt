@@ -37,6 +37,7 @@ returns-then-may_wait-clause-lent g c =
     record {
       quick = lent_still _ _ _ lent.0 c.requires.quick;
       waiting = lent_more _ _ _ _ c.in-Asks.ask lent.0 c.push_reserved.ensures.items c.requires.waiting lent.1;
+      left = c.requires.left;
       room = omega arith;
     }
 
@@ -46,23 +47,26 @@ returns-else-may_wait-clause-lent g c =
     record {
       quick = lent_more _ _ _ _ c.in-Asks.ask lent.0 c.push_reserved-else-may_wait.ensures.items c.requires.quick lent.1;
       waiting = lent_still _ _ _ lent.0 c.requires.waiting;
+      left = c.requires.left;
       room = omega arith;
     }
 
 pub returns-in-Over-clause-tends : goal.returns-in-Over-clause-tends
 returns-in-Over-clause-tends g c =
     let before : Table = sessions_of c.args.peers.now.all in
-    let after : Table = sessions_of c.open_turn.new.self.all in
+    let after : Table = sessions_of c.go_on_or_keep.new.peers.all in
     let next = ap sessions_of c.next.ensures.same in
     posting_tended g.D.Reception.posted g.D.Reception.connected g.D.Door.called g.D.Door.left before after c.args.door.now c.open_turn.new.door
-    (subst (λ (t : Table). Tends g.D.Reception.connected g.D.Door.called g.D.Door.left before c.args.door.now t c.open_turn.new.door) (sym (c.open_turn.ensures.same ∙ next))
+    (subst (λ (t : Table). Tends g.D.Reception.connected g.D.Door.called g.D.Door.left before c.args.door.now t c.open_turn.new.door)
+    (sym (ap sessions_of c.go_on_or_keep.ensures.same ∙ c.open_turn.ensures.same ∙ next))
     (subst (λ (t : Table). Tends g.D.Reception.connected g.D.Door.called g.D.Door.left t c.args.door.now t c.open_turn.new.door) next c.in-Over.ensures.opens))
 
 pub returns-in-Over-clause-lent : goal.returns-in-Over-clause-lent
 returns-in-Over-clause-lent g c =
-    let same = c.open_turn.ensures.same ∙ ap sessions_of c.next.ensures.same in
+    let same = ap sessions_of c.go_on_or_keep.ensures.same ∙ c.open_turn.ensures.same ∙ ap sessions_of c.next.ensures.same in
     record {
       quick = lent_still _ _ _ same c.requires.quick;
       waiting = lent_still _ _ _ same c.requires.waiting;
-      room = omega arith;
+      left = c.requires.left;
+      room = omega (arith, c.go_on_or_keep.ensures.turns, c.go_on_or_keep.ensures.more.1, c.go_on_or_keep.ensures.room);
     }

@@ -14,14 +14,8 @@ invariant_of-self g c =
           counted.new.self.kept counted.ensures.restart c.see.ensures;
     }
 
-pub returns-then-lets_go-clause-settled : goal.returns-then-lets_go-clause-settled
-returns-then-lets_go-clause-settled g c owes =
-    called_owes g.M.GroupCommits.manages g.S.Start.start g.S.Start.base _ _ c.in-Some.request c.call_held-reply.result.0
-    c.call_held-reply.new.self.asker c.call_held-reply.ensures.called
-    (subst (λ h. Owes h.asker 0) (sym c.count-is_restart.ensures.handle) owes)
-
-pub returns-else-lets_go-clause-settled : goal.returns-else-lets_go-clause-settled
-returns-else-lets_go-clause-settled g c owes =
+pub returns-in-Some-clause-settled : goal.returns-in-Some-clause-settled
+returns-in-Some-clause-settled g c owes =
     called_owes g.M.GroupCommits.manages g.S.Start.start g.S.Start.base _ _ c.in-Some.request c.call_held-reply.result.0
     c.call_held-reply.new.self.asker c.call_held-reply.ensures.called
     (subst (λ h. Owes h.asker 0) (sym c.count-is_restart.ensures.handle) owes)

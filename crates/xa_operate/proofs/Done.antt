@@ -2,7 +2,7 @@
 use Rattle.std.proofs.Common.{◌≡◌, ℕ, suc, ◌-◌, ◌^◌, length, arith, List, [], ◌∷◌, ◌++◌, drop, length-drop, Option, Some, None, Result, Ok, Err, refl, sym, ap, subst, ◌∙◌, append_assoc, append-nil, inl, inr}
 use Rattle.std.specs.Io.KnownBytes.{Appends}
 use Rattle.std.specs.Prelude.{All, option_to_list}
-use Rattle.xa_frame.specs.declared.question.Question.{Question}
+use Rattle.xa_operate.specs.declared.asking.Asking.{Asking}
 use Rattle.xa_frame.specs.declared.reply.Reply.{Reply}
 use Rattle.xa_output.specs.Output.{IsFront}
 use Rattle.xa_operate.specs.Agendas.{behind}
@@ -27,7 +27,7 @@ none_popped (Some x) old new none items rest = absurd (cc none)
 
 module _ {C : Type 0} (format : Format) (task : Task) (sent left : C → Option (List ℕ)) where
   -- what is done is printed, whole or in part
-  pub printed : (question : Question) (reply : Reply) (r : Result (Unit {0}) OperateFault) (agenda agenda' : List Question) (text : List ℕ)
+  pub printed : (question : Asking) (reply : Reply) (r : Result (Unit {0}) OperateFault) (agenda agenda' : List Asking) (text : List ℕ)
       (output output' : Option (List ℕ)) (c c' : C) → IsDone format task sent left question reply c c'
       → text ≡ shown format task question reply → agenda' ≡ agenda ++ behind task reply → Prints r text output output'
       → (t : List ℕ) × Appends output output' t × QuestionEnds format task sent left question r agenda agenda' t c c'
@@ -44,14 +44,14 @@ module _ {C : Type 0} (format : Format) (task : Task) (sent left : C → Option 
   )
 
   -- one question more is done
-  pub done_more : (agenda rest agenda' : List Question) (replies : List Reply) (question : Question) (reply : Reply)
+  pub done_more : (agenda rest agenda' : List Asking) (replies : List Reply) (question : Asking) (reply : Reply)
       (text more : List ℕ) (c over c' : C)
       → AreDone format task sent left agenda replies (question ∷ rest) text c over
       → IsDone format task sent left question reply over c' → more ≡ shown format task question reply
       → agenda' ≡ rest ++ behind task reply
       → AreDone format task sent left agenda (replies ++ reply ∷ []) agenda' (text ++ more) c c'
   done_more agenda rest agenda' [] question reply text more c over c' (same, none, stay) done is leads =
-      subst (λ (a : List Question). AreDone format task sent left a (reply ∷ []) agenda' (text ++ more) c c') same (
+      subst (λ (a : List Asking). AreDone format task sent left a (reply ∷ []) agenda' (text ++ more) c c') same (
         c',
         [],
         subst (λ (d : C). IsDone format task sent left question reply d c') stay done,
@@ -68,7 +68,7 @@ module _ {C : Type 0} (format : Format) (task : Task) (sent left : C → Option 
   )
 
   -- no more questions can be counted
-  pub counted_out : (fault : OperateFault) (agenda : List Question) (n : ℕ) (c : C) → n ≡ 2 ^ 64 - 1
+  pub counted_out : (fault : OperateFault) (agenda : List Asking) (n : ℕ) (c : C) → n ≡ 2 ^ 64 - 1
       → TaskEnds format task sent left {X = Unit {0}} (Err fault) agenda n [] c c
   counted_out fault [] n c all = (all, refl)
   counted_out fault (question ∷ agenda) n c all = inl (all, refl)

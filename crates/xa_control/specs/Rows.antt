@@ -1,0 +1,33 @@
+-- Worked contents: how some of what a server is asked and answers is spelled.
+use Rattle.std.specs.Prelude.{◌≡◌, [], ◌∷◌}
+use Rattle.xa_codes.specs.declared.codes.TheConstants.{XAER_INVAL, XAER_RMFAIL}
+use Rattle.xa_codes.specs.declared.detail.Detail.TheVariants as detail
+use Rattle.xa_control.specs.declared.answer.Answer.TheVariants as answer
+use Rattle.xa_control.specs.declared.control.Control.TheVariants as control
+use Rattle.xa_control.specs.declared.hello.Hello.{Hello}
+use Rattle.xa_control.specs.Answers.{bytes_of_answer}
+use Rattle.xa_control.specs.Controls.{bytes_of_control}
+
+-- revision 1, with the features of bits 0 and 40
+abbrev pub greeting : Hello
+greeting = record { revision = 1; features = 1099511627777 }
+
+abbrev pub SpelledSo : Type 0
+SpelledSo =
+    (bytes_of_control control.Shutdown ≡ 1 ∷ 69 ∷ [])
+    × (bytes_of_control (control.Hello greeting) ≡ 1 ∷ 70 ∷ 0 ∷ 0 ∷ 0 ∷ 1 ∷ 0 ∷ 0 ∷ 1 ∷ 0 ∷ 0 ∷ 0 ∷ 0 ∷ 1 ∷ [])
+    × (bytes_of_control (control.Disconnect 4294967299) ≡ 1 ∷ 71 ∷ 0 ∷ 0 ∷ 0 ∷ 1 ∷ 0 ∷ 0 ∷ 0 ∷ 3 ∷ [])
+    × (bytes_of_control control.Metrics ≡ 1 ∷ 72 ∷ [])
+    × (bytes_of_answer answer.Done ≡ 1 ∷ 0 ∷ 0 ∷ 0 ∷ 0 ∷ 0 ∷ 0 ∷ 0 ∷ 0 ∷ 0 ∷ 0 ∷ 0 ∷ 0 ∷ 0 ∷ 0 ∷ [])
+    -- no connection has that session, and no memory
+    × (bytes_of_answer (answer.Refused XAER_INVAL detail.Nothing)
+    ≡ 1 ∷ 255 ∷ 255 ∷ 255 ∷ 251 ∷ 0 ∷ 0 ∷ 0 ∷ 0 ∷ 0 ∷ 0 ∷ 0 ∷ 0 ∷ 0 ∷ 0 ∷ [])
+    × (bytes_of_answer (answer.Refused XAER_RMFAIL detail.Memory)
+    ≡ 1 ∷ 255 ∷ 255 ∷ 255 ∷ 249 ∷ 1 ∷ 0 ∷ 0 ∷ 0 ∷ 0 ∷ 0 ∷ 0 ∷ 0 ∷ 0 ∷ 0 ∷ [])
+    × (bytes_of_answer (answer.Hello greeting)
+    ≡ 1 ∷ 0 ∷ 0 ∷ 0 ∷ 0 ∷ 0 ∷ 0 ∷ 0 ∷ 0 ∷ 0 ∷ 0 ∷ 0 ∷ 0 ∷ 0 ∷ 8 ∷ 0 ∷ 0 ∷ 0 ∷ 1 ∷ 0 ∷ 0 ∷ 1 ∷ 0 ∷ 0 ∷ 0 ∷ 0 ∷ 1 ∷ [])
+    -- no number, and two
+    × (bytes_of_answer (answer.Metrics []) ≡ 1 ∷ 0 ∷ 0 ∷ 0 ∷ 0 ∷ 0 ∷ 0 ∷ 0 ∷ 0 ∷ 0 ∷ 0 ∷ 0 ∷ 0 ∷ 0 ∷ 9 ∷ 0 ∷ 0 ∷ [])
+    × (bytes_of_answer (answer.Metrics (7 ∷ 258 ∷ []))
+    ≡ 1 ∷ 0 ∷ 0 ∷ 0 ∷ 0 ∷ 0 ∷ 0 ∷ 0 ∷ 0 ∷ 0 ∷ 0 ∷ 0 ∷ 0 ∷ 0 ∷ 9 ∷ 0 ∷ 2 ∷ 0 ∷ 0 ∷ 0 ∷ 0 ∷ 0 ∷ 0 ∷ 0 ∷ 7 ∷ 0 ∷ 0 ∷ 0 ∷ 0 ∷ 0
+    ∷ 0 ∷ 1 ∷ 2 ∷ [])

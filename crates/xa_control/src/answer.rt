@@ -1,0 +1,62 @@
+ghost use Rattle.std.specs.Int.{to_be_bytes, w64};
+ghost use Rattle.std.specs.Prelude.{◌≡◌, ◌<◌, ◌^◌, ◌++◌, All, OnOk};
+ghost use Rattle.std.specs.List.{flat_map};
+ghost use Rattle.xa_control.specs.Answers.{HoldsAnswer, IsAnswer, bytes_of_answer};
+
+use crate::hello::{Hello, put_hello};
+use crate::metrics::Metrics;
+use std::alloc::AllocError;
+use xa_bytes::{put_u16, put_u64};
+use xa_codes::{Code, Detail, XA_OK};
+use xa_frame::{Reply, put_reply};
+
+/// What a server answers.
+#[derive(Debug, Drop)]
+pub enum Answer {
+    /// It has done it.
+    Done,
+    /// It hasn't: why, by a code other than 0 and a detail.
+    Refused(Code, Detail),
+    /// What it speaks.
+    Hello(Hello),
+    /// What it has counted.
+    Metrics(Metrics),
+}
+
+/// What the content of a hello begins with: the version, code 0, detail 0, place 0, the kind.
+pub(crate) const GREETED: [u8; 15] = [1, 0, 0, 0, 0, 0, 0, 0, 0, 0, 0, 0, 0, 0, 8];
+
+/// The same of numbers.
+pub(crate) const COUNTED: [u8; 15] = [1, 0, 0, 0, 0, 0, 0, 0, 0, 0, 0, 0, 0, 0, 9];
+
+fn put_numbers(out: &mut Vec<u8>, numbers: &[u64]) -> Result<(), AllocError>
+    ensures bytes { OnOk result (out.new.items ≡ out.old.items ++ flat_map (to_be_bytes w64) numbers.now) }
+    ensures holds { OnOk result (All (λ n. n < 2 ^ 64) numbers.now) }
+{
+    for number in numbers {
+        put_u64(out, *number)?;
+    }
+    Ok(())
+}
+
+/// Appends the content that spells the answer.
+pub fn put_answer(out: &mut Vec<u8>, answer: &Answer) -> Result<(), AllocError>
+    requires { IsAnswer answer.now }
+    ensures bytes { OnOk result (out.new.items ≡ out.old.items ++ bytes_of_answer answer.now) }
+    ensures holds { OnOk result (HoldsAnswer answer.now) }
+{
+    match answer {
+        Answer::Done => put_reply(out, &Reply::detailed(XA_OK, Detail::Nothing)),
+        Answer::Refused(code, detail) => put_reply(out, &Reply::detailed(*code, *detail)),
+        Answer::Hello(hello) => {
+            out.extend_from_slice(&GREETED)?;
+            put_hello(out, *hello)
+        }
+        Answer::Metrics(metrics) => {
+            let numbers = metrics.as_slice();
+            out.extend_from_slice(&COUNTED)?;
+            put_u16(out, numbers.len() as u16)?;
+            put_numbers(out, numbers)
+        }
+    }
+}

@@ -1,0 +1,124 @@
+ghost use Rattle.std.specs.Int.{to_be_bytes, w64};
+ghost use Rattle.std.specs.Prelude.{◌≡◌, ◌<◌, ◌^◌, ◌*◌, ◌++◌, ◌∷◌, ◌≤◌, ℕ, List, All, IfOk, IfSome, Some, length};
+ghost use Rattle.std.specs.List.{flat_map};
+ghost use Rattle.xa_control.specs.Answers.{IsCounted, Says, SpellsAnswer, well_bytes};
+ghost use Rattle.xa_control.specs.declared.answer.Answer.{Answer};
+
+use crate::answer::{Answer, COUNTED, GREETED};
+use crate::hello::hello_of;
+use crate::metrics::{MOST_METRICS, Metrics};
+use std::alloc::{AllocError, Global};
+use xa_bytes::{take_u16, take_u64};
+use xa_codes::{Detail, XA_OK};
+use xa_frame::{Body, FrameFault, Reply, decode_reply};
+
+/// The answer whose content these bytes are, or `None` if they are of none.
+pub fn answer_of(alloc: Global, content: &[u8]) -> Result<Option<Answer>, AllocError>
+    // What is found has this spelling.
+    ensures found { IfOk result (λ answer. IfSome answer (SpellsAnswer content.now)) }
+    // What has this spelling is found.
+    ensures only { (a : Answer) → SpellsAnswer content.now a → IfOk result (λ answer. answer ≡ Some a) }
+{
+    if content.len() == 15 {
+        return bare(alloc, content);
+    }
+    if content.len() < 15 {
+        return Ok(None);
+    }
+    let (front, rest) = content.split_at(15);
+    if front == GREETED.as_slice() {
+        return Ok(greeted(rest));
+    }
+    if front == COUNTED.as_slice() {
+        return counted(alloc, rest);
+    }
+    Ok(None)
+}
+
+// That it was done, or refused: what is spelled as a reply is.
+fn bare(alloc: Global, content: &[u8]) -> Result<Option<Answer>, AllocError>
+    requires { length content.now ≡ 15 }
+    ensures found { IfOk result (λ answer. IfSome answer (SpellsAnswer content.now)) }
+    ensures only { (a : Answer) → SpellsAnswer content.now a → IfOk result (λ answer. answer ≡ Some a) }
+{
+    match decode_reply(alloc, content) {
+        Ok(reply) => Ok(plain(reply)),
+        Err(FrameFault::Memory) => Err(AllocError),
+        Err(_) => Ok(None),
+    }
+}
+
+// What a reply of as many bytes answers.
+fn plain(reply: Reply) -> Option<Answer>
+    ensures found { IfSome result (Says reply) }
+    ensures only { (a : Answer) → Says reply a → result ≡ Some a }
+{
+    if reply.place != 0 || !matches!(reply.body, Body::Nothing) {
+        return None;
+    }
+    if reply.code != XA_OK {
+        return Some(Answer::Refused(reply.code, reply.detail));
+    }
+    if reply.detail == Detail::Nothing {
+        Some(Answer::Done)
+    } else {
+        None
+    }
+}
+
+// What the server speaks, behind the kind of the body.
+fn greeted(rest: &[u8]) -> Option<Answer>
+    ensures found { IfSome result (SpellsAnswer (well_bytes ++ 8 ∷ rest.now)) }
+    ensures only { (a : Answer) → SpellsAnswer (well_bytes ++ 8 ∷ rest.now) a → result ≡ Some a }
+{
+    Some(Answer::Hello(hello_of(rest)?))
+}
+
+// What it has counted, behind the kind of the body.
+fn counted(alloc: Global, rest: &[u8]) -> Result<Option<Answer>, AllocError>
+    ensures found { IfOk result (λ answer. IfSome answer (SpellsAnswer (well_bytes ++ 9 ∷ rest.now))) }
+    ensures only { (a : Answer) → SpellsAnswer (well_bytes ++ 9 ∷ rest.now) a → IfOk result (λ answer. answer ≡ Some a) }
+{
+    match metrics_of(alloc, rest)? {
+        Some(metrics) => Ok(Some(Answer::Metrics(metrics))),
+        None => Ok(None),
+    }
+}
+
+// The numbers behind how many they are.
+fn metrics_of(alloc: Global, rest: &[u8]) -> Result<Option<Metrics>, AllocError>
+    ensures found { IfOk result (λ metrics. IfSome metrics (IsCounted rest.now)) }
+    ensures only { (ns : List ℕ) → IsCounted rest.now ns → IfOk result (λ metrics. metrics ≡ Some ns) }
+{
+    let Some((count, numbers)) = take_u16(rest) else {
+        return Ok(None);
+    };
+    let count = usize::from(count);
+    if count > MOST_METRICS {
+        return Ok(None);
+    }
+    if numbers.len() != 8 * count {
+        return Ok(None);
+    }
+    let numbers = numbers_of(alloc, count, numbers)?;
+    Ok(Metrics::new(numbers))
+}
+
+// So many numbers.
+fn numbers_of(alloc: Global, count: usize, bytes: &[u8]) -> Result<Vec<u64>, AllocError>
+    requires { (length bytes.now ≡ 8 * count) × (count ≤ 256) }
+    ensures spelled { IfOk result (λ v. bytes.now ≡ flat_map (to_be_bytes w64) v.items) }
+    ensures holds { IfOk result (λ v. All (λ n. n < 2 ^ 64) v.items) }
+    ensures count { IfOk result (λ v. length v.items ≡ count) }
+{
+    let mut numbers = Vec::with_capacity(alloc, count)?;
+    let mut rest = bytes;
+    for _ in 0..count {
+        let Some((number, after)) = take_u64(rest) else {
+            unreachable!()
+        };
+        numbers.push(number)?;
+        rest = after;
+    }
+    Ok(numbers)
+}

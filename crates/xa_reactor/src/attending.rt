@@ -1,0 +1,160 @@
+//! What a loop does between its rounds of what connections asked of the server itself.
+ghost use Rattle.xa_reactor.specs.Believed.Tending.{Tends, sessions_of};
+ghost use Rattle.xa_reactor.specs.Orders.{IsOutcome};
+
+use crate::clock::LoopClock;
+use crate::common::Common;
+use crate::cutting::cut_peers;
+use crate::orders::Wish;
+use crate::peer::Step;
+use crate::peers::Peers;
+use crate::reception::Reception;
+use crate::round::Round;
+use std::rt::Clock;
+use std::sync::Wait;
+use xa_codes::{Detail, XAER_INVAL, XAER_RMFAIL};
+use xa_control::{Answer, Control, FEATURES, Hello, REVISION};
+
+/// Answers what connections asked of the server itself, and ends those that any loop was ordered to.
+pub(crate) fn attend<D: Reception, R: Clock + Wait>(
+    rt: &R,
+    common: &Common<'_>,
+    index: usize,
+    round: Round<'_>,
+    clock: &mut LoopClock,
+    peers: &mut Peers,
+    door: &mut D,
+)
+    ensures { Tends D.connected D.called D.left (sessions_of peers.old.all) door.old (sessions_of peers.new.all) door.new }
+{
+    attend_all(rt, common, round, clock, peers, door);
+    cut_all(rt, common, index, peers, door);
+    // what waited for no other loop is answered at once
+    attend_all(rt, common, round, clock, peers, door);
+}
+
+// Attends to each that asked something, once.
+fn attend_all<D: Reception, R: Clock + Wait>(
+    rt: &R,
+    common: &Common<'_>,
+    round: Round<'_>,
+    clock: &mut LoopClock,
+    peers: &mut Peers,
+    door: &mut D,
+)
+    ensures { Tends D.connected D.called D.left (sessions_of peers.old.all) door.old (sessions_of peers.new.all) door.new }
+{
+    for _ in 0..peers.orders.len() {
+        let Some(wish) = peers.orders.next() else {
+            return;
+        };
+        attend_one(rt, common, round, clock, peers, door, wish);
+    }
+}
+
+/// What becomes of something that was asked.
+#[derive(Debug, Drop)]
+enum Outcome {
+    /// Nothing is asked any more.
+    Gone,
+    /// It waits for the order of this number.
+    Waits(u64),
+    Answered(Answer),
+}
+
+fn attend_one<D: Reception, R: Clock + Wait>(
+    rt: &R,
+    common: &Common<'_>,
+    round: Round<'_>,
+    clock: &mut LoopClock,
+    peers: &mut Peers,
+    door: &mut D,
+    wish: Wish,
+)
+    ensures { Tends D.connected D.called D.left (sessions_of peers.old.all) door.old (sessions_of peers.new.all) door.new }
+{
+    let outcome = match wish.cut {
+        Some(number) => outcome_of(rt, common, number),
+        None => match peers.control(round.alloc, wish.key) {
+            Some(control) => begin(rt, common, control),
+            None => Outcome::Gone,
+        },
+    };
+    match outcome {
+        Outcome::Gone => {}
+        Outcome::Waits(number) => {
+            if !peers.wait_for(wish.key, number) {
+                let _ = common.cuts.take(rt, number);
+                peers.go_on(door, wish.key, Step::Ends);
+            }
+        }
+        Outcome::Answered(answer) => {
+            if let Some(step) = peers.answer_control(rt, round, clock, wish, &answer) {
+                peers.go_on(door, wish.key, step);
+            }
+        }
+    }
+}
+
+// What becomes of what was asked for the first time.
+fn begin<R: Wait>(rt: &R, common: &Common<'_>, control: Control) -> Outcome
+    ensures { IsOutcome result }
+{
+    match control {
+        Control::Hello(_) => Outcome::Answered(Answer::Hello(Hello {
+            revision: REVISION,
+            features: FEATURES,
+        })),
+        Control::Disconnect(session) => match common.cuts.give(rt, session) {
+            Ok(number) => {
+                common.wake_all();
+                Outcome::Waits(number)
+            }
+            Err(_) => Outcome::Answered(Answer::Refused(XAER_RMFAIL, Detail::Memory)),
+        },
+        Control::Shutdown | Control::Metrics => {
+            Outcome::Answered(Answer::Refused(XAER_INVAL, Detail::Frame))
+        }
+    }
+}
+
+// What becomes of an order: once each loop has looked at it, whether a connection was ended.
+fn outcome_of<R: Wait>(rt: &R, common: &Common<'_>, number: u64) -> Outcome
+    ensures { IsOutcome result }
+{
+    if !common.all_have_looked(number) {
+        return Outcome::Waits(number);
+    }
+    if common.cuts.take(rt, number) {
+        Outcome::Answered(Answer::Done)
+    } else {
+        Outcome::Answered(Answer::Refused(XAER_INVAL, Detail::Nothing))
+    }
+}
+
+// Ends the connections of the loop that orders mean at which it hasn't looked.
+fn cut_all<D: Reception, R: Wait>(
+    rt: &R,
+    common: &Common<'_>,
+    index: usize,
+    peers: &mut Peers,
+    door: &mut D,
+)
+    ensures { Tends D.connected D.called D.left (sessions_of peers.old.all) door.old (sessions_of peers.new.all) door.new }
+{
+    let given = common.cuts.given();
+    let mut looked = common.looked(index);
+    if looked >= given {
+        return;
+    }
+    for _ in 0..u32::MAX {
+        let Some(cut) = common.cuts.next(rt, looked) else {
+            break;
+        };
+        if cut_peers(peers, door, cut) {
+            common.cuts.end(rt, cut.number);
+        }
+        looked = cut.number.saturating_add(1);
+    }
+    common.look(index, looked.max(given));
+}

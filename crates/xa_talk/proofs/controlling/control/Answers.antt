@@ -1,0 +1,14 @@
+use Rattle.std.proofs.Common.{◌∙◌, inl, inr, sym}
+use Rattle.xa_talk.proofs.Calls.{control_answered}
+use Rattle.xa_talk.proofs.controlling.control.Goals as goal
+
+pub returns-in-Hello : goal.returns-in-Hello
+returns-in-Hello g c =
+    control_answered (λ k. g.W.Write.contents k.writer) (λ k. g.R.Read.remaining k.reader) c.args.number c.args.control.now c.ask.result c.told.result _ _
+    (λ e. elim c.in-Hello.is [
+      | inl hello ↦ absurd (cc (sym hello.1 ∙ e))
+      | inr others ↦ elim others [
+        | inl disconnect ↦ absurd (cc (sym disconnect.1 ∙ e))
+        | inr metrics ↦ absurd (cc (sym metrics ∙ e))
+      ]
+    ]) c.told.ensures c.ask.ensures
