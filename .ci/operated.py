@@ -86,6 +86,7 @@ ORDERS = [
     (("doom", "--yes", "1:01:"), {"1:01:": "working 104 1 0 0"}),
     (("doom", "--yes", "1:04:"), {"1:04:": "working 104 0 0 0"}),
     (("rollback", "--name", "n", "--yes", "--", "-3:03:ff"), {"-3:03:ff": None}),
+    (("disconnect", "--yes", "1"), {"1:01:": "working 101 0 0 0"}),
     (("restart", "--yes"), {xid: None for xid in AT_FIRST if AT_FIRST[xid].startswith("working")}),
 ]
 

@@ -1,10 +1,14 @@
 """Of .ci/loops: whose turn it is. What comes over connections while their loop waits for a sync, or while a commit of their own waits for that
 of another loop, is answered to each behind it, once, all of it and in order; and whoever has sent all is closed."""
+import select
+import threading
 import time
 
-from clients import OK, OPEN, Server, asks, begin, replies, rests, until
+from clients import OK, OPEN, Server, asks, begin, replies, rests, took, until
 from frames import request
 
+# How many gets one connection sends without waiting for the first one's reply.
+GETS = 1_500
 # For how long the sync is slow beside which all of it comes, in seconds.
 SLOW = 1
 # How many connections ask something meanwhile: more than a loop looks for before it syncs.
@@ -81,3 +85,41 @@ def behind_another(library):
         is_left = until(lambda: " sessions 4 " in asks(asker, ["1 status"])[0]) is not None
         found = is_left, asks(asker, [OPEN, "1 start TMNOFLAGS 1:05:", "1 get 6d"])[2]
         yield "turns, beside another loop: one that went", found, (True, f"{OK} value 76")
+
+
+def beside_a_commit(server, peer, send):
+    """Has a commit of a connection come together with what others send, while the loop makes another sync. It is slow, too."""
+    first, slow = server.peer(), server.peer()
+    begin(first, "1:51:", "73")
+    begin(slow, "1:52:", "74")
+    asks(peer, [OPEN, "1 start TMNOFLAGS 1:53:"])
+    server.fault(f"slow 1+ {SLOW * 1000}")
+    first.send(commit("1:51:"))
+    time.sleep(SLOW / 4)
+    slow.send(commit("1:52:"))
+    send()
+    return first, slow
+
+
+def behind_one_another(library):
+    """Requests of one connection that come at once, beside a commit of their round that waits for its sync."""
+    with Server("--loops", "1", library=library) as server:
+        asker = server.peer()
+        first, slow = beside_a_commit(server, asker, lambda: asker.socket.sendall(request("1 get 6b") * 2))
+        found = next(replies([asker], 2))
+        waits = not select.select([slow.socket], [], [], SLOW / 4)[0]
+        yield "turns: two gets beside a commit of their round are answered before it", (found, waits), ([f"{OK} absent"] * 2, True)
+        yield "turns: the commits", [*replies([first, slow], 1)], [[OK], [OK]]
+    with Server("--loops", "1", library=library) as server:
+        long = server.peer()
+        asking = threading.Thread(target=lambda: long.socket.sendall(request("1 get 6b") * GETS))
+        found = []
+        reading = threading.Thread(target=lambda: found.extend(next(replies([long], GETS))))
+        first, slow = beside_a_commit(server, long, asking.start)
+        reading.start()
+        spent, answers = took(lambda: [*replies([first, slow], 1)])
+        is_first = reading.is_alive()
+        asking.join()
+        reading.join()
+        yield f"turns: commits beside {GETS} gets of one connection", (answers, spent < 3 * SLOW, is_first), ([[OK], [OK]], True, True)
+        yield f"turns: the {GETS} gets", (len(found), set(found)), (GETS, {f"{OK} absent"})

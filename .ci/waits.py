@@ -145,6 +145,37 @@ def beside(library):
         yield "waits: it and the commit are answered", [shown(peer.reply())[1] for peer in (slow, asker)], [OK, f"{OK} number 0"]
 
 
+# What waits for the end of another loop's prepare, and what it is answered then.
+HELD_UP = [
+    ("a Recover", "1 recover TMSTARTRSCAN|TMENDRSCAN 10", "1 Nothing xids 1:aa:"),
+    ("a Branches", "1 branches 10", f"{OK} branches 1:aa: prepared 0"),
+    ("a Start that joins its branch", "1 start TMJOIN 1:aa:", "-6 Nothing"),
+]
+
+
+def held_up(library):
+    """What others of its loop are answered while a call waits for a slow sync of another loop: it waits alone."""
+    for title, line, answer in HELD_UP:
+        with Server("--loops", "2", library=library) as server:
+            # both have begun: each gets every second connection
+            time.sleep(SLOW / 10)
+            slow, waits, _, asker = (server.peer() for _ in range(4))
+            begin(slow, "1:aa:")
+            found = asks(waits, [OPEN]) + asks(asker, [OPEN, "1 start TMNOFLAGS 1:bb:"])
+            assert found == [OK] * 3, found
+            server.fault(f"slow 1 {SLOW * 1000}")
+            slow.send("1 prepare TMNOFLAGS 1:aa:")
+            time.sleep(SLOW / 10)
+            waits.send(line)
+            time.sleep(SLOW / 30)
+            times, found = zip(*(took(lambda: asks(asker, ["1 get 6e"])) for _ in range(10)))
+            quick = statistics.median(times) < 0.02 and max(times) < SLOW / 4
+            got = set(sum(found, [])), quick, is_waiting(slow, waits)
+            yield f"waits: others beside {title} that waits for another loop's sync", got, ({f"{OK} absent"}, True, True)
+            found = [next(replies([peer], 1))[0] for peer in (slow, waits)]
+            yield f"waits: {title} behind it", (found[0], found[1][: len(answer)]), (OK, answer)
+
+
 def handles():
     """Where a server lacks handles accepting pauses, and goes on once it has some, though no connection was closed."""
     with Server("--loops", "1", handles=20) as server:

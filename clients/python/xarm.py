@@ -29,6 +29,7 @@ from typing import Any, Callable, Dict, List, NamedTuple, Optional, Set, Tuple, 
 _SETTLING = 60.0  # so long after a lost start the server may still take its frame for the first time
 _PATIENCE = 1.0  # so long a completion is asked again of a branch under which another process's connection may have broken
 _LONGEST_PAUSE = 0.1
+_REVISION = 1  # of the protocol
 _MOST_CONTENT = 65535
 _MOST_XIDS = 256
 _MOST_KNOWN = 4096
@@ -180,6 +181,13 @@ class Status(NamedTuple):
     seconds: int
 
 
+class Hello(NamedTuple):
+    """Which revision of the protocol a server speaks, and what else it can do, a bit each (docs/PROTOCOL.md)."""
+
+    revision: int
+    features: int
+
+
 class _Reply(NamedTuple):
     code: int
     detail: int
@@ -223,13 +231,15 @@ class _Reading:
             return [self.branch() for _ in range(self.number(2))]
         if kind == 6:
             return Status(*(self.number(8) for _ in Status._fields))
+        if kind == 8:
+            return Hello(self.number(4), self.number(8))
         raise ValueError("its kind")
 
 
 # The byte of each request, and the kinds of body that a success has, if not 0.
 _OPERATIONS = {name: number for number, name in enumerate("open close start end prepare commit rollback recover forget get".split(), 1)}
-_OPERATIONS.update(put=11, delete=12, decide=13, doom=14, restart=15, timeout=16, tick=17, trim=65, branches=66, status=67)
-_BODIES = {"start": (1,), "get": (2, 3), "recover": (4,), "tick": (1,), "trim": (1,), "branches": (5,), "status": (6,)}
+_OPERATIONS.update(put=11, delete=12, decide=13, doom=14, restart=15, timeout=16, tick=17, trim=65, branches=66, status=67, hello=70, disconnect=71)
+_BODIES = {"start": (1,), "get": (2, 3), "recover": (4,), "tick": (1,), "trim": (1,), "branches": (5,), "status": (6,), "hello": (8,)}
 
 
 def _detail(number: int, code: int) -> Detail:
@@ -663,6 +673,15 @@ class Connection:
     def status(self) -> Status:
         """How the server is doing, also while its manager is down."""
         return self._done("status")
+
+    def hello(self) -> Hello:
+        """What the server speaks. XAER_INVAL with detail Frame: it is an older one, or has workers, and can do nothing beside."""
+        return self._done("hello", _REVISION.to_bytes(4, "big") + bytes(8))
+
+    def disconnect(self, session: int) -> None:
+        """Hangs up the session of this number, as if its connection had broken, also if its client is gone. XAER_INVAL: no connection has
+        it; with detail Frame: the server disconnects none."""
+        self._done("disconnect", session.to_bytes(8, "big"))
 
     def branches(self, count: int = _MOST_XIDS, above: Optional[Xid] = None) -> List[Branch]:
         """The first known branches, at most `count` (1 to 256), ascending, above an XID, known or not."""

@@ -1,7 +1,7 @@
 """Each call, its codes from a live server, and its limits."""
 
 import xarm
-from expect import equal, is_no_value, name, raises, refuses, value, works
+from expect import equal, is_lost, is_no_value, name, raises, refuses, value, works
 from servers import Server
 from xarm import Code, Detail, Flags, State
 
@@ -37,6 +37,7 @@ def tests(program, room):
             calls.restarted,
             calls.arguments,
             calls.unix_socket(program, room),
+            calls.disconnected(program, room),
         ):
             yield test.__doc__, test
 
@@ -355,6 +356,23 @@ class Calls:
         equal(self.one.branches()[0].xid, longest)
         self.one.xa_end(longest)
         self.one.xa_rollback(longest)
+
+    @staticmethod
+    def disconnected(program, room):
+        def test():
+            """a server tells what it speaks, and hangs a session up that another one names"""
+            with Server(program, room) as server, server.connection() as one, server.connection() as two:
+                told = two.hello()
+                equal((told.revision, told.features & 1), (1, 1))
+                one.xa_start(name("gone"))
+                two.disconnect(1)
+                with is_lost():
+                    one.get(b"k")
+                equal(two.xa_rollback(name("gone")), Code.XA_RBCOMMFAIL)
+                with refuses(Code.XAER_INVAL):
+                    two.disconnect(1 << 63)
+
+        return test
 
     @staticmethod
     def unix_socket(program, room):

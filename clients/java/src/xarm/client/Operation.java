@@ -16,7 +16,8 @@ enum Operation {
     PUT(11),
     DELETE(12),
     TIMEOUT(16),
-    STATUS(67);
+    STATUS(67),
+    HELLO(70);
 
     private final int number;
 
@@ -43,6 +44,8 @@ enum Operation {
                         : reply.kind() == Reply.NOTHING;
             case STATUS:
                 return reply.kind() == (reply.code() == XA_OK ? Reply.STATUS : Reply.NOTHING);
+            case HELLO:
+                return reply.kind() == (reply.code() == XA_OK ? Reply.HELLO : Reply.NOTHING);
             default:
                 return reply.kind() == Reply.NOTHING;
         }

@@ -14,6 +14,7 @@ final class Reply {
     static final int ABSENT = 3;
     static final int XIDS = 4;
     static final int STATUS = 6;
+    static final int HELLO = 8;
 
     private static final byte VERSION = 1;
     private static final int MOST_VALUE = 16_384;
@@ -25,6 +26,8 @@ final class Reply {
     private final long place;
     private final int kind;
     private byte[] value;
+    private int revision;
+    private long features;
     private final List<XarmXid> xids = new ArrayList<>();
 
     private Reply(ByteBuffer content) {
@@ -78,6 +81,10 @@ final class Reply {
                     content.getLong();
                 }
                 break;
+            case HELLO:
+                revision = content.getInt();
+                features = content.getLong();
+                break;
             default:
                 require(false, "its kind");
         }
@@ -113,5 +120,15 @@ final class Reply {
 
     List<XarmXid> xids() {
         return xids;
+    }
+
+    /** The revision of the protocol that the server speaks, unsigned, of a Hello; else 0. */
+    int revision() {
+        return revision;
+    }
+
+    /** What else the server can do, a bit each, of a Hello; else 0. */
+    long features() {
+        return features;
     }
 }

@@ -39,6 +39,12 @@ final class Request {
         return this;
     }
 
+    /** The protocol's revision, and what the client can do, a bit each. */
+    Request hello(int revision, long features) {
+        bytes.putInt(revision).putLong(features);
+        return this;
+    }
+
     /** A key, or an open info: bytes behind their length of one byte. */
     Request name(byte[] name) {
         bytes.put((byte) name.length).put(name);

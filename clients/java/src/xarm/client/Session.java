@@ -15,8 +15,8 @@ import java.util.concurrent.atomic.AtomicLong;
 import javax.transaction.xa.XAException;
 
 /**
- * A connection to a server, which is one session there. Its first request opens the resource manager, and where it broke, the
- * next call connects and opens anew.
+ * A connection to a server, which is one session there. Its first request asks what the server speaks and opens the resource manager, and
+ * where it broke, the next call connects and opens anew.
  *
  * <p>One request is under way at a time, and whatever is thrown between a request and its reply ends the connection: the reply would
  * be taken for that of the next one.
@@ -29,6 +29,7 @@ final class Session {
 
     private static final int LENGTH_BYTES = 4;
     private static final int MOST_CONTENT = 65_535;
+    private static final int REVISION = 1; // of the protocol
     private static final AtomicLong COUNT = new AtomicLong();
 
     private final long number = COUNT.incrementAndGet();
@@ -43,6 +44,7 @@ final class Session {
     private long place; // of the last reply
     private long answered; // when the last reply came
     private int timeLimit; // what the server was told of this connection
+    private Reply hello; // of this connection; null where there is none
 
     /**
      * A session that isn't connected yet. The time-out is in milliseconds, and is one call's, its connect included; so is how long a
@@ -96,6 +98,16 @@ final class Session {
 
     synchronized void setTimeLimit(int seconds) {
         timeLimit = seconds;
+    }
+
+    /** The revision of the protocol that the server speaks, unsigned: 0 where there is no connection, and of a server before the first one. */
+    synchronized int revision() {
+        return hello == null ? 0 : hello.revision();
+    }
+
+    /** What the server can do beside, a bit each, by PROTOCOL.md: none where there is no connection, and of a server before revision 1. */
+    synchronized long features() {
+        return hello == null ? 0 : hello.features();
     }
 
     boolean isConnected() {
@@ -195,6 +207,8 @@ final class Session {
             throw new SocketException("the connection was closed");
         }
         transport.connect(deadline);
+        // an older server refuses it, and goes on
+        hello = exchange(new Request(Operation.HELLO).hello(REVISION, 0), deadline);
         byte[] name = endpoint.name().getBytes(StandardCharsets.UTF_8);
         Reply reply = exchange(new Request(Operation.OPEN).flags(TMNOFLAGS).name(name), deadline);
         if (reply.code() != XA_OK) {
@@ -212,6 +226,7 @@ final class Session {
             transport = null;
         }
         timeLimit = 0;
+        hello = null;
         place = 0;
         branches.hangUp(number);
     }

@@ -22,6 +22,7 @@ import java.util.List;
 import javax.transaction.xa.XAException;
 import javax.transaction.xa.XAResource;
 import xarm.client.Detail;
+import xarm.client.Hellos;
 import xarm.client.XarmXAConnection;
 import xarm.client.XarmXid;
 
@@ -50,6 +51,8 @@ final class DeviceTests implements Suite {
         tests.test("a prepare that the log refused is XAER_RMERR, and is rolled back by a frame", this::prepareRefused);
         tests.test("a refused page of recover is thrown", this::pageRefused);
         tests.test("what is no reply is XAER_RMFAIL, and the next call connects anew", this::noReply);
+        tests.test("a connection knows what its server speaks: an older one, this one and a later one", this::hellos);
+        tests.test("what is no answer to a hello is XAER_RMFAIL, and the next connection asks anew", this::noHello);
         fake.close();
     }
 
@@ -184,5 +187,37 @@ final class DeviceTests implements Suite {
         byte[] other = frame.clone();
         other[at] = (byte) to;
         return other;
+    }
+
+    private static byte[] hello(int code, int revision, long features) {
+        return Fake.reply(code, Detail.NOTHING, 8, ByteBuffer.allocate(12).putInt(revision).putLong(features).array());
+    }
+
+    private void hellos() throws Exception {
+        try (Fake server = new Fake()) {
+            equal("0 0", Hellos.told(server.port()));
+            server.hello(Fake.reply(XAER_RMFAIL, Detail.MEMORY, 0, NO_BODY));
+            equal("0 0", Hellos.told(server.port()));
+            server.hello(hello(XA_OK, 1, 3));
+            equal("1 3", Hellos.told(server.port()));
+            server.hello(hello(XA_OK, -1, Long.MIN_VALUE | 1));
+            equal("4294967295 8000000000000001", Hellos.told(server.port()));
+        }
+    }
+
+    private void noHello() throws Exception {
+        List<byte[]> faults = List.of(
+                Fake.reply(XA_OK, Detail.NOTHING, 0, NO_BODY), // a success without a body
+                hello(XAER_INVAL, 1, 3), // a refusal with one
+                Fake.reply(XA_OK, Detail.NOTHING, 8, new byte[11]), // one that is cut
+                Fake.reply(XA_OK, Detail.NOTHING, 8, new byte[13])); // a byte behind it
+        try (Fake server = new Fake()) {
+            for (byte[] fault : faults) {
+                server.hello(fault);
+                refusal(XAER_RMFAIL, Detail.NOTHING, () -> Hellos.told(server.port()));
+                server.hello(hello(XA_OK, 1, 3));
+                equal("1 3", Hellos.told(server.port()));
+            }
+        }
     }
 }

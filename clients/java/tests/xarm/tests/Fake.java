@@ -12,20 +12,27 @@ import java.util.List;
 import java.util.concurrent.BlockingQueue;
 import java.util.concurrent.LinkedBlockingQueue;
 import java.util.concurrent.atomic.AtomicLong;
+import javax.transaction.xa.XAException;
 import xarm.client.Detail;
 import xarm.client.XarmXAConnection;
 import xarm.client.XarmXADataSource;
 
-/** Answers each Open with XA_OK, and each other frame with the bytes that a test has put down, with the next place where they have none. */
+/**
+ * Answers each Hello as an older server, or as a test wants it, each Open with XA_OK, and each other frame with the bytes that a test has put
+ * down, with the next place where they have none.
+ */
 final class Fake implements AutoCloseable {
     private final ServerSocket listener = new ServerSocket(0, 50, InetAddress.getByName("127.0.0.1"));
     private static final int PLACE_AT = 10;
+    private static final int OPEN = 1;
+    private static final int HELLO = 70;
 
     private final BlockingQueue<byte[]> answers = new LinkedBlockingQueue<>();
     private final BlockingQueue<Integer> asked = new LinkedBlockingQueue<>();
     private final AtomicLong place = new AtomicLong();
     private final long pause;
     private volatile byte[] always;
+    private volatile byte[] hello = reply(XAException.XAER_INVAL, Detail.FRAME, 0, new byte[0]);
 
     Fake() throws IOException {
         this(0);
@@ -42,9 +49,13 @@ final class Fake implements AutoCloseable {
         });
     }
 
+    int port() {
+        return listener.getLocalPort();
+    }
+
     /** Whose connections are never asked whether they stand. */
     XarmXADataSource source(int readTimeout) {
-        XarmXADataSource source = new XarmXADataSource("127.0.0.1", listener.getLocalPort(), "fake");
+        XarmXADataSource source = new XarmXADataSource("127.0.0.1", port(), "fake");
         source.setReadTimeout(readTimeout);
         source.setValidationInterval(Server.NEVER);
         return source;
@@ -54,7 +65,12 @@ final class Fake implements AutoCloseable {
         return source(readTimeout).getXAConnection();
     }
 
-    /** The operations that it was asked for, but Open, since this was called last. */
+    /** Each Hello from now on is answered so. */
+    void hello(byte[] frame) {
+        hello = frame;
+    }
+
+    /** The operations that it was asked for, but Hello and Open, since this was called last. */
     List<Integer> asked() {
         List<Integer> since = new ArrayList<>();
         asked.drainTo(since);
@@ -100,7 +116,11 @@ final class Fake implements AutoCloseable {
             OutputStream output = client.getOutputStream();
             while (true) {
                 byte[] content = input.readNBytes(input.readInt());
-                if (content[1] == 1) {
+                if (content[1] == HELLO) {
+                    output.write(hello);
+                    continue;
+                }
+                if (content[1] == OPEN) {
                     output.write(placed(reply(0, Detail.NOTHING, 0, new byte[0])));
                     continue;
                 }
