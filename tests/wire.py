@@ -76,7 +76,24 @@ def long(front, count):
 
 # What asks a server with loops to end, and any how it is doing: neither is a request.
 SHUTDOWN = "01 45"
+# What a server with loops is asked itself, each at its limits, with its answers: a hello; the end of a session that no connection has; and
+# numbers, which this one doesn't tell.
+HELLO = "01 00000000 00 0000000000000000 08 00000001 0000000000000001"
+CONTROLS = [
+    ("01 46 00000000 0000000000000000", HELLO),
+    ("01 46 00000001 0000000000000001", HELLO),
+    ("01 46 ffffffff ffffffffffffffff", HELLO),
+    ("01 47 0000000000000000", "01 fffffffb 00 0000000000000000 00"),
+    ("01 47 ffffffffffffffff", "01 fffffffb 00 0000000000000000 00"),
+    ("01 48", "01 fffffffb 06 0000000000000000 00"),
+]
+# Contents of other versions and operations.
+NO_CONTROLS = ["02 46 00000001 0000000000000001", "02 47 0000000000000001", "02 48", "01 44", "01 49", "01 4a 0000000000000001"]
 ASKS_STATUS = "01 43"
+# What asks a server what it speaks, what it has counted, and that it hang up the session of the greatest number.
+HELLO = "01 46 00000001 0000000000000000"
+METRICS = "01 48"
+DISCONNECT = "01 47 ffffffffffffffff"
 # Each field at what is just no field, and what is left behind each content.
 MALFORMED = [
     ("", "S"),
@@ -258,6 +275,15 @@ STATUS = "0000005f 01 00000000 00 0000000000000000 06" + "".join(
 )
 SHOWN = "status boot 3 end 4711 bytes 1073741824 branches 2 prepared 1 completed 0 sessions 4 versions 1000 calls 123 seconds 86400"
 BEGUN = "00000017 01 00000000 00 {0:016x} 01 {1:016x}"
+# What a server answers that did what it was asked, or not; what it speaks; what it has counted (two numbers, and none); and the same where bytes
+# are missing.
+ANSWERED = "0000000f 01 {0} {1:02x} 0000000000000000 00"
+DONE = ANSWERED.format("00000000", 0)
+GREETS = "0000001b 01 00000000 00 0000000000000000 08 ffffffff 8000000000000003"
+COUNTS = "00000021 01 00000000 00 0000000000000000 09 0002 0000000000000007 ffffffffffffffff"
+COUNTS_NONE = "00000011 01 00000000 00 0000000000000000 09 0000"
+NO_HELLO = "0000001a 01 00000000 00 0000000000000000 08 00000001 00000000000000"
+NO_METRICS = "00000019 01 00000000 00 0000000000000000 09 0002 0000000000000007"
 TALKS = [
     (
         "an open and a start",
@@ -332,6 +358,37 @@ TALKS = [
         "0 Nothing number 1\n-5 Frame\n0 Nothing\n",
         "",
     ),
+    (
+        "what asks a server something else, and what doesn't",
+        "connect\n1 hello \n1 hello 1\nhello\n0 hello\n1 Hello\n1 metrics x\n1 disconnect\n1 disconnect 0\n1 disconnect 01\n"
+        "1 disconnect 18446744073709551616\n1 disconnect 1 2\n1 disconnect 1:aa:\n2 hello\n2 metrics\n2 disconnect 1",
+        [""],
+        [""],
+        "0 Nothing number 1\n" + "-5 Frame\n" * 12 + "-6 Nothing\n" * 3,
+        "",
+    ),
+    (
+        "what a server answers that is asked something else: its connection stays",
+        "connect\n1 hello\n1 metrics\n1 metrics\n1 disconnect 18446744073709551615\n1 disconnect 18446744073709551615\n1 get 6b\n",
+        [GREETS + COUNTS + COUNTS_NONE + DONE + ANSWERED.format("fffffffb", 0) + OK],
+        [f"0000000e {HELLO} {f'00000002 {METRICS}' * 2} {f'0000000a {DISCONNECT}' * 2} 00000004 01 0a 01 6b"],
+        "0 Nothing number 1\n0 Nothing hello 4294967295 9223372036854775811\n0 Nothing metrics 7 18446744073709551615\n0 Nothing metrics\n"
+        "0 Nothing\n-5 Nothing\n0 Nothing\n",
+        "",
+    ),
+    (
+        "a server that is asked something else, and knows none of it: its connection stays",
+        "connect\n1 hello\n1 metrics\n1 disconnect 18446744073709551615\n1 get 6b\n",
+        [ANSWERED.format("fffffffb", 6) * 3 + OK],
+        [f"0000000e {HELLO} 00000002 {METRICS} 0000000a {DISCONNECT} 00000004 01 0a 01 6b"],
+        "0 Nothing number 1\n" + "-5 Frame\n" * 3 + "0 Nothing\n",
+        "",
+    ),
+    ("an answer to a hello is cut", "connect\n1 hello\n", [GREETS[:-2]], [f"0000000e {HELLO}"], "0 Nothing number 1\n", "connection lost"),
+    ("the body of a hello is cut", "connect\n1 hello\n", [NO_HELLO], [f"0000000e {HELLO}"], "0 Nothing number 1\n", "no reply"),
+    ("numbers are fewer than they are said to be", "connect\n1 metrics\n", [NO_METRICS], [f"00000002 {METRICS}"], "0 Nothing number 1\n", "no reply"),
+    ("a call's answer to a hello", "connect\n1 hello\n", [BEGUN.format(3, 1)], [f"0000000e {HELLO}"], "0 Nothing number 1\n", "no reply"),
+    ("a hello's answer to a call", "connect\n1 get 6b\n", [GREETS], ["00000004 01 0a 01 6b"], "0 Nothing number 1\n", "no reply"),
     ("a reply to a shutdown is cut", "connect\n1 shutdown\n", ["00"], [f"00000002 {SHUTDOWN}"], "0 Nothing number 1\n", "connection lost"),
     (
         "the least free number, and the connection that has it",
@@ -357,6 +414,12 @@ MISTAKES = [
     ("1  get 6b", "call: missing"),
     ("1 gett 6b", "call: gett"),
     ("1 status now", "too many words: now"),
+    ("1 hello now", "too many words: now"),
+    ("1 metrics 1", "too many words: 1"),
+    ("1 disconnect", "session: missing"),
+    ("1 disconnect 0", "session: 0"),
+    ("1 disconnect x", "session: x"),
+    ("1 disconnect 1 2", "too many words: 2"),
     ("1 open TMFOO n", "flags: TMFOO"),
     ("1 open TMNOFLAGS", "name: missing"),
     ("1 open TMNOFLAGS \u00e4", "name: \\xc3\\xa4"),
