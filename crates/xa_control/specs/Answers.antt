@@ -1,4 +1,4 @@
--- What a server answers, and the one content that spells each: a reply's, with place 0, and bodies of two more kinds.
+-- What a server answers, and the one content that spells each: a reply's, with place 0, and bodies of three more kinds.
 use Rattle.std.specs.Prelude.{◌≡◌, ◌≢◌, ℕ, pos, ◌<◌, ◌^◌, ◌≤◌, List, [], ◌∷◌, ◌++◌, All, length, FitsSigned}
 use Rattle.std.specs.Int.{w32, w64, to_be_bytes}
 use Rattle.xa_codes.specs.declared.detail.Detail.TheVariants.{Nothing}
@@ -6,7 +6,8 @@ use Rattle.xa_frame.specs.declared.reply.Reply.{Reply}
 use Rattle.xa_frame.specs.Made.{detailed}
 use Rattle.xa_frame.specs.Spelling.{Spells, bytes_of_reply, counted_bytes}
 use Rattle.xa_control.specs.declared.answer.Answer.{Answer}
-use Rattle.xa_control.specs.declared.answer.Answer.TheVariants.{Done, Refused, Hello, Metrics}
+use Rattle.xa_control.specs.declared.answer.Answer.TheVariants.{Done, Refused, Hello, Metrics, Sessions}
+use Rattle.xa_control.specs.declared.numbers.TheConstants.{MOST_NUMBERS}
 use Rattle.xa_control.specs.Controls.{HoldsHello, hello_bytes}
 
 -- the version, code 0, detail 0, place 0: up to the kind of the body
@@ -18,11 +19,13 @@ bytes_of_answer Done = bytes_of_reply (detailed (pos 0) Nothing)
 bytes_of_answer (Refused code detail) = bytes_of_reply (detailed code detail)
 bytes_of_answer (Hello hello) = well_bytes ++ 8 ∷ hello_bytes hello
 bytes_of_answer (Metrics numbers) = well_bytes ++ 9 ∷ counted_bytes (to_be_bytes w64) numbers
+bytes_of_answer (Sessions numbers) = well_bytes ++ 10 ∷ counted_bytes (to_be_bytes w64) numbers
 
 -- a refusal has another code than 0; there are few numbers
 abbrev pub IsAnswer : Answer → Type 0
 IsAnswer (Refused code detail) = code ≢ pos 0
-IsAnswer (Metrics numbers) = length numbers ≤ 256
+IsAnswer (Metrics numbers) = length numbers ≤ MOST_NUMBERS
+IsAnswer (Sessions numbers) = length numbers ≤ MOST_NUMBERS
 IsAnswer _ = Unit {0}
 
 -- what the types of a program hold anyway
@@ -30,6 +33,7 @@ abbrev pub HoldsAnswer : Answer → Type 0
 HoldsAnswer (Refused code detail) = FitsSigned w32 code
 HoldsAnswer (Hello hello) = HoldsHello hello
 HoldsAnswer (Metrics numbers) = All (λ n. n < 2 ^ 64) numbers
+HoldsAnswer (Sessions numbers) = All (λ n. n < 2 ^ 64) numbers
 HoldsAnswer Done = Unit {0}
 
 -- these bytes are the content of this answer
@@ -44,6 +48,6 @@ Says reply _ = ⊥
 
 -- these bytes are few numbers, after how many they are
 pub record IsCounted (bytes numbers : List ℕ) : Type 0 where
-  pub few : length numbers ≤ 256
+  pub few : length numbers ≤ MOST_NUMBERS
   pub holds : All (λ n. n < 2 ^ 64) numbers
   pub bytes_are : bytes ≡ counted_bytes (to_be_bytes w64) numbers

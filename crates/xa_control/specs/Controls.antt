@@ -1,9 +1,11 @@
 -- What a server is asked, and the one content that spells each. Numbers are big-endian.
 use Rattle.std.specs.Prelude.{ℕ, ◌<◌, ◌^◌, List, [], ◌∷◌, ◌++◌}
 use Rattle.std.specs.Int.{w32, w64, to_be_bytes}
+use Rattle.xa_xid.specs.Triple.{IsWithinLimits}
+use Rattle.xa_xid.specs.Spelling.{bytes_of}
 use Rattle.xa_frame.specs.Spelling.{Spells}
 use Rattle.xa_control.specs.declared.control.Control.{Control}
-use Rattle.xa_control.specs.declared.control.Control.TheVariants.{Shutdown, Hello as Greeting, Disconnect, Metrics}
+use Rattle.xa_control.specs.declared.control.Control.TheVariants.{Shutdown, Hello as Greeting, Disconnect, Metrics, Sessions}
 use Rattle.xa_control.specs.declared.hello.Hello.{Hello}
 use Rattle.xa_control.specs.Shutdown.{shutdown_content}
 
@@ -17,8 +19,9 @@ bytes_of_control Shutdown = shutdown_content
 bytes_of_control (Greeting hello) = 1 ∷ 70 ∷ hello_bytes hello
 bytes_of_control (Disconnect session) = 1 ∷ 71 ∷ to_be_bytes w64 session
 bytes_of_control Metrics = 1 ∷ 72 ∷ []
+bytes_of_control (Sessions xid) = 1 ∷ 73 ∷ bytes_of xid
 
--- what the types of a program hold anyway: numbers with a fixed number of bits
+-- what the types of a program hold anyway: numbers with a fixed number of bits, and XIDs
 
 abbrev pub HoldsHello : Hello → Type 0
 HoldsHello hello = (hello.revision < 2 ^ 32) × (hello.features < 2 ^ 64)
@@ -26,6 +29,7 @@ HoldsHello hello = (hello.revision < 2 ^ 32) × (hello.features < 2 ^ 64)
 abbrev pub HoldsControl : Control → Type 0
 HoldsControl (Greeting hello) = HoldsHello hello
 HoldsControl (Disconnect session) = session < 2 ^ 64
+HoldsControl (Sessions xid) = IsWithinLimits xid
 HoldsControl _ = Unit {0}
 
 -- these bytes are the content of this

@@ -1,7 +1,8 @@
 -- Worked contents: how some of what a server is asked and answers is spelled.
-use Rattle.std.specs.Prelude.{◌≡◌, [], ◌∷◌}
+use Rattle.std.specs.Prelude.{◌≡◌, negsuc, [], ◌∷◌}
 use Rattle.xa_codes.specs.declared.codes.TheConstants.{XAER_INVAL, XAER_RMFAIL}
 use Rattle.xa_codes.specs.declared.detail.Detail.TheVariants as detail
+use Rattle.xa_xid.specs.Triple.{Triple}
 use Rattle.xa_control.specs.declared.answer.Answer.TheVariants as answer
 use Rattle.xa_control.specs.declared.control.Control.TheVariants as control
 use Rattle.xa_control.specs.declared.hello.Hello.{Hello}
@@ -12,12 +13,17 @@ use Rattle.xa_control.specs.Controls.{bytes_of_control}
 abbrev pub greeting : Hello
 greeting = record { revision = 1; features = 1099511627777 }
 
+-- -2:aabb:cc
+abbrev pub branch : Triple
+branch = record { format = negsuc 1; gtrid = 170 ∷ 187 ∷ []; bqual = 204 ∷ [] }
+
 abbrev pub SpelledSo : Type 0
 SpelledSo =
     (bytes_of_control control.Shutdown ≡ 1 ∷ 69 ∷ [])
     × (bytes_of_control (control.Hello greeting) ≡ 1 ∷ 70 ∷ 0 ∷ 0 ∷ 0 ∷ 1 ∷ 0 ∷ 0 ∷ 1 ∷ 0 ∷ 0 ∷ 0 ∷ 0 ∷ 1 ∷ [])
     × (bytes_of_control (control.Disconnect 4294967299) ≡ 1 ∷ 71 ∷ 0 ∷ 0 ∷ 0 ∷ 1 ∷ 0 ∷ 0 ∷ 0 ∷ 3 ∷ [])
     × (bytes_of_control control.Metrics ≡ 1 ∷ 72 ∷ [])
+    × (bytes_of_control (control.Sessions branch) ≡ 1 ∷ 73 ∷ 255 ∷ 255 ∷ 255 ∷ 254 ∷ 2 ∷ 1 ∷ 170 ∷ 187 ∷ 204 ∷ [])
     × (bytes_of_answer answer.Done ≡ 1 ∷ 0 ∷ 0 ∷ 0 ∷ 0 ∷ 0 ∷ 0 ∷ 0 ∷ 0 ∷ 0 ∷ 0 ∷ 0 ∷ 0 ∷ 0 ∷ 0 ∷ [])
     -- no connection has that session, and no memory
     × (bytes_of_answer (answer.Refused XAER_INVAL detail.Nothing)
@@ -31,3 +37,7 @@ SpelledSo =
     × (bytes_of_answer (answer.Metrics (7 ∷ 258 ∷ []))
     ≡ 1 ∷ 0 ∷ 0 ∷ 0 ∷ 0 ∷ 0 ∷ 0 ∷ 0 ∷ 0 ∷ 0 ∷ 0 ∷ 0 ∷ 0 ∷ 0 ∷ 9 ∷ 0 ∷ 2 ∷ 0 ∷ 0 ∷ 0 ∷ 0 ∷ 0 ∷ 0 ∷ 0 ∷ 7 ∷ 0 ∷ 0 ∷ 0 ∷ 0 ∷ 0
     ∷ 0 ∷ 1 ∷ 2 ∷ [])
+    -- sessions 3 and 4,294,967,299
+    × (bytes_of_answer (answer.Sessions (3 ∷ 4294967299 ∷ []))
+    ≡ 1 ∷ 0 ∷ 0 ∷ 0 ∷ 0 ∷ 0 ∷ 0 ∷ 0 ∷ 0 ∷ 0 ∷ 0 ∷ 0 ∷ 0 ∷ 0 ∷ 10 ∷ 0 ∷ 2 ∷ 0 ∷ 0 ∷ 0 ∷ 0 ∷ 0 ∷ 0 ∷ 0 ∷ 3 ∷ 0 ∷ 0 ∷ 0 ∷ 1
+    ∷ 0 ∷ 0 ∷ 0 ∷ 3 ∷ [])

@@ -2,9 +2,10 @@ ghost use Rattle.std.specs.Int.{to_be_bytes, w64};
 ghost use Rattle.std.specs.Prelude.{◌≡◌, ◌<◌, ◌^◌, ◌++◌, All, OnOk};
 ghost use Rattle.std.specs.List.{flat_map};
 ghost use Rattle.xa_control.specs.Answers.{HoldsAnswer, IsAnswer, bytes_of_answer};
+ghost use Rattle.xa_frame.specs.Spelling.{counted_bytes};
 
 use crate::hello::{Hello, put_hello};
-use crate::metrics::Metrics;
+use crate::numbers::Numbers;
 use std::alloc::AllocError;
 use xa_bytes::{put_u16, put_u64};
 use xa_codes::{Code, Detail, XA_OK};
@@ -20,14 +21,19 @@ pub enum Answer {
     /// What it speaks.
     Hello(Hello),
     /// What it has counted.
-    Metrics(Metrics),
+    Metrics(Numbers),
+    /// The sessions that were asked for.
+    Sessions(Numbers),
 }
 
 /// What the content of a hello begins with: the version, code 0, detail 0, place 0, the kind.
 pub(crate) const GREETED: [u8; 15] = [1, 0, 0, 0, 0, 0, 0, 0, 0, 0, 0, 0, 0, 0, 8];
 
-/// The same of numbers.
+/// The same of what was counted.
 pub(crate) const COUNTED: [u8; 15] = [1, 0, 0, 0, 0, 0, 0, 0, 0, 0, 0, 0, 0, 0, 9];
+
+/// The same of sessions.
+pub(crate) const LISTED: [u8; 15] = [1, 0, 0, 0, 0, 0, 0, 0, 0, 0, 0, 0, 0, 0, 10];
 
 fn put_numbers(out: &mut Vec<u8>, numbers: &[u64]) -> Result<(), AllocError>
     ensures bytes { OnOk result (out.new.items ≡ out.old.items ++ flat_map (to_be_bytes w64) numbers.now) }
@@ -37,6 +43,16 @@ fn put_numbers(out: &mut Vec<u8>, numbers: &[u64]) -> Result<(), AllocError>
         put_u64(out, *number)?;
     }
     Ok(())
+}
+
+// The numbers, behind how many they are.
+fn put_counted(out: &mut Vec<u8>, numbers: &Numbers) -> Result<(), AllocError>
+    ensures bytes { OnOk result (out.new.items ≡ out.old.items ++ counted_bytes (to_be_bytes w64) numbers.now) }
+    ensures holds { OnOk result (All (λ n. n < 2 ^ 64) numbers.now) }
+{
+    let numbers = numbers.as_slice();
+    put_u16(out, numbers.len() as u16)?;
+    put_numbers(out, numbers)
 }
 
 /// Appends the content that spells the answer.
@@ -53,10 +69,12 @@ pub fn put_answer(out: &mut Vec<u8>, answer: &Answer) -> Result<(), AllocError>
             put_hello(out, *hello)
         }
         Answer::Metrics(metrics) => {
-            let numbers = metrics.as_slice();
             out.extend_from_slice(&COUNTED)?;
-            put_u16(out, numbers.len() as u16)?;
-            put_numbers(out, numbers)
+            put_counted(out, metrics)
+        }
+        Answer::Sessions(sessions) => {
+            out.extend_from_slice(&LISTED)?;
+            put_counted(out, sessions)
         }
     }
 }

@@ -4,9 +4,9 @@ ghost use Rattle.std.specs.List.{flat_map};
 ghost use Rattle.xa_control.specs.Answers.{IsCounted, Says, SpellsAnswer, well_bytes};
 ghost use Rattle.xa_control.specs.declared.answer.Answer.{Answer};
 
-use crate::answer::{Answer, COUNTED, GREETED};
+use crate::answer::{Answer, COUNTED, GREETED, LISTED};
 use crate::hello::hello_of;
-use crate::metrics::{MOST_METRICS, Metrics};
+use crate::numbers::{MOST_NUMBERS, Numbers};
 use std::alloc::{AllocError, Global};
 use xa_bytes::{take_u16, take_u64};
 use xa_codes::{Detail, XA_OK};
@@ -30,7 +30,10 @@ pub fn answer_of(alloc: Global, content: &[u8]) -> Result<Option<Answer>, AllocE
         return Ok(greeted(rest));
     }
     if front == COUNTED.as_slice() {
-        return counted(alloc, rest);
+        return measured(alloc, rest);
+    }
+    if front == LISTED.as_slice() {
+        return listed(alloc, rest);
     }
     Ok(None)
 }
@@ -75,38 +78,49 @@ fn greeted(rest: &[u8]) -> Option<Answer>
 }
 
 // What it has counted, behind the kind of the body.
-fn counted(alloc: Global, rest: &[u8]) -> Result<Option<Answer>, AllocError>
+fn measured(alloc: Global, rest: &[u8]) -> Result<Option<Answer>, AllocError>
     ensures found { IfOk result (λ answer. IfSome answer (SpellsAnswer (well_bytes ++ 9 ∷ rest.now))) }
     ensures only { (a : Answer) → SpellsAnswer (well_bytes ++ 9 ∷ rest.now) a → IfOk result (λ answer. answer ≡ Some a) }
 {
-    match metrics_of(alloc, rest)? {
+    match counted(alloc, rest)? {
         Some(metrics) => Ok(Some(Answer::Metrics(metrics))),
         None => Ok(None),
     }
 }
 
+// The sessions that it lists, behind the kind of the body.
+fn listed(alloc: Global, rest: &[u8]) -> Result<Option<Answer>, AllocError>
+    ensures found { IfOk result (λ answer. IfSome answer (SpellsAnswer (well_bytes ++ 10 ∷ rest.now))) }
+    ensures only { (a : Answer) → SpellsAnswer (well_bytes ++ 10 ∷ rest.now) a → IfOk result (λ answer. answer ≡ Some a) }
+{
+    match counted(alloc, rest)? {
+        Some(sessions) => Ok(Some(Answer::Sessions(sessions))),
+        None => Ok(None),
+    }
+}
+
 // The numbers behind how many they are.
-fn metrics_of(alloc: Global, rest: &[u8]) -> Result<Option<Metrics>, AllocError>
-    ensures found { IfOk result (λ metrics. IfSome metrics (IsCounted rest.now)) }
-    ensures only { (ns : List ℕ) → IsCounted rest.now ns → IfOk result (λ metrics. metrics ≡ Some ns) }
+fn counted(alloc: Global, rest: &[u8]) -> Result<Option<Numbers>, AllocError>
+    ensures found { IfOk result (λ numbers. IfSome numbers (IsCounted rest.now)) }
+    ensures only { (ns : List ℕ) → IsCounted rest.now ns → IfOk result (λ numbers. numbers ≡ Some ns) }
 {
     let Some((count, numbers)) = take_u16(rest) else {
         return Ok(None);
     };
     let count = usize::from(count);
-    if count > MOST_METRICS {
+    if count > MOST_NUMBERS {
         return Ok(None);
     }
     if numbers.len() != 8 * count {
         return Ok(None);
     }
     let numbers = numbers_of(alloc, count, numbers)?;
-    Ok(Metrics::new(numbers))
+    Ok(Numbers::new(numbers))
 }
 
 // So many numbers.
 fn numbers_of(alloc: Global, count: usize, bytes: &[u8]) -> Result<Vec<u64>, AllocError>
-    requires { (length bytes.now ≡ 8 * count) × (count ≤ 256) }
+    requires { (length bytes.now ≡ 8 * count) × (count ≤ 1024) }
     ensures spelled { IfOk result (λ v. bytes.now ≡ flat_map (to_be_bytes w64) v.items) }
     ensures holds { IfOk result (λ v. All (λ n. n < 2 ^ 64) v.items) }
     ensures count { IfOk result (λ v. length v.items ≡ count) }

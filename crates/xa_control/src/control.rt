@@ -3,12 +3,14 @@ ghost use Rattle.xa_control.specs.Controls.{HoldsControl, SpellsControl, bytes_o
 ghost use Rattle.xa_control.specs.declared.control.Control.{Control};
 
 use crate::hello::{Hello, hello_of, put_hello};
-use crate::number::u64_of;
+use crate::whole::{u64_of, xid_of};
 use std::alloc::{AllocError, Global};
 use xa_bytes::put_u64;
+use xa_fields::put_xid;
+use xa_xid::Xid;
 
 /// What a server is asked, and no manager: it is no call, and has no place in the history.
-#[derive(Clone, Copy, Debug, PartialEq, Eq)]
+#[derive(Debug, Drop, PartialEq, Eq)]
 pub enum Control {
     /// To end. That has no answer: the server closes the connection once it has ended.
     Shutdown,
@@ -18,6 +20,23 @@ pub enum Control {
     Disconnect(u64),
     /// What it has counted.
     Metrics,
+    /// Which sessions have an association of their own with this branch: are at work for it, or have suspended that.
+    Sessions(Xid),
+}
+
+impl Control {
+    /// A copy. Takes no memory.
+    pub fn copied(&self) -> Control
+        ensures { result ≡ self.now }
+    {
+        match self {
+            Control::Shutdown => Control::Shutdown,
+            Control::Hello(hello) => Control::Hello(*hello),
+            Control::Disconnect(session) => Control::Disconnect(*session),
+            Control::Metrics => Control::Metrics,
+            Control::Sessions(xid) => Control::Sessions(xid.copied()),
+        }
+    }
 }
 
 /// What a content asks of a server, or `None` if it asks nothing of the kind. Takes no memory.
@@ -32,6 +51,7 @@ pub fn control_of(content: &[u8]) -> Option<Control>
         [1, 70, fields @ ..] => greeting(fields),
         [1, 71, fields @ ..] => cut(fields),
         [1, 72] => Some(Control::Metrics),
+        [1, 73, fields @ ..] => listing(fields),
         _ => None,
     }
 }
@@ -50,6 +70,13 @@ fn cut(fields: &[u8]) -> Option<Control>
     Some(Control::Disconnect(u64_of(fields)?))
 }
 
+fn listing(fields: &[u8]) -> Option<Control>
+    ensures found { IfSome result (SpellsControl (1 ∷ 73 ∷ fields.now)) }
+    ensures only { (k : Control) → SpellsControl (1 ∷ 73 ∷ fields.now) k → result ≡ Some k }
+{
+    Some(Control::Sessions(xid_of(fields)?))
+}
+
 /// Appends the content that asks for this.
 pub fn put_control(out: &mut Vec<u8>, control: &Control) -> Result<(), AllocError>
     ensures bytes { OnOk result (out.new.items ≡ out.old.items ++ bytes_of_control control.now) }
@@ -66,6 +93,10 @@ pub fn put_control(out: &mut Vec<u8>, control: &Control) -> Result<(), AllocErro
             put_u64(out, *session)
         }
         Control::Metrics => out.extend_from_slice(&[1, 72]),
+        Control::Sessions(xid) => {
+            out.extend_from_slice(&[1, 73])?;
+            put_xid(out, xid)
+        }
     }
 }
 

@@ -2,7 +2,7 @@ ghost use Rattle.std.specs.Prelude.{◌≡◌, ◌++◌, IfSome, OnOk, Some};
 ghost use Rattle.xa_control.specs.Controls.{HoldsHello, hello_bytes};
 ghost use Rattle.xa_control.specs.declared.hello.Hello.{Hello};
 
-use crate::number::u64_of;
+use crate::whole::u64_of;
 use std::alloc::AllocError;
 use xa_bytes::{put_u32, put_u64, take_u32};
 
@@ -22,8 +22,11 @@ pub const DISCONNECTS: u64 = 1;
 /// The feature of telling what was counted.
 pub const MEASURES: u64 = 2;
 
+/// The feature of listing the sessions of a branch.
+pub const LISTS: u64 = 4;
+
 /// The features that this server has.
-pub const FEATURES: u64 = DISCONNECTS;
+pub const FEATURES: u64 = DISCONNECTS + MEASURES + LISTS;
 
 // The numbers of a program have 32 and 64 bits.
 fn hold(_hello: Hello)

@@ -5,15 +5,17 @@ ghost use Rattle.xa_handles.specs.Believed.Accounts.{Ends, Posts, asking, next_a
 ghost use Rattle.xa_handles.specs.{Believed.Standing.LeavesMail, Mail.IsCall, Mail.put_at};
 ghost use Rattle.xa_handles.specs.Believed.Shared.{CalledBy, ConnectedBy, DidCall, IsTold, LeftBy};
 ghost use Rattle.xa_model.specs.declared.event.Event.TheVariants as Event;
-ghost use Rattle.xa_sequencer.specs.{Associates.AssociatedBy, Associates.EndedBy, Believed.GroupManager.pending_of};
+ghost use Rattle.xa_sequencer.specs.{Associates.AssociatedBy, Associates.AttachedBy, Associates.EndedBy, Believed.GroupManager.pending_of};
 ghost use Rattle.xa_tokens.specs.{Believed.Account.Account, Believed.Account.Owes, Believed.Receipts.IsInOrder};
 
 use crate::asker::Asker;
 use crate::held::Held;
 use crate::letter::{Content, Letter};
 use crate::shared::SharedSequencer;
+use crate::tally::Tally;
 use std::alloc::{AllocError, Global};
 use std::fmt;
+use std::rt::Clock;
 use std::sync::Wait;
 use xa_assoc::ConnectFault;
 use xa_desk::Door;
@@ -22,6 +24,7 @@ use xa_history::{Start, take};
 use xa_model::Event;
 use xa_sequencer::GroupCommits;
 use xa_tokens::{Answered, Ask, Book, Posted, Share};
+use xa_xid::Xid;
 
 /// How many letters a handle has out at most, for which its tray has room: as many as sessions may be connected.
 const ROOM: usize = 1_024;
@@ -31,6 +34,8 @@ const ROOM: usize = 1_024;
 pub struct Handle<'a, M: GroupCommits, S: Start, B: Book, R> {
     rt: &'a R,
     sequencer: &'a SharedSequencer<M, S, B>,
+    /// What it counts of the groups whose sync it makes.
+    tally: &'a Tally,
     pub asker: Asker<'a, B>,
     tray: usize,
     /// How many of the calls that it posted are still unanswered.
@@ -39,7 +44,7 @@ pub struct Handle<'a, M: GroupCommits, S: Start, B: Book, R> {
     pub ghost owes: { Owes asker owed },
 }
 
-impl<'a, M: GroupCommits, S: Start, B: Book, R: Wait> Handle<'a, M, S, B, R> {
+impl<'a, M: GroupCommits, S: Start, B: Book, R: Clock + Wait> Handle<'a, M, S, B, R> {
     /// With a share with which nothing was asked yet.
     ///
     /// # Errors
@@ -47,6 +52,7 @@ impl<'a, M: GroupCommits, S: Start, B: Book, R: Wait> Handle<'a, M, S, B, R> {
     pub fn new(
         rt: &'a R,
         sequencer: &'a SharedSequencer<M, S, B>,
+        tally: &'a Tally,
         share: Share<B>,
         alloc: Global,
     ) -> Result<Handle<'a, M, S, B, R>, AllocError>
@@ -60,6 +66,7 @@ impl<'a, M: GroupCommits, S: Start, B: Book, R: Wait> Handle<'a, M, S, B, R> {
         Ok(Handle {
             rt,
             sequencer,
+            tally,
             asker: Asker::new(&sequencer.tokens, share),
             tray,
             owed: 0,
@@ -176,7 +183,7 @@ impl<'a, M: GroupCommits, S: Start, B: Book, R: Wait> Handle<'a, M, S, B, R> {
         held.locked
             .take_mail(&mut take(self.rt, &self.sequencer.mailbox));
         match held.locked.begin_mail() {
-            Some(syncer) => self.sequencer.sync(self.rt, held, syncer),
+            Some(syncer) => self.sequencer.sync(self.rt, held, syncer, self.tally),
             None => held,
         }
     }
@@ -268,6 +275,13 @@ impl<'a, M: GroupCommits, S: Start, B: Book, R: Wait> Handle<'a, M, S, B, R> {
         self.sequencer.take(self.rt).has_association(session)
     }
 
+    /// The sessions that have an association of their own with this branch, ascending.
+    pub fn sessions_of(&self, alloc: Global, xid: &Xid) -> Result<Vec<u64>, AllocError>
+        ensures { IfOk result (λ v. AttachedBy M.manages S.start S.base xid.now v.items) }
+    {
+        self.sequencer.take(self.rt).sessions_of(alloc, xid)
+    }
+
     /// Where the log's next record begins, while the manager is up: while a group is pending, its first one.
     pub fn log_end(&self) -> u64
         ensures { EndedBy M.manages S.start S.base result }
@@ -276,7 +290,7 @@ impl<'a, M: GroupCommits, S: Start, B: Book, R: Wait> Handle<'a, M, S, B, R> {
     }
 }
 
-impl<M: GroupCommits, S: Start, B: Book, R: Wait> Door for Handle<'_, M, S, B, R> {
+impl<M: GroupCommits, S: Start, B: Book, R: Clock + Wait> Door for Handle<'_, M, S, B, R> {
     ghost use Rattle.std.specs.Prelude.{Bool};
     ghost use Rattle.xa_handles.specs.Believed.Shared.{AskedBy, LeftBy};
 

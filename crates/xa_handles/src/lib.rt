@@ -7,6 +7,7 @@
 //!   of asks
 //! - `letter`: `Letter`, a call that a thread posted for whichever of them has the lock, or what became of it; `mail`: the
 //!   letters of a group; `trays`: letters that came back, until their threads take them
+//! - `tally`: `Tally`, what a thread counts of that; `put_counts`, what all have counted
 //!
 //! What the lock protects stands for a history whose entries are the keeper's, at each release: so nothing is carried out
 //! there that nobody asked for. A letter holds a ticket, or the entry that it became: so none is carried out twice.
@@ -20,6 +21,7 @@ mod locked;
 mod mail;
 mod noting;
 mod shared;
+mod tally;
 mod trays;
 
 pub use asker::Asker;
@@ -27,3 +29,4 @@ pub use handle::Handle;
 pub use held::Held;
 pub use letter::{Content, Letter};
 pub use shared::SharedSequencer;
+pub use tally::{Tally, put_counts};

@@ -5,7 +5,7 @@ ghost use Rattle.xa_handles.specs.Believed.Accounts.{Ends};
 ghost use Rattle.xa_handles.specs.Mail.{IsCall, put_at};
 ghost use Rattle.xa_handles.specs.Believed.Shared.{ConnectedBy, DidCall, HoldsAt, IsTold, LeftBy};
 ghost use Rattle.xa_handles.specs.Believed.Standing.{HasBook, KeepsMail, LeavesMail, TellsMail};
-ghost use Rattle.xa_sequencer.specs.{Associates.AssociatedBy, Associates.EndedBy, GroupCommits.AsksOne};
+ghost use Rattle.xa_sequencer.specs.{Associates.AssociatedBy, Associates.AttachedBy, Associates.EndedBy, GroupCommits.AsksOne};
 ghost use Rattle.xa_sequencer.specs.Believed.{GroupManager.pending_of, Stands.Stands};
 
 use crate::asker::Asker;
@@ -25,6 +25,7 @@ use xa_manager::{Asked, connect_reply};
 use xa_model::Event;
 use xa_sequencer::{GroupCommits, Sequencer};
 use xa_tokens::{Ask, Book, Keeper, Posted, Share, Tokens};
+use xa_xid::Xid;
 
 /// What the lock protects: a sequencer, the keeper of its history, and the letters that were taken out of the mailbox.
 #[derive(Drop)]
@@ -223,6 +224,13 @@ impl<M: GroupCommits, S: Start, B: Book> Locked<M, S, B> {
         None
     }
 
+    /// How many letters were taken out of the mailbox: while a group is pending, those of its calls.
+    pub(crate) fn letters_taken(&self) -> u64
+        ensures { result ≡ length self.now.letters }
+    {
+        self.letters.len() as u64
+    }
+
     // Whether the letters' calls are the pending group.
     fn begin_group(&mut self) -> bool
         requires { pending_of self.old.at.now ≡ None }
@@ -312,6 +320,13 @@ impl<M: GroupCommits, S: Start, B: Book> Locked<M, S, B> {
     {
         self.sequencer.promises();
         self.sequencer.has_association(session)
+    }
+
+    pub(crate) fn sessions_of(&self, alloc: Global, xid: &Xid) -> Result<Vec<u64>, AllocError>
+        ensures { IfOk result (λ v. AttachedBy M.manages S.start S.base xid.now v.items) }
+    {
+        self.sequencer.promises();
+        self.sequencer.sessions_of(alloc, xid)
     }
 
     pub(crate) fn log_end(&self) -> u64

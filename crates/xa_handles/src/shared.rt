@@ -7,12 +7,14 @@ ghost use Rattle.xa_tokens.specs.Believed.View.{all_parts};
 use crate::held::Held;
 use crate::letter::Letter;
 use crate::locked::Locked;
+use crate::tally::Tally;
 use std::alloc::Global;
 use std::fmt;
+use std::rt::Clock;
 use std::sync::atomic::{AtomicU64, Ordering};
 use std::sync::{Condvar, Mutex, MutexGuard, Wait};
 use std::thread::yield_now;
-use std::time::Duration;
+use std::time::{Duration, Instant};
 use xa_disk::Syncer;
 use xa_history::{Start, take};
 use xa_sequencer::{GroupCommits, Sequencer};
@@ -167,17 +169,21 @@ impl<M: GroupCommits, S: Start, B: Book> SharedSequencer<M, S, B> {
 
     /// Makes the sync of the pending group, for which the lock that was taken is released, and finishes the group. Returns the
     /// lock, taken again.
-    pub(crate) fn sync<'a, R: Wait>(
+    pub(crate) fn sync<'a, R: Clock + Wait>(
         &'a self,
         rt: &R,
         held: Held<'a, M, S, B>,
         syncer: Syncer,
+        tally: &Tally,
     ) -> Held<'a, M, S, B>
         ensures { pending_of result.at.now ≡ None }
     {
+        let calls = held.locked.letters_taken();
         self.syncing.store(1, Ordering::SeqCst);
         drop(held);
+        let began = Instant::now(rt).ok();
         let answer = syncer.sync();
+        tally.synced(calls, micros_since(rt, began));
         let mut held = self.hold_pending(rt);
         held.locked.finish_mail(&self.tokens, answer);
         self.syncing.store(0, Ordering::SeqCst);
@@ -204,6 +210,17 @@ impl<M: GroupCommits, S: Start, B: Book> SharedSequencer<M, S, B> {
         let (sequencer, keeper) = lock.into_inner().into_parts();
         tokens.audit(keeper, all);
         sequencer
+    }
+}
+
+// How many microseconds have passed, 0 if the clock doesn't tell.
+fn micros_since<R: Clock>(rt: &R, began: Option<Instant>) -> u64 {
+    let Some(began) = began else {
+        return 0;
+    };
+    match began.elapsed(rt) {
+        Ok(elapsed) => u64::try_from(elapsed.as_micros()).unwrap_or(u64::MAX),
+        Err(_) => 0,
     }
 }
 

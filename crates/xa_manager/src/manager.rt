@@ -2,7 +2,7 @@ ghost use Rattle.std.specs.Prelude.{◌≡◌, pos, IfOk, OnErr};
 ghost use Rattle.std.specs.List.{list_any};
 ghost use Rattle.xa_model.specs.Events.{IsAsked, AreEvents, IsEvent};
 ghost use Rattle.xa_log.specs.Believed.TwoFiles.{first_of, second_of};
-ghost use Rattle.xa_model.specs.{Answer.plain, Associations.is_of_session, State.State, State.Up};
+ghost use Rattle.xa_model.specs.{Answer.plain, Associations.is_of_session, State.State, State.Up, State.owns};
 ghost use Rattle.xa_manager.specs.Managed.{ManagerStandsFor};
 ghost use Rattle.xa_manager.specs.Believed.Answered.{FullyAnswered, AnswersAll, ArePinned, RunsAll, StaysFor, connect_reply};
 ghost use Rattle.xa_assoc.specs.Company.{Gains, Loses};
@@ -23,6 +23,7 @@ use xa_disk::Disk;
 use xa_frame::{Reply, Request};
 use xa_log::Log;
 use xa_model::{Event, Outcome};
+use xa_xid::Xid;
 
 /// A resource manager of C193 over a log on two disks, that orders reads and writes by multiversion timestamp ordering
 /// (Bernstein, Hadzilacos and Goodman, 5.3).
@@ -125,6 +126,16 @@ impl<D: Disk> Manager<D> {
             → result ≡ list_any (is_of_session session) s.associations }
     {
         self.tables.sessions.holds_any(session)
+    }
+
+    /// Whether a session has an association of its own with this branch.
+    pub fn works_for(&self, session: u64, xid: &Xid) -> bool
+        ensures alone { (s : State) → ManagerStandsFor D.Disk self.now s
+            → result ≡ list_any (owns session xid.now) s.associations }
+        ensures beside { (f : PendingGroup) (s : State) → IsPending D.Disk self.now f s
+            → result ≡ list_any (owns session xid.now) s.associations }
+    {
+        self.tables.sessions.owns(session, xid)
     }
 
     /// Where the log's next record begins, if the manager is up: while a group is pending, its first one.

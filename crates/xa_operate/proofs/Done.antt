@@ -3,8 +3,8 @@ use Rattle.std.proofs.Common.{◌≡◌, ℕ, suc, ◌-◌, ◌^◌, length, ari
 use Rattle.std.specs.Io.KnownBytes.{Appends}
 use Rattle.std.specs.Prelude.{All, option_to_list}
 use Rattle.xa_operate.specs.declared.asking.Asking.{Asking}
-use Rattle.xa_frame.specs.declared.reply.Reply.{Reply}
 use Rattle.xa_output.specs.Output.{IsFront}
+use Rattle.xa_talk.specs.declared.answered.Answered.{Answered}
 use Rattle.xa_operate.specs.Agendas.{behind}
 use Rattle.xa_operate.specs.Courses.{AreDone, IsDone, Prints, QuestionEnds, TaskEnds}
 use Rattle.xa_operate.specs.Shown.{shown}
@@ -27,7 +27,7 @@ none_popped (Some x) old new none items rest = absurd (cc none)
 
 module _ {C : Type 0} (format : Format) (task : Task) (sent left : C → Option (List ℕ)) where
   -- what is done is printed, whole or in part
-  pub printed : (question : Asking) (reply : Reply) (r : Result (Unit {0}) OperateFault) (agenda agenda' : List Asking) (text : List ℕ)
+  pub printed : (question : Asking) (reply : Answered) (r : Result (Unit {0}) OperateFault) (agenda agenda' : List Asking) (text : List ℕ)
       (output output' : Option (List ℕ)) (c c' : C) → IsDone format task sent left question reply c c'
       → text ≡ shown format task question reply → agenda' ≡ agenda ++ behind task reply → Prints r text output output'
       → (t : List ℕ) × Appends output output' t × QuestionEnds format task sent left question r agenda agenda' t c c'
@@ -44,7 +44,7 @@ module _ {C : Type 0} (format : Format) (task : Task) (sent left : C → Option 
   )
 
   -- one question more is done
-  pub done_more : (agenda rest agenda' : List Asking) (replies : List Reply) (question : Asking) (reply : Reply)
+  pub done_more : (agenda rest agenda' : List Asking) (replies : List Answered) (question : Asking) (reply : Answered)
       (text more : List ℕ) (c over c' : C)
       → AreDone format task sent left agenda replies (question ∷ rest) text c over
       → IsDone format task sent left question reply over c' → more ≡ shown format task question reply

@@ -159,5 +159,6 @@ module _ (xid_of : List ℕ → Option Triple) (each : ReadsTexts xid_of) where
     connects = refl;
     opens = opens name named;
     asks = asks task xid;
+    goes_on = refl;
     hangs_up = refl;
   }

@@ -1,14 +1,13 @@
 -- A task is asked of a server over one connection.
 use Rattle.std.specs.Io.KnownBytes.{Appends, Keeps}
 use Rattle.std.specs.Prelude.{ℕ, ◌≡◌, ◌⊎◌, ◌-◌, ◌^◌, true, false, List, [], ◌∷◌, ◌++◌, length, Option, Result, Ok, Err, IsErrOf}
-use Rattle.xa_frame.specs.declared.reply.Reply.{Reply}
 use Rattle.xa_output.specs.Output.{IsFront}
-use Rattle.xa_talk.specs.Exchanges.{Brought}
+use Rattle.xa_talk.specs.declared.answered.Answered.{Answered}
 use Rattle.xa_talk.specs.declared.fault.TalkFault.{TalkFault}
 use Rattle.xa_talk.specs.declared.fault.TalkFault.TheVariants.{Connect, Memory, Write}
 use Rattle.xa_operate.specs.Agendas.{asked_first, behind}
-use Rattle.xa_operate.specs.Askings.{asking_frame}
-use Rattle.xa_operate.specs.Answers.{answers}
+use Rattle.xa_operate.specs.Askings.{Brings}
+use Rattle.xa_operate.specs.Answers.{answers, refusal}
 use Rattle.xa_operate.specs.Shown.{shown}
 use Rattle.xa_operate.specs.declared.asking.Asking.{Asking}
 use Rattle.xa_operate.specs.declared.fault.OperateFault.{OperateFault}
@@ -32,13 +31,13 @@ Prints (Err fault) text output output' =
 -- of a task in a format, over connections, with what was sent over one, and what can still be read from it
 module _ {C : Type 0} (format : Format) (task : Task) (sent left : C → Option (List ℕ)) where
   -- A question went over the connection, and the reply that came back says that it is done.
-  pub record IsDone (question : Asking) (reply : Reply) (c c' : C) : Type 0 where
-    pub exchanged : Brought (asking_frame question) (Ok reply) (sent c) (sent c') (left c) (left c')
+  pub record IsDone (question : Asking) (reply : Answered) (c c' : C) : Type 0 where
+    pub exchanged : Brings question (Ok reply) (sent c) (sent c') (left c) (left c')
     pub done : answers task question reply ≡ true
 
   -- So many questions were done, one behind the other, by their replies: the first of those that were to be asked, then those
   -- that the answers led to. What is printed is the text of each answer.
-  abbrev pub AreDone : List Asking → List Reply → List Asking → List ℕ → C → C → Type 0
+  abbrev pub AreDone : List Asking → List Answered → List Asking → List ℕ → C → C → Type 0
   AreDone agenda [] agenda' text c c' = (agenda' ≡ agenda) × (text ≡ []) × (c' ≡ c)
   AreDone [] (reply ∷ replies) agenda' text c c' = ⊥
   AreDone (question ∷ agenda) (reply ∷ replies) agenda' text c c' =
@@ -48,20 +47,20 @@ module _ {C : Type 0} (format : Format) (task : Task) (sent left : C → Option 
 
   -- why a question that was asked isn't done: the server refused it so
   pub record IsRefused (question : Asking) (end : OperateFault) (c c' : C) : Type 0 where
-    pub reply : Reply
-    pub exchanged : Brought (asking_frame question) (Ok reply) (sent c) (sent c') (left c) (left c')
+    pub reply : Answered
+    pub exchanged : Brings question (Ok reply) (sent c) (sent c') (left c) (left c')
     pub refused : answers task question reply ≡ false
-    pub told : end ≡ Refused reply.code reply.detail
+    pub told : end ≡ refusal reply
 
   -- the connection didn't bring its reply
   pub record IsUnanswered (question : Asking) (end : OperateFault) (c c' : C) : Type 0 where
     pub fault : TalkFault
-    pub exchanged : Brought (asking_frame question) (Err fault) (sent c) (sent c') (left c) (left c')
+    pub exchanged : Brings question (Err fault) (sent c) (sent c') (left c) (left c')
     pub told : end ≡ Talk fault
 
   -- it is done, but its answer couldn't be printed whole, or what it led to couldn't be kept
   pub record IsUnprinted (question : Asking) (end : OperateFault) (text : List ℕ) (c c' : C) : Type 0 where
-    pub reply : Reply
+    pub reply : Answered
     pub done : IsDone question reply c c'
     pub part : IsFront text (shown format task question reply)
     pub told : (end ≡ Talk Write) ⊎ (end ≡ Talk Memory)
@@ -70,7 +69,7 @@ module _ {C : Type 0} (format : Format) (task : Task) (sent left : C → Option 
   abbrev pub QuestionEnds : {X : Type 0} → Asking → Result X OperateFault → List Asking → List Asking → List ℕ → C → C
       → Type 0
   QuestionEnds question (Ok x) agenda agenda' text c c' =
-      (reply : Reply) × IsDone question reply c c' × (text ≡ shown format task question reply)
+      (reply : Answered) × IsDone question reply c c' × (text ≡ shown format task question reply)
       × (agenda' ≡ agenda ++ behind task reply)
   QuestionEnds question (Err fault) agenda agenda' text c c' =
       ((text ≡ []) × IsRefused question fault c c')
@@ -88,7 +87,7 @@ module _ {C : Type 0} (format : Format) (task : Task) (sent left : C → Option 
   -- A task's questions go over a connection, up to its end, and what is printed is the text of their answers.
   pub record AskedOver {X : Type 0} (name : List ℕ) (end : Result X OperateFault) (output output' : Option (List ℕ))
       : Type 0 where
-    pub replies : List Reply
+    pub replies : List Answered
     pub agenda : List Asking
     pub text : List ℕ
     pub last : List ℕ

@@ -4,8 +4,13 @@ pub mod Agendas
 pub mod Answers
 pub mod Lines
 pub mod Metrics
+pub mod Told
+pub mod Families
+pub mod Histograms
+pub mod Counted
 pub mod Shown
 pub mod Courses
 pub mod Previews
 pub mod Confirms
 pub mod Scripts
+pub mod Rows

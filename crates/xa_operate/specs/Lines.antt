@@ -1,6 +1,6 @@
 -- The lines that are printed of what a server answers: in words, or each a JSON object.
 use Rattle.std.specs.Fmt.{decimal, signed_decimal}
-use Rattle.std.specs.Prelude.{ℕ, ℤ, ◌-◌, List, [], ◌∷◌, ◌++◌, codes, flat_map}
+use Rattle.std.specs.Prelude.{ℕ, ℤ, ◌-◌, List, [], ◌∷◌, ◌++◌, Option, Some, None, codes, flat_map}
 use Rattle.xa_frame.specs.declared.known_branch.AssociationCounts.{AssociationCounts}
 use Rattle.xa_frame.specs.declared.known_branch.KnownBranch.{KnownBranch}
 use Rattle.xa_frame.specs.declared.status.Status.{Status}
@@ -45,12 +45,35 @@ counts_text format counts =
     member format (codes "active") (decimal counts.active) ++ member format (codes "suspended") (decimal counts.suspended)
     ++ member format (codes "loose") (decimal counts.loose)
 
+abbrev pub behind_comma : ℕ → List ℕ
+behind_comma n = 44 ∷ decimal n
+
+abbrev pub behind_commas : List ℕ → List ℕ
+behind_commas ns = flat_map behind_comma ns
+
+-- numbers with commas between them
+abbrev pub comma_list : List ℕ → List ℕ
+comma_list [] = []
+comma_list (n ∷ ns) = decimal n ++ behind_commas ns
+
+-- sessions: a dash where there is none, or it isn't known; or a list, which is left out where it isn't known
+abbrev pub sessions_text : Format → Option (List ℕ) → List ℕ
+sessions_text Text None = codes " -"
+sessions_text Text (Some []) = codes " -"
+sessions_text Text (Some (n ∷ ns)) = 32 ∷ (decimal n ++ behind_commas ns)
+sessions_text Json None = []
+sessions_text Json (Some ns) = codes ",\"sessions\":[" ++ comma_list ns ++ codes "]"
+
 -- a branch's XID, state, mark (0 for none), timestamp, and how many active, suspended and loose associations it has
-abbrev pub branch_line : Format → KnownBranch → List ℕ
-branch_line format b =
+abbrev pub branch_front : Format → KnownBranch → List ℕ
+branch_front format b =
     xid_front format b.xid ++ member format (codes "state") (word format (state_name b.state))
     ++ member format (codes "mark") (signed_decimal b.mark) ++ member format (codes "timestamp") (decimal b.timestamp)
-    ++ counts_text format b.associations ++ line_end format
+    ++ counts_text format b.associations
+
+-- the same, and which sessions' the active and suspended ones are
+abbrev pub branch_line : Format → KnownBranch → Option (List ℕ) → List ℕ
+branch_line format b sessions = branch_front format b ++ sessions_text format sessions ++ line_end format
 
 abbrev pub xid_lines : Format → List Triple → List ℕ
 xid_lines format xids = flat_map (xid_line format) xids

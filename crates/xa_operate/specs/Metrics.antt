@@ -7,6 +7,10 @@ use Rattle.xa_frame.specs.declared.status.Status.{Status}
 abbrev pub worded : List ℕ → List ℕ → List ℕ → List ℕ
 worded front name behind = front ++ name ++ 32 ∷ (behind ++ 10 ∷ [])
 
+-- what stands before the samples of a metric: what it is, and of which type
+abbrev pub heading : List ℕ → List ℕ → List ℕ → List ℕ
+heading name type help = worded (codes "# HELP ") name help ++ worded (codes "# TYPE ") name type
+
 -- a metric: what it is, of which type, and its number
 unfoldable pub metric : List ℕ → List ℕ → List ℕ → ℕ → List ℕ
 metric name type help n =

@@ -45,8 +45,10 @@ abbrev pub Lists : Request → Type 0
 Lists (request.Branches count after) = Unit {0}
 Lists _ = ⊥
 
--- a question that changes nothing: which branches there are, or how the server is doing
+-- a question that changes nothing: which branches there are, who is at work for them, or how the server is doing
 abbrev pub LooksOnly : Asking → Type 0
 LooksOnly (asking.Question question.Status) = Unit {0}
 LooksOnly (asking.Question (question.Call request)) = Lists request
 LooksOnly (asking.Disconnect session) = ⊥
+LooksOnly (asking.Sessions branch others) = Unit {0}
+LooksOnly asking.Metrics = Unit {0}

@@ -50,18 +50,27 @@ ended line = line ++ 10 ∷ []
 abbrev pub more_branches : List ℕ
 more_branches = codes "# while 256 are listed: 1 branches 256 X, above the last X"
 
+-- the sessions of the branches that are listed
+abbrev pub listed_comments : List ℕ
+listed_comments = ended (codes "# each X with active or suspended associations: 1 sessions X") ++ ended more_branches
+
 abbrev pub marked_comments : List ℕ
 marked_comments =
     ended (codes "# each X that is working, marked, and without associations: 1 rollback TMNOFLAGS X") ++ ended more_branches
 
--- what the answers lead to, as comments
-abbrev pub comments_text : Task → List ℕ
-comments_text Branches = ended more_branches
-comments_text (Branch xid) = ended more_branches
-comments_text Abandoned = ended more_branches
-comments_text RollbackMarked = marked_comments
-comments_text Recover = ended (codes "# while 256 are listed: 1 recover TMNOFLAGS 256")
-comments_text _ = []
+-- what a status for Prometheus goes on to ask
+abbrev pub metrics_line : List ℕ
+metrics_line = codes "1 metrics"
+
+-- what the answers lead to: a line where that is known, else comments
+abbrev pub further_text : Task → List ℕ
+further_text Metrics = ended metrics_line
+further_text Branches = listed_comments
+further_text (Branch xid) = listed_comments
+further_text Abandoned = ended more_branches
+further_text RollbackMarked = marked_comments
+further_text Recover = ended (codes "# while 256 are listed: 1 recover TMNOFLAGS 256")
+further_text _ = []
 
 -- session 1 opens the resource manager by its name, where that is needed
 abbrev pub open_line : List ℕ → List ℕ
@@ -72,7 +81,7 @@ open_text name task = if opens_session task then ended (open_line name) else []
 
 abbrev pub script_of : List ℕ → Task → List ℕ
 script_of name task =
-    ended (codes "connect") ++ open_text name task ++ ended (call_text task) ++ comments_text task
+    ended (codes "connect") ++ open_text name task ++ ended (call_text task) ++ further_text task
     ++ ended (codes "1 hangup")
 
 -- the line of a script in which session 1 asks this
@@ -80,12 +89,15 @@ abbrev pub said : Asking → Line
 said (asking.Question (question.Call request)) = line.Call 1 request
 said (asking.Question question.Status) = line.Status 1
 said (asking.Disconnect session) = line.Control 1 (control.Disconnect session)
+said (asking.Sessions branch others) = line.Control 1 (control.Sessions branch.xid)
+said asking.Metrics = line.Control 1 control.Metrics
 
 -- `xarm talk` reads the lines of a task's script as what the task asks first.
 pub record TalkReads (xid_of : List ℕ → Option Triple) (name : List ℕ) (task : Task) : Type 0 where
   pub connects : line_of xid_of (codes "connect") ≡ line.Connect
   pub opens : line_of xid_of (open_line name) ≡ said (called (Open TMNOFLAGS name))
   pub asks : line_of xid_of (call_text task) ≡ said (question_of task)
+  pub goes_on : line_of xid_of metrics_line ≡ said asking.Metrics
   pub hangs_up : line_of xid_of (codes "1 hangup") ≡ line.Hangup 1
 
 -- the XID that a task names is one, and so is the number of a session

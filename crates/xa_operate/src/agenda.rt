@@ -1,16 +1,18 @@
 //! What a task asks, and what it goes on to ask by an answer.
-ghost use Rattle.std.specs.Prelude.{◌≡◌, ◌≤◌, ◌++◌, All, IfOk, OnOk, length};
+ghost use Rattle.std.specs.Prelude.{◌≡◌, ◌≤◌, ◌++◌, ◌∷◌, [], All, IfOk, OnOk, length};
 ghost use Rattle.xa_limits.specs.declared.TheConstants.{MOST_INFO};
-ghost use Rattle.xa_operate.specs.Agendas.{after_page, after_scan, asked_first, behind, has_no_association, is_abandoned, question_of, rollback_of};
-ghost use Rattle.xa_operate.specs.Agendas.{rollbacks_of};
+ghost use Rattle.xa_operate.specs.Agendas.{after_listed, after_page, after_scan, asked_first, behind, behind_body, has_no_association};
+ghost use Rattle.xa_operate.specs.Agendas.{is_abandoned, question_of, rollback_of, rollbacks_of};
 ghost use Rattle.xa_operate.specs.Askings.{IsAsking, called};
 
 use crate::asking::Asking;
+use crate::listed::push_sessions;
 use crate::task::Task;
 use std::alloc::{AllocError, Global};
 use std::collections::VecDeque;
 use xa_codes::{Bytes, TMNOFLAGS, TMSTARTRSCAN, XA_OK};
-use xa_frame::{AssociationCounts, Body, BranchState, KnownBranch, Question, Reply, Request};
+use xa_frame::{AssociationCounts, Body, BranchState, KnownBranch, Question, Request};
+use xa_talk::Answered;
 
 /// How many branches, or XIDs, are asked for at a time: as many as a reply may have.
 pub const PAGE: u32 = 256;
@@ -84,18 +86,36 @@ fn question_of(task: &Task) -> Asking
 
 /// Adds what a task goes on to ask once this is answered.
 pub(crate) fn push_behind(
+    alloc: Global,
     agenda: &mut VecDeque<Asking>,
     task: &Task,
-    reply: &Reply,
+    answered: &Answered,
 ) -> Result<(), AllocError>
     requires { All IsAsking agenda.old.items }
-    ensures questions { OnOk result (agenda.new.items ≡ agenda.old.items ++ behind task.now reply.now) }
+    ensures questions { OnOk result (agenda.new.items ≡ agenda.old.items ++ behind task.now answered.now) }
     ensures limits { OnOk result (All IsAsking agenda.new.items) }
 {
-    match (task, &reply.body) {
+    match answered {
+        Answered::Reply(reply) => push_behind_body(alloc, agenda, task, &reply.body),
+        Answered::Control(_) => Ok(()),
+    }
+}
+
+fn push_behind_body(
+    alloc: Global,
+    agenda: &mut VecDeque<Asking>,
+    task: &Task,
+    body: &Body,
+) -> Result<(), AllocError>
+    requires { All IsAsking agenda.old.items }
+    ensures questions { OnOk result (agenda.new.items ≡ agenda.old.items ++ behind_body task.now body.now) }
+    ensures limits { OnOk result (All IsAsking agenda.new.items) }
+{
+    match (task, body) {
         (Task::Recover, Body::Xids(xids)) => push_scan(agenda, xids.as_slice().len()),
+        (Task::Metrics, Body::Status(_)) => push_metrics(agenda),
         (Task::Branches | Task::Branch(_) | Task::Abandoned, Body::Branches(branches)) => {
-            push_page(agenda, branches.as_slice())
+            push_listed(alloc, agenda, task, branches.as_slice())
         }
         (Task::RollbackMarked, Body::Branches(branches)) => {
             push_rollbacks(agenda, branches.as_slice())?;
@@ -103,6 +123,30 @@ pub(crate) fn push_behind(
         }
         _ => Ok(()),
     }
+}
+
+fn push_metrics(agenda: &mut VecDeque<Asking>) -> Result<(), AllocError>
+    requires { All IsAsking agenda.old.items }
+    ensures questions { OnOk result (agenda.new.items ≡ agenda.old.items ++ Asking.Metrics ∷ []) }
+    ensures limits { OnOk result (All IsAsking agenda.new.items) }
+{
+    agenda.push_back(Asking::Metrics)?;
+    Ok(())
+}
+
+/// The sessions of branches that are listed, and then the next page.
+fn push_listed(
+    alloc: Global,
+    agenda: &mut VecDeque<Asking>,
+    task: &Task,
+    branches: &[KnownBranch],
+) -> Result<(), AllocError>
+    requires { All IsAsking agenda.old.items }
+    ensures questions { OnOk result (agenda.new.items ≡ agenda.old.items ++ after_listed task.now branches.now) }
+    ensures limits { OnOk result (All IsAsking agenda.new.items) }
+{
+    push_sessions(alloc, agenda, task, branches)?;
+    push_page(agenda, branches)
 }
 
 /// The scan goes on behind a full page.

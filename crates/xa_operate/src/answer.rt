@@ -1,24 +1,86 @@
 //! Whether a reply is what was asked for.
 ghost use Rattle.std.specs.Prelude.{◌≡◌};
-ghost use Rattle.xa_operate.specs.Answers.{answers, answers_call, answers_question, answers_rollback, is_branches, is_first_mark};
-ghost use Rattle.xa_operate.specs.Answers.{is_last_mark, is_mark, is_number, is_status, is_xids};
-ghost use Rattle.xa_operate.specs.Answers.{passes_over};
+ghost use Rattle.xa_operate.specs.Answers.{answers, answers_asked, answers_call, answers_own, answers_question, answers_rollback};
+ghost use Rattle.xa_operate.specs.Answers.{is_branches, is_done, is_first_mark, is_last_mark, is_mark, is_number, is_status, is_xids};
+ghost use Rattle.xa_operate.specs.Answers.{may_tell_counts, may_tell_sessions, passes_over, refusal};
 
 use crate::asking::Asking;
+use crate::fault::OperateFault;
 use crate::task::Task;
 use xa_codes::{
-    Code, XA_OK, XA_RBCOMMFAIL, XA_RBDEADLOCK, XA_RBINTEGRITY, XA_RBOTHER, XA_RBPROTO,
+    Code, Detail, XA_OK, XA_RBCOMMFAIL, XA_RBDEADLOCK, XA_RBINTEGRITY, XA_RBOTHER, XA_RBPROTO,
     XA_RBROLLBACK, XA_RBTIMEOUT, XA_RBTRANSIENT, XAER_NOTA,
 };
+use xa_control::Answer;
 use xa_frame::{Body, Question, Reply, Request};
+use xa_talk::Answered;
 
-/// Whether a reply says that what was asked is done. Any other is a refusal.
-pub(crate) fn answers(task: &Task, asking: &Asking, reply: &Reply) -> bool
-    ensures { result ≡ answers task.now asking.now reply.now }
+/// Whether an answer says that what was asked is done. Any other is a refusal.
+pub(crate) fn answers(task: &Task, asking: &Asking, answered: &Answered) -> bool
+    ensures { result ≡ answers task.now asking.now answered.now }
+{
+    match answered {
+        Answered::Reply(reply) => answers_asked(task, asking, reply),
+        Answered::Control(answer) => answers_own(asking, answer),
+    }
+}
+
+/// What is told of an answer that refuses.
+pub(crate) fn refusal(answered: &Answered) -> OperateFault
+    ensures { result ≡ refusal answered.now }
+{
+    match answered {
+        Answered::Reply(reply) => OperateFault::Refused(reply.code, reply.detail),
+        Answered::Control(Answer::Refused(code, detail)) => OperateFault::Refused(*code, *detail),
+        Answered::Control(_) => OperateFault::Refused(XA_OK, Detail::Nothing),
+    }
+}
+
+fn answers_asked(task: &Task, asking: &Asking, reply: &Reply) -> bool
+    ensures { result ≡ answers_asked task.now asking.now reply.now }
 {
     match asking {
         Asking::Question(question) => answers_question(task, question, reply),
-        Asking::Disconnect(_) => reply.code == XA_OK,
+        _ => false,
+    }
+}
+
+/// The same of what a server itself is asked. An older server tells neither sessions nor counts, nor does one with workers.
+fn answers_own(asking: &Asking, answer: &Answer) -> bool
+    ensures { result ≡ answers_own asking.now answer.now }
+{
+    match asking {
+        Asking::Disconnect(_) => is_done(answer),
+        Asking::Sessions(..) => may_tell_sessions(answer),
+        Asking::Metrics => may_tell_counts(answer),
+        Asking::Question(_) => false,
+    }
+}
+
+fn is_done(answer: &Answer) -> bool
+    ensures { result ≡ is_done answer.now }
+{
+    match answer {
+        Answer::Done => true,
+        _ => false,
+    }
+}
+
+fn may_tell_sessions(answer: &Answer) -> bool
+    ensures { result ≡ may_tell_sessions answer.now }
+{
+    match answer {
+        Answer::Sessions(_) | Answer::Refused(..) => true,
+        _ => false,
+    }
+}
+
+fn may_tell_counts(answer: &Answer) -> bool
+    ensures { result ≡ may_tell_counts answer.now }
+{
+    match answer {
+        Answer::Metrics(_) | Answer::Refused(..) => true,
+        _ => false,
     }
 }
 

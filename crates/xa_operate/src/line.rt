@@ -1,12 +1,14 @@
 //! The lines of branches and of counts, in a format.
 ghost use Rattle.std.specs.Fmt.{decimal, signed_decimal};
+ghost use Rattle.std.specs.Option.{option_copied};
 ghost use Rattle.std.specs.Prelude.{◌≡◌, ◌++◌, OnOk, codes};
-ghost use Rattle.xa_operate.specs.Lines.{at_work, at_work_text, branch_counts, branch_line, count, count_line};
-ghost use Rattle.xa_operate.specs.Lines.{count_member, counts_end, counts_text, end_text, line_end, member, quoted};
+ghost use Rattle.xa_operate.specs.Lines.{at_work, at_work_text, branch_counts, branch_front, branch_line};
+ghost use Rattle.xa_operate.specs.Lines.{count, count_line, count_member, counts_end, counts_text, end_text, line_end, member, quoted};
 ghost use Rattle.xa_operate.specs.Lines.{log_counts, rolled_line, server_counts, status_text, word, xid_front, xid_line, xid_lines};
 ghost use Rattle.xa_script.specs.Replies.{state_name};
 
 use crate::format::Format;
+use crate::sessions::push_sessions;
 use arrayvec::ArrayVec;
 use std::alloc::{AllocError, Global};
 use xa_codes::Code;
@@ -30,21 +32,45 @@ fn push_xid(line: &mut Vec<u8>, format: Format, xid: &Xid) -> Result<(), AllocEr
     push_end(line, format)
 }
 
-/// Adds the line of a branch.
+/// Adds the line of a branch, with its sessions if they are known.
 pub(crate) fn push_branch(
     alloc: Global,
     line: &mut Vec<u8>,
     format: Format,
     branch: &KnownBranch,
+    sessions: Option<&[u64]>,
 ) -> Result<(), AllocError>
-    ensures { OnOk result (line.new.items ≡ line.old.items ++ branch_line format branch.now) }
+    ensures { OnOk result (line.new.items ≡ line.old.items ++ branch_line format branch.now (option_copied sessions.entry)) }
+{
+    push_branch_front(alloc, line, format, branch)?;
+    push_sessions(alloc, line, format, sessions)?;
+    push_end(line, format)
+}
+
+fn push_branch_front(
+    alloc: Global,
+    line: &mut Vec<u8>,
+    format: Format,
+    branch: &KnownBranch,
+) -> Result<(), AllocError>
+    ensures { OnOk result (line.new.items ≡ line.old.items ++ branch_front format branch.now) }
 {
     push_front(line, format, &branch.xid)?;
     push_state(line, format, branch.state)?;
-    push_code(alloc, line, format, "mark", branch.mark)?;
+    push_mark(alloc, line, format, branch)?;
     push_number(alloc, line, format, "timestamp", branch.timestamp)?;
-    push_counts(alloc, line, format, branch.associations)?;
-    push_end(line, format)
+    push_counts(alloc, line, format, branch.associations)
+}
+
+fn push_mark(
+    alloc: Global,
+    line: &mut Vec<u8>,
+    format: Format,
+    branch: &KnownBranch,
+) -> Result<(), AllocError>
+    ensures { OnOk result (line.new.items ≡ line.old.items ++ member format (codes "mark") (signed_decimal branch.now.mark)) }
+{
+    push_code(alloc, line, format, "mark", branch.mark)
 }
 
 fn push_counts(

@@ -1,7 +1,7 @@
 //! How a server is doing, as Prometheus reads it.
 ghost use Rattle.std.specs.Fmt.{decimal};
 ghost use Rattle.std.specs.Prelude.{◌≡◌, ◌++◌, OnOk};
-ghost use Rattle.xa_operate.specs.Metrics.{branch_metrics, log_metrics, metric, metrics_text, server_metrics, worded};
+ghost use Rattle.xa_operate.specs.Metrics.{branch_metrics, heading, log_metrics, metric, metrics_text, server_metrics, worded};
 
 use std::alloc::{AllocError, Global};
 use xa_frame::Status;
@@ -116,7 +116,7 @@ fn push_server_metrics(alloc: Global, text: &mut Vec<u8>, status: Status) -> Res
 
 /// Adds a metric: what it is, of which type, and its number.
 #[tactic(auto, unfolding(crate::specs::Metrics::metric))]
-fn push_metric(
+pub(crate) fn push_metric(
     alloc: Global,
     text: &mut Vec<u8>,
     name: &str,
@@ -132,7 +132,25 @@ fn push_metric(
     push_worded(text, "", name, digits.as_bytes())
 }
 
-fn push_worded(text: &mut Vec<u8>, front: &str, name: &str, behind: &[u8]) -> Result<(), AllocError>
+/// Adds what stands before the samples of a metric.
+pub(crate) fn push_heading(
+    text: &mut Vec<u8>,
+    name: &str,
+    kind: &str,
+    help: &str,
+) -> Result<(), AllocError>
+    ensures { OnOk result (text.new.items ≡ text.old.items ++ heading name.now kind.now help.now) }
+{
+    push_worded(text, "# HELP ", name, help.as_bytes())?;
+    push_worded(text, "# TYPE ", name, kind.as_bytes())
+}
+
+pub(crate) fn push_worded(
+    text: &mut Vec<u8>,
+    front: &str,
+    name: &str,
+    behind: &[u8],
+) -> Result<(), AllocError>
     ensures { OnOk result (text.new.items ≡ text.old.items ++ worded front.now name.now behind.now) }
 {
     text.extend_from_slice(front.as_bytes())?;

@@ -1,13 +1,13 @@
 //! A task is asked of a server.
 ghost use Rattle.std.specs.Io.KnownBytes.{Appends};
-ghost use Rattle.std.specs.Prelude.{◌≡◌, ◌≤◌, All, List, OnOk, ℕ, length};
+ghost use Rattle.std.specs.Prelude.{◌≤◌, All, List, OnOk, ℕ, length};
 ghost use Rattle.xa_limits.specs.declared.TheConstants.{MOST_INFO};
 ghost use Rattle.xa_operate.specs.Askings.{IsAsking};
 ghost use Rattle.xa_operate.specs.Courses.{Operates, Prints, QuestionEnds};
 ghost use Rattle.xa_talk.specs.declared.dial.Connection.{Connection};
 
 use crate::agenda::{asked_first, push_behind};
-use crate::answer::answers;
+use crate::answer::{answers, refusal};
 use crate::asking::{Asking, bring};
 use crate::fault::OperateFault;
 use crate::format::Format;
@@ -16,7 +16,6 @@ use crate::task::Task;
 use std::alloc::Global;
 use std::collections::VecDeque;
 use std::io::{Read, Write};
-use xa_frame::Reply;
 use xa_output::write_text;
 use xa_talk::{Connection, Dial, TalkFault};
 
@@ -83,15 +82,8 @@ fn ask<O: Write, R: Read, W: Write>(
         return Err(refusal(&reply));
     }
     let text = shown(alloc, format, task, question, &reply)?;
-    push_behind(agenda, task, &reply)?;
+    push_behind(alloc, agenda, task, &reply)?;
     print_text(output, text.as_slice())
-}
-
-/// A reply that refuses what was asked.
-fn refusal(reply: &Reply) -> OperateFault
-    ensures { result ≡ OperateFault.Refused reply.now.code reply.now.detail }
-{
-    OperateFault::Refused(reply.code, reply.detail)
 }
 
 /// Prints a text, and flushes it.

@@ -1,7 +1,8 @@
 //! The script that asks what a task asks.
 ghost use Rattle.std.specs.Fmt.{decimal};
 ghost use Rattle.std.specs.Prelude.{◌≡◌, ◌++◌, IfOk, OnOk, codes};
-ghost use Rattle.xa_operate.specs.Scripts.{call_text, comments_text, direction_text, ended, marked_comments, more_branches, open_text, script_of};
+ghost use Rattle.xa_operate.specs.Scripts.{call_text, direction_text, ended, further_text, listed_comments, marked_comments, more_branches};
+ghost use Rattle.xa_operate.specs.Scripts.{open_text, script_of};
 ghost use Rattle.xa_xid.specs.Spelling.{text_of};
 
 use crate::task::Task;
@@ -18,7 +19,7 @@ pub fn script_text(alloc: Global, name: &str, task: &Task) -> Result<Vec<u8>, Al
     push_line(&mut text, "connect")?;
     push_open(&mut text, name, task)?;
     push_call(alloc, &mut text, task)?;
-    push_comments(&mut text, task)?;
+    push_further(&mut text, task)?;
     push_line(&mut text, "1 hangup")?;
     Ok(text)
 }
@@ -93,16 +94,28 @@ fn push_about(text: &mut Vec<u8>, words: &str, xid: &Xid) -> Result<(), AllocErr
     Ok(())
 }
 
-/// Adds what the answers lead to, as comments.
-fn push_comments(text: &mut Vec<u8>, task: &Task) -> Result<(), AllocError>
-    ensures { OnOk result (text.new.items ≡ text.old.items ++ comments_text task.now) }
+/// Adds what the answers lead to: a line where that is known, else comments.
+fn push_further(text: &mut Vec<u8>, task: &Task) -> Result<(), AllocError>
+    ensures { OnOk result (text.new.items ≡ text.old.items ++ further_text task.now) }
 {
     match task {
-        Task::Branches | Task::Branch(_) | Task::Abandoned => push_more(text),
+        Task::Metrics => push_line(text, "1 metrics"),
+        Task::Branches | Task::Branch(_) => push_listed(text),
+        Task::Abandoned => push_more(text),
         Task::RollbackMarked => push_marked(text),
         Task::Recover => push_line(text, "# while 256 are listed: 1 recover TMNOFLAGS 256"),
         _ => Ok(()),
     }
+}
+
+fn push_listed(text: &mut Vec<u8>) -> Result<(), AllocError>
+    ensures { OnOk result (text.new.items ≡ text.old.items ++ listed_comments) }
+{
+    push_line(
+        text,
+        "# each X with active or suspended associations: 1 sessions X",
+    )?;
+    push_more(text)
 }
 
 fn push_marked(text: &mut Vec<u8>) -> Result<(), AllocError>

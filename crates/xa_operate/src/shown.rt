@@ -1,26 +1,117 @@
 //! What is printed of an answer.
+ghost use Rattle.std.specs.Option.{option_copied};
 ghost use Rattle.std.specs.Prelude.{◌≡◌, ◌++◌, IfOk, OnOk};
-ghost use Rattle.xa_operate.specs.Shown.{shown, shown_body, shown_line, shown_lines, shown_marked, shown_rollback, shown_status, shows};
+ghost use Rattle.xa_operate.specs.Agendas.{before_asked};
+ghost use Rattle.xa_operate.specs.Shown.{sessions_in, shown, shown_asked, shown_body, shown_counts, shown_line, shown_lines, shown_listed};
+ghost use Rattle.xa_operate.specs.Shown.{shown_marked, shown_own, shown_reply, shown_rollback, shown_status};
 
-use crate::agenda::is_abandoned;
 use crate::answer::passes_over;
 use crate::asking::Asking;
+use crate::counted::counted_text;
 use crate::format::Format;
 use crate::line::{push_at_work, push_branch, push_log_end, push_rolled, push_status, push_xids};
+use crate::listed::{before_asked, shows};
 use crate::metrics::push_metrics;
 use crate::task::Task;
 use std::alloc::{AllocError, Global};
+use xa_control::Answer;
 use xa_frame::{Body, KnownBranch, Question, Reply, Request, Status};
+use xa_talk::Answered;
 
-/// What is printed of a question's answer.
+/// What is printed of an answer.
 pub(crate) fn shown(
     alloc: Global,
     format: Format,
     task: &Task,
-    question: &Asking,
+    asking: &Asking,
+    answered: &Answered,
+) -> Result<Vec<u8>, AllocError>
+    ensures { IfOk result (λ text. text.items ≡ shown format task.now asking.now answered.now) }
+{
+    match answered {
+        Answered::Reply(reply) => shown_asked(alloc, format, task, asking, reply),
+        Answered::Control(answer) => shown_own(alloc, format, task, asking, answer),
+    }
+}
+
+fn shown_asked(
+    alloc: Global,
+    format: Format,
+    task: &Task,
+    asking: &Asking,
     reply: &Reply,
 ) -> Result<Vec<u8>, AllocError>
-    ensures { IfOk result (λ text. text.items ≡ shown format task.now question.now reply.now) }
+    ensures { IfOk result (λ text. text.items ≡ shown_asked format task.now asking.now reply.now) }
+{
+    match asking {
+        Asking::Question(question) => shown_reply(alloc, format, task, question, reply),
+        _ => Ok(Vec::new(alloc)),
+    }
+}
+
+fn shown_own(
+    alloc: Global,
+    format: Format,
+    task: &Task,
+    asking: &Asking,
+    answer: &Answer,
+) -> Result<Vec<u8>, AllocError>
+    ensures { IfOk result (λ text. text.items ≡ shown_own format task.now asking.now answer.now) }
+{
+    match asking {
+        Asking::Sessions(branch, others) => {
+            shown_listed(alloc, format, task, branch, others.as_slice(), answer)
+        }
+        Asking::Metrics => shown_counts(alloc, answer),
+        _ => Ok(Vec::new(alloc)),
+    }
+}
+
+/// A branch with its sessions, and those listed behind it.
+fn shown_listed(
+    alloc: Global,
+    format: Format,
+    task: &Task,
+    branch: &KnownBranch,
+    others: &[KnownBranch],
+    answer: &Answer,
+) -> Result<Vec<u8>, AllocError>
+    ensures { IfOk result (λ text. text.items ≡ shown_listed format task.now branch.now others.now answer.now) }
+{
+    let mut text = Vec::new(alloc);
+    push_branch(alloc, &mut text, format, branch, sessions_in(answer))?;
+    push_branches(alloc, &mut text, format, task, others)?;
+    Ok(text)
+}
+
+/// The sessions that a server tells, if it does.
+fn sessions_in(answer: &Answer) -> Option<&[u64]>
+    ensures { option_copied result ≡ sessions_in answer.now }
+{
+    match answer {
+        Answer::Sessions(sessions) => Some(sessions.as_slice()),
+        _ => None,
+    }
+}
+
+/// What it has counted.
+fn shown_counts(alloc: Global, answer: &Answer) -> Result<Vec<u8>, AllocError>
+    ensures { IfOk result (λ text. text.items ≡ shown_counts answer.now) }
+{
+    match answer {
+        Answer::Metrics(numbers) => counted_text(alloc, numbers.as_slice()),
+        _ => Ok(Vec::new(alloc)),
+    }
+}
+
+fn shown_reply(
+    alloc: Global,
+    format: Format,
+    task: &Task,
+    question: &Question,
+    reply: &Reply,
+) -> Result<Vec<u8>, AllocError>
+    ensures { IfOk result (λ text. text.items ≡ shown_reply format task.now question.now reply.now) }
 {
     match task {
         Task::RollbackMarked => shown_marked(alloc, format, question, reply),
@@ -40,7 +131,7 @@ fn shown_body(
     match body {
         Body::Xids(xids) => push_xids(&mut text, format, xids.as_slice())?,
         Body::Branches(branches) => {
-            push_branches(alloc, &mut text, format, task, branches.as_slice())?
+            push_first(alloc, &mut text, format, task, branches.as_slice())?
         }
         Body::Status(status) => push_numbers(alloc, &mut text, format, task, *status)?,
         Body::Number(number) => push_log_end(alloc, &mut text, format, *number)?,
@@ -49,7 +140,20 @@ fn shown_body(
     Ok(text)
 }
 
-/// Adds a line of each branch that is shown.
+/// Adds the lines of the branches before the first one whose sessions are asked for.
+fn push_first(
+    alloc: Global,
+    text: &mut Vec<u8>,
+    format: Format,
+    task: &Task,
+    branches: &[KnownBranch],
+) -> Result<(), AllocError>
+    ensures { OnOk result (text.new.items ≡ text.old.items ++ shown_lines format task.now (before_asked task.now branches.now)) }
+{
+    push_branches(alloc, text, format, task, before_asked(task, branches))
+}
+
+/// Adds a line of each branch that is shown, for which no session is at work.
 fn push_branches(
     alloc: Global,
     text: &mut Vec<u8>,
@@ -75,20 +179,9 @@ fn push_shown(
     ensures { OnOk result (text.new.items ≡ text.old.items ++ shown_line format task.now branch.now) }
 {
     if shows(task, branch) {
-        push_branch(alloc, text, format, branch)?;
+        push_branch(alloc, text, format, branch, Some(&[]))?;
     }
     Ok(())
-}
-
-/// Whether a branch that is listed is shown.
-fn shows(task: &Task, branch: &KnownBranch) -> bool
-    ensures { result ≡ shows task.now branch.now }
-{
-    match task {
-        Task::Branch(xid) => branch.xid == *xid,
-        Task::Abandoned => is_abandoned(branch),
-        _ => true,
-    }
 }
 
 /// Adds what of a server's numbers is shown.
@@ -111,13 +204,13 @@ fn push_numbers(
 fn shown_marked(
     alloc: Global,
     format: Format,
-    question: &Asking,
+    question: &Question,
     reply: &Reply,
 ) -> Result<Vec<u8>, AllocError>
     ensures { IfOk result (λ text. text.items ≡ shown_marked format question.now reply.now) }
 {
     match question {
-        Asking::Question(Question::Call(request)) => shown_rollback(alloc, format, request, reply),
+        Question::Call(request) => shown_rollback(alloc, format, request, reply),
         _ => Ok(Vec::new(alloc)),
     }
 }

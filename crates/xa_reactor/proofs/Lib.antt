@@ -10,3 +10,4 @@ pub mod Noticed
 pub mod Looking
 pub mod Left
 pub mod Keeping
+pub mod Lines

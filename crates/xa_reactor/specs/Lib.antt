@@ -11,6 +11,8 @@ pub mod Aside
 pub mod Ticks
 pub mod Asking
 pub mod Opening
+pub mod Noted
+pub mod Allowance
 pub mod Together
 pub mod Peers
 pub mod Orders

@@ -6,7 +6,10 @@ use Rattle.xa_connection.specs.declared.asked.Asked.TheVariants as asked
 use Rattle.xa_connection.specs.declared.connection.Connection.{Connection}
 use Rattle.xa_connection.specs.Calls.{AnswersServer}
 use Rattle.xa_control.specs.declared.answer.Answer.{Answer}
+use Rattle.xa_control.specs.declared.answer.Answer.TheVariants as answer
 use Rattle.xa_control.specs.declared.control.Control.{Control}
+use Rattle.xa_control.specs.declared.control.Control.TheVariants as control
+use Rattle.xa_xid.specs.Triple.{Triple}
 use Rattle.xa_reactor.specs.Turning.{HasSent}
 use Rattle.xa_control.specs.Answers.{IsAnswer}
 use Rattle.xa_reactor.specs.declared.attending.Outcome.{Outcome}
@@ -28,6 +31,12 @@ HasTold c answer c' =
 abbrev pub IsOutcome : Outcome → Type 0
 IsOutcome (Answered answer) = IsAnswer answer
 IsOutcome _ = Unit {0}
+
+-- sessions are answered where they were asked for, and are those that the door told of the branch
+abbrev pub TellsSessions : (Triple → List ℕ → Type 0) → Control → Outcome → Type 0
+TellsSessions attached (control.Sessions xid) (Answered (answer.Sessions sessions)) = attached xid sessions
+TellsSessions attached _ (Answered (answer.Sessions sessions)) = ⊥
+TellsSessions attached _ _ = Unit {0}
 
 -- the connection under this key asked something, and gave no order yet
 abbrev pub new_wish : ℕ → Wish

@@ -1,6 +1,8 @@
 //! What a loop does between its rounds of what connections asked of the server itself.
 ghost use Rattle.xa_reactor.specs.Believed.Tending.{Tends, sessions_of};
-ghost use Rattle.xa_reactor.specs.Orders.{IsOutcome};
+ghost use Rattle.std.specs.Prelude.{◌≡◌, Err, IfErr, IfOk};
+ghost use Rattle.xa_codes.specs.declared.detail.Detail.TheVariants as detail;
+ghost use Rattle.xa_reactor.specs.Orders.{IsOutcome, TellsSessions};
 
 use crate::clock::LoopClock;
 use crate::common::Common;
@@ -10,13 +12,14 @@ use crate::peer::Step;
 use crate::peers::Peers;
 use crate::reception::Reception;
 use crate::round::Round;
+use std::alloc::{AllocError, Global};
 use std::rt::Clock;
 use std::sync::Wait;
 use xa_codes::{Detail, XAER_INVAL, XAER_RMFAIL};
-use xa_control::{Answer, Control, FEATURES, Hello, REVISION};
+use xa_control::{Answer, Control, FEATURES, Hello, Numbers, REVISION};
 
 /// Answers what connections asked of the server itself, and ends those that any loop was ordered to.
-pub(crate) fn attend<D: Reception, R: Clock + Wait>(
+pub(crate) fn attend<D: Reception, R: Clock + Eprint + Wait>(
     rt: &R,
     common: &Common<'_>,
     index: usize,
@@ -34,7 +37,7 @@ pub(crate) fn attend<D: Reception, R: Clock + Wait>(
 }
 
 // Attends to each that asked something, once.
-fn attend_all<D: Reception, R: Clock + Wait>(
+fn attend_all<D: Reception, R: Clock + Eprint + Wait>(
     rt: &R,
     common: &Common<'_>,
     round: Round<'_>,
@@ -62,7 +65,7 @@ enum Outcome {
     Answered(Answer),
 }
 
-fn attend_one<D: Reception, R: Clock + Wait>(
+fn attend_one<D: Reception, R: Clock + Eprint + Wait>(
     rt: &R,
     common: &Common<'_>,
     round: Round<'_>,
@@ -76,7 +79,7 @@ fn attend_one<D: Reception, R: Clock + Wait>(
     let outcome = match wish.cut {
         Some(number) => outcome_of(rt, common, number),
         None => match peers.control(round.alloc, wish.key) {
-            Some(control) => begin(rt, common, control),
+            Some(control) => begin(rt, common, round.alloc, door, control),
             None => Outcome::Gone,
         },
     };
@@ -97,8 +100,15 @@ fn attend_one<D: Reception, R: Clock + Wait>(
 }
 
 // What becomes of what was asked for the first time.
-fn begin<R: Wait>(rt: &R, common: &Common<'_>, control: Control) -> Outcome
-    ensures { IsOutcome result }
+fn begin<D: Reception, R: Wait>(
+    rt: &R,
+    common: &Common<'_>,
+    alloc: Global,
+    door: &D,
+    control: Control,
+) -> Outcome
+    ensures answer { IsOutcome result }
+    ensures sessions { TellsSessions (D.attached door.now) control result }
 {
     match control {
         Control::Hello(_) => Outcome::Answered(Answer::Hello(Hello {
@@ -112,10 +122,39 @@ fn begin<R: Wait>(rt: &R, common: &Common<'_>, control: Control) -> Outcome
             }
             Err(_) => Outcome::Answered(Answer::Refused(XAER_RMFAIL, Detail::Memory)),
         },
-        Control::Shutdown | Control::Metrics => {
-            Outcome::Answered(Answer::Refused(XAER_INVAL, Detail::Frame))
-        }
+        Control::Sessions(xid) => match numbers_of(door.sessions_of(alloc, &xid)) {
+            Ok(sessions) => Outcome::Answered(Answer::Sessions(sessions)),
+            Err(detail) => Outcome::Answered(Answer::Refused(XAER_RMFAIL, detail)),
+        },
+        Control::Metrics => match numbers_of(counted(common, alloc, door)) {
+            Ok(counts) => Outcome::Answered(Answer::Metrics(counts)),
+            Err(detail) => Outcome::Answered(Answer::Refused(XAER_RMFAIL, detail)),
+        },
+        Control::Shutdown => Outcome::Answered(Answer::Refused(XAER_INVAL, Detail::Frame)),
     }
+}
+
+// The same numbers, if there was memory for them, and they aren't too many for an answer.
+fn numbers_of(numbers: Result<Vec<u64>, AllocError>) -> Result<Numbers, Detail>
+    ensures same { IfOk result (λ all. IfOk numbers (λ v. all ≡ v.items)) }
+    ensures none { IfErr numbers (λ _. result ≡ Err detail.Memory) }
+{
+    match numbers {
+        Ok(numbers) => Numbers::new(numbers).ok_or(Detail::Limit),
+        Err(_) => Err(Detail::Memory),
+    }
+}
+
+// What the loops have counted, and the doors.
+fn counted<D: Reception>(
+    common: &Common<'_>,
+    alloc: Global,
+    door: &D,
+) -> Result<Vec<u64>, AllocError> {
+    let mut counts = Vec::new(alloc);
+    common.put_counts(&mut counts)?;
+    door.put_counts(&mut counts)?;
+    Ok(counts)
 }
 
 // What becomes of an order: once each loop has looked at it, whether a connection was ended.

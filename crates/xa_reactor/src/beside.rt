@@ -141,9 +141,17 @@ pub(crate) fn stop<D: Reception, R: AllocGlobal + Clock + Eprint + Wait>(
 {
     if peers.is_to_stop() {
         common.stop();
-        let _ = eprintln!(rt; "xarm: shutdown");
+        tell_stop(rt, peers);
         trim_last(rt, common, door, now);
     }
+}
+
+// Tells that the server ends, and from where that was asked.
+fn tell_stop<R: Eprint>(rt: &R, peers: &Peers) {
+    if let Some(source) = peers.source_of_stop() {
+        let _ = eprintln!(rt; "xarm: {source}: shutdown");
+    }
+    let _ = eprintln!(rt; "xarm: shutdown");
 }
 
 /// Whether there is another round.

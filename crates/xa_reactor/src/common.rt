@@ -9,9 +9,15 @@ use crate::socket::Socket;
 use crate::ticks::Ticks;
 use crate::trims::Trims;
 use crate::watch::Watch;
-use std::alloc::Global;
+use std::alloc::{AllocError, Global};
 use std::sync::atomic::{AtomicBool, AtomicU64, Ordering};
 use std::sync::{Mutex, Wait};
+
+/// The id of the connections that were taken up.
+const ACCEPTED: u64 = 1;
+
+/// The id of those that weren't, as too many were open.
+const REFUSED: u64 = 2;
 
 /// What is asked of the loops.
 #[derive(Clone, Copy, Debug, PartialEq, Eq)]
@@ -50,6 +56,9 @@ pub(crate) struct Common<'a> {
     has_path: bool,
     /// How many connections are open, or handed to a loop.
     open: AtomicU64,
+    /// How many were taken up, and how many weren't, as too many were open.
+    accepted: AtomicU64,
+    refused: AtomicU64,
     /// Whether accepting pauses until a connection closes.
     pauses: AtomicBool,
     /// Whether no more connections come: a loop without one ends.
@@ -79,6 +88,8 @@ impl<'a> Common<'a> {
             listener: Mutex::new(Some(listener)),
             has_path,
             open: AtomicU64::new(0),
+            accepted: AtomicU64::new(0),
+            refused: AtomicU64::new(0),
             pauses: AtomicBool::new(false),
             is_over: AtomicBool::new(false),
             is_stopped: AtomicBool::new(false),
@@ -100,8 +111,20 @@ impl<'a> Common<'a> {
         let is_admitted = may_admit(self.has_path, origin, self.open.load(Ordering::SeqCst));
         if is_admitted {
             self.open.fetch_add(1, Ordering::SeqCst);
+            self.accepted.fetch_add(1, Ordering::SeqCst);
+        } else {
+            self.refused.fetch_add(1, Ordering::SeqCst);
         }
         is_admitted
+    }
+
+    /// Appends how many connections were taken up, and how many weren't, each behind its id.
+    pub(crate) fn put_counts(&self, out: &mut Vec<u64>) -> Result<(), AllocError> {
+        out.push(ACCEPTED)?;
+        out.push(self.accepted.load(Ordering::SeqCst))?;
+        out.push(REFUSED)?;
+        out.push(self.refused.load(Ordering::SeqCst))?;
+        Ok(())
     }
 
     /// How many are open where one from there isn't taken up, at least.

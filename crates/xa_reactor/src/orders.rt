@@ -1,9 +1,11 @@
 ghost use Rattle.std.specs.Prelude.{◌≡◌, ◌∷◌, [], IsTrue, None, Some, false, length, MatchOption};
-ghost use Rattle.xa_reactor.specs.Orders.{with_wish};
+ghost use Rattle.xa_reactor.specs.Orders.{control_in, with_wish};
 
 use std::alloc::Global;
 use std::collections::VecDeque;
 use std::marker::Model;
+use xa_connection::Asked;
+use xa_control::Control;
 
 /// What a connection asked of the server itself: its key, and the number of the order that it came to, if it did to one.
 #[derive(Clone, Copy, Debug, PartialEq, Eq)]
@@ -73,5 +75,15 @@ impl Orders {
         ensures wishes { MatchOption result (self.new ≡ self.old) (λ wish. self.old.1 ≡ wish ∷ self.new.1) }
     {
         self.wishes.pop_front()
+    }
+}
+
+/// What is asked of the server itself.
+pub(crate) fn control_in(asked: &Asked) -> Option<Control>
+    ensures { result ≡ control_in asked.now }
+{
+    match asked {
+        Asked::Control(_, control) => Some(control.copied()),
+        _ => None,
     }
 }

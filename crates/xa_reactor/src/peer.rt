@@ -1,33 +1,33 @@
-ghost use Rattle.std.specs.Prelude.{◌≡◌, ◌-◌, ◌↔◌, IfSome, IsTrue, None, Some, not, false, true};
+ghost use Rattle.std.specs.Prelude.{◌≡◌, ◌-◌, ◌↔◌, IsTrue, None, not, false, true};
 ghost use Rattle.xa_connection.specs.Calls.{Asks, IsAsked, Turns, new_connection};
 ghost use Rattle.xa_connection.specs.declared.answering.Answering.{Answering};
-ghost use Rattle.xa_control.specs.Answers.{IsAnswer};
 ghost use Rattle.xa_reactor.specs.{Asking.IsAnswered, Opening.Opens, Opening.OpensTo, Timing.IsRead, Timing.after_wait};
-ghost use Rattle.xa_reactor.specs.Peers.{noticed};
+ghost use Rattle.xa_reactor.specs.{Allowance.after_noted, Noted.MayBeFrom, Noted.Notes, Peers.noticed};
 ghost use Rattle.xa_reactor.specs.Since.{FedAt, OwesFrame, SentAt, TakenAt};
-ghost use Rattle.xa_reactor.specs.Orders.{HasTold, control_in};
 ghost use Rattle.xa_reactor.specs.Turning.{CarriesOn, HasAnswered, HasFed, HasSent, HasTaken, HoldsMore, StepsTo};
 
+use crate::allowance::Allowance;
 use crate::ask::Ask;
 use crate::clock::LoopClock;
+use crate::noted::{Noted, tell};
+use crate::orders::control_in;
 use crate::round::Round;
-use crate::socket::Socket;
+use crate::socket::{Socket, Source, is_passing};
 use mio::Token;
 use mio::event::Event;
 use std::alloc::Global;
 use std::io::ErrorKind;
 use std::mem;
 use std::rt::Clock;
-use xa_codes::XA_OK;
+use xa_codes::{Code, XA_OK};
 use xa_connection::{Asked, Connection, Front, MOST_INPUT};
-use xa_control::{Answer, Control};
 use xa_desk::Door;
 use xa_frame::{Question, Reply};
 
 /// A connection with its socket, and the session that is served on it.
 #[derive(Drop)]
 pub(crate) struct Peer {
-    socket: Socket,
+    pub(crate) socket: Socket,
     pub(crate) connection: Connection,
     pub(crate) session: u64,
     /// Whether there may be bytes to read of which no further event tells.
@@ -37,13 +37,15 @@ pub(crate) struct Peer {
     /// Whether events tell when the socket takes more.
     writes: bool,
     /// Whether it waits for its turn, or its connection is lent in one.
-    is_queued: bool,
+    pub(crate) is_queued: bool,
     /// When bytes last came or went, by the loop's clock.
     since: u64,
     /// Which of the server's connections it is, in the order in which their sessions were connected.
     pub(crate) serial: u64,
     /// The number of the order that it waits for, which it gave.
-    order: Option<u64>,
+    pub(crate) order: Option<u64>,
+    /// The operator's call that it gave, while that isn't answered.
+    noted: Option<Noted>,
 }
 
 /// What comes behind a turn.
@@ -73,7 +75,7 @@ pub(crate) enum Opened {
 impl Peer {
     pub(crate) fn new(alloc: Global, socket: Socket, session: u64, serial: u64, now: u64) -> Peer
         ensures new { (result.session ≡ session) × (result.connection ≡ new_connection) }
-        ensures counted { (result.serial ≡ serial) × (result.order ≡ None) }
+        ensures counted { (result.serial ≡ serial) × (result.order ≡ None) × (result.noted ≡ None) }
         ensures since { result.since ≡ now }
         ensures waits { (result.is_queued ≡ false) × (result.reads ≡ false) × (result.writes ≡ false) × (result.is_ending ≡ false) }
     {
@@ -88,6 +90,7 @@ impl Peer {
             since: now,
             serial,
             order: None,
+            noted: None,
         }
     }
 
@@ -147,6 +150,7 @@ impl Peer {
     ) -> Opened
         ensures session { self.new.session ≡ self.old.session }
         ensures opens { Opens (D.called self.old.session) self.old door.old key result self.new door.new }
+        ensures noted { Notes result self.new }
         ensures steps { OpensTo result self.new }
     {
         if !self.take_turn(rt, clock, scratch) {
@@ -156,6 +160,7 @@ impl Peer {
             Asked::One(count, Question::Call(request)) => {
                 // no event opens another turn while the connection is lent
                 self.is_queued = true;
+                self.noted = Noted::of_request(&self.socket, &request);
                 Opened::Asks(Ask {
                     key,
                     connection: mem::replace(&mut self.connection, Connection::new(round.alloc)),
@@ -175,11 +180,12 @@ impl Peer {
     }
 
     /// The rest of a turn whose request was answered: the connection is given back, and the reply sent.
-    pub(crate) fn close_turn<R: Clock>(
+    pub(crate) fn close_turn<R: Clock + Eprint>(
         &mut self,
         rt: &R,
         round: Round<'_>,
         clock: &mut LoopClock,
+        allowance: &mut Allowance,
         ask: Ask,
     ) -> Step
         requires { IsAnswered ask }
@@ -192,73 +198,21 @@ impl Peer {
         let Ask {
             key,
             connection,
+            reply,
             ..
         } = ask;
         self.connection = connection;
         self.is_queued = false;
+        self.tell(rt, allowance, clock.now(rt), reply.code);
         self.send(rt, round, clock, key)
     }
 
-    /// What it asks of the server itself, if it waits for no order.
-    pub(crate) fn control(&self, alloc: Global) -> Option<Control> {
-        if self.order.is_some() {
-            return None;
-        }
-        control_in(&self.connection.asked(alloc))
-    }
-
-    /// It waits for an order of this number.
-    pub(crate) fn wait_for(&mut self, order: u64)
-        ensures { self.new ≡ record self.old { order = Some order } }
+    // Tells of the order that it gave, if it did, which was answered so.
+    fn tell<R: Eprint>(&mut self, rt: &R, allowance: &mut Allowance, now: u64, code: Code)
+        ensures told { self.new ≡ record self.old { noted = None } }
+        ensures line { allowance.new ≡ after_noted self.old.noted now allowance.old }
     {
-        self.order = Some(order);
-    }
-
-    /// Answers what it asks of the server itself, where it waits for this order, or for none, and sends the answer. What comes
-    /// behind that; None where it asks nothing, or waits for another one.
-    pub(crate) fn answer_control<R: Clock>(
-        &mut self,
-        rt: &R,
-        round: Round<'_>,
-        clock: &mut LoopClock,
-        key: usize,
-        order: Option<u64>,
-        answer: &Answer,
-    ) -> Option<Step>
-        requires { IsAnswer answer.now }
-        ensures session { self.new.session ≡ self.old.session }
-        ensures answered { IfSome result (λ step. HasTold self.old.connection answer.now self.new.connection) }
-        ensures steps { IfSome result (λ step. StepsTo step self.new) }
-        ensures none { result ≡ None → self.new ≡ self.old }
-    {
-        if self.order != order {
-            return None;
-        }
-        match self.connection.asked(round.alloc) {
-            Asked::Control(count, control) => {
-                let _answering = self.connection.answer_control(count, control, answer);
-                self.order = None;
-                self.is_queued = false;
-                Some(self.send(rt, round, clock, key))
-            }
-            _ => None,
-        }
-    }
-
-    // What comes behind a turn in which this was asked of the server itself, or else this step.
-    fn order_or(&mut self, control: Option<Control>, step: Step) -> Step
-        ensures same { (self.new.session ≡ self.old.session) × (self.new.connection ≡ self.old.connection) }
-        ensures steps { StepsTo step self.old → StepsTo result self.new }
-    {
-        match control {
-            None => step,
-            Some(Control::Shutdown) => Step::Stops,
-            Some(_) => {
-                // no event opens another turn while it waits
-                self.is_queued = true;
-                Step::Asks
-            }
-        }
+        tell(rt, allowance, now, self.noted.take(), code);
     }
 
     // Answers what was asked, for which it may wait.
@@ -293,8 +247,8 @@ impl Peer {
         self.is_asked() || self.receive(scratch, now)
     }
 
-    // The end of a turn: a reply is sent. What comes behind it, with events of what it waits for.
-    fn send<R: Clock>(
+    /// The end of a turn: a reply is sent. What comes behind it, with events of what it waits for.
+    pub(crate) fn send<R: Clock>(
         &mut self,
         rt: &R,
         round: Round<'_>,
@@ -378,6 +332,13 @@ impl Peer {
         }
     }
 
+    /// Where it comes from.
+    pub(crate) fn source(&self) -> Source
+        ensures { MayBeFrom self.now.socket result }
+    {
+        self.socket.source()
+    }
+
     /// The socket.
     pub(crate) fn into_socket(self) -> Socket
         ensures { result ≡ self.socket }
@@ -406,19 +367,4 @@ impl Peer {
     {
         self.connection.room() < MOST_INPUT && !self.connection.is_inside_frame()
     }
-}
-
-// What is asked of the server itself.
-fn control_in(asked: &Asked) -> Option<Control>
-    ensures { result ≡ control_in asked.now }
-{
-    match asked {
-        Asked::Control(_, control) => Some(*control),
-        _ => None,
-    }
-}
-
-// Whether a read or a write that failed so may go on later.
-fn is_passing(kind: ErrorKind) -> bool {
-    kind == ErrorKind::WouldBlock || kind == ErrorKind::Interrupted
 }

@@ -5,9 +5,10 @@ ghost use Rattle.xa_control.specs.Answers.{IsAnswer};
 ghost use Rattle.xa_reactor.specs.{Asking.IsAnswered, Opening.IsOpened, Opening.OpensAt};
 ghost use Rattle.xa_reactor.specs.Peers.{GoesOn, HadTurn, HasParted, HasRoom, IsClosed, IsLast, IsNews, IsNoticed, IsTurned, turns_of};
 ghost use Rattle.xa_reactor.specs.Believed.Tending.{Tends, nobody, sessions_of};
-ghost use Rattle.xa_reactor.specs.{Since.Looks, Since.LooksAll, Timing.IsToEnd, Timing.after_wait};
+ghost use Rattle.xa_reactor.specs.{Since.Looks, Since.LooksAll, Timing.after_wait};
 ghost use Rattle.xa_reactor.specs.declared.peer.Step.{Step};
 
+use crate::allowance::Allowance;
 use crate::ask::Ask;
 use crate::clock::LoopClock;
 use crate::common::{Common, Settings};
@@ -15,8 +16,8 @@ use crate::orders::{Orders, Wish};
 use crate::peer::{Opened, Peer, Step};
 use crate::reception::Reception;
 use crate::round::Round;
-use crate::socket::Socket;
-use crate::timing::{is_overdue, is_too_quiet};
+use crate::socket::{Socket, Source};
+use crate::timing::is_to_end;
 use mio::Token;
 use mio::event::Event;
 use slab::Slab;
@@ -34,6 +35,8 @@ pub(crate) struct Peers {
     queue: VecDeque<usize>,
     /// What they ask of the server itself.
     pub(crate) orders: Orders,
+    /// How many lines may be told of what they order.
+    pub(crate) allowance: Allowance,
 }
 
 impl Peers {
@@ -45,6 +48,7 @@ impl Peers {
             all: Slab::new(alloc),
             queue: VecDeque::new(alloc),
             orders: Orders::new(alloc),
+            allowance: Allowance::new(),
         }
     }
 
@@ -157,7 +161,7 @@ impl Peers {
     }
 
     /// Closes the turn of a connection, whose request was answered. What comes behind it.
-    pub(crate) fn close_turn<R: Clock>(
+    pub(crate) fn close_turn<R: Clock + Eprint>(
         &mut self,
         rt: &R,
         round: Round<'_>,
@@ -170,7 +174,7 @@ impl Peers {
         ensures closed { IsClosed self.old.all ask.key ask.connection result self.new.all }
     {
         match self.all.get_mut(ask.key) {
-            Some(peer) => peer.close_turn(rt, round, clock, ask),
+            Some(peer) => peer.close_turn(rt, round, clock, &mut self.allowance, ask),
             None => Step::Waits,
         }
     }
@@ -234,7 +238,7 @@ impl Peers {
     }
 
     /// Answers what a connection asked of the server itself. What comes behind that; None where it asks nothing any more.
-    pub(crate) fn answer_control<R: Clock>(
+    pub(crate) fn answer_control<R: Clock + Eprint>(
         &mut self,
         rt: &R,
         round: Round<'_>,
@@ -246,8 +250,10 @@ impl Peers {
         ensures same { sessions_of self.new.all ≡ sessions_of self.old.all }
         ensures turns { (self.new.queue ≡ self.old.queue) × (self.new.orders ≡ self.old.orders) }
     {
-        match self.all.get_mut(wish.key) {
-            Some(peer) => peer.answer_control(rt, round, clock, wish.key, wish.cut, answer),
+        let Wish { key, cut } = wish;
+        let allowance = &mut self.allowance;
+        match self.all.get_mut(key) {
+            Some(peer) => peer.answer_control(rt, round, clock, allowance, key, cut, answer),
             None => None,
         }
     }
@@ -280,6 +286,12 @@ impl Peers {
         ensures { result ≡ is_some self.now.orders.0 }
     {
         self.orders.stopper().is_some()
+    }
+
+    /// Where one comes from that did.
+    pub(crate) fn source_of_stop(&self) -> Option<Source> {
+        let peer = self.all.get(self.orders.stopper()?)?;
+        Some(peer.source())
     }
 
     /// Hangs the session of one that asked the server to end up; its socket stays open until it is dropped.
@@ -370,31 +382,6 @@ fn end_if_overdue<D: Reception>(
     };
     if ends {
         end_in(all, door, key);
-    }
-}
-
-// Whether the connection of a session is to end, by whether it is inside a frame, and for how long it was quiet.
-fn is_to_end<D: Reception>(
-    door: &D,
-    session: u64,
-    is_inside: bool,
-    quiet: u64,
-    settings: &Settings,
-) -> bool
-    ensures { IsToEnd (D.associates door.now session) is_inside quiet settings.now result }
-{
-    if is_overdue(is_inside, quiet, settings.frame_seconds) {
-        return true;
-    }
-    let ends_idle = is_too_quiet(quiet, settings.idle_seconds);
-    let ends_busy = is_too_quiet(quiet, settings.branch_seconds);
-    if ends_idle == ends_busy {
-        return ends_idle;
-    }
-    if door.has_association(session) {
-        ends_busy
-    } else {
-        ends_idle
     }
 }
 

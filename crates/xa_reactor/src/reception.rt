@@ -1,20 +1,26 @@
 use crate::ask::Ask;
+use std::alloc::{AllocError, Global};
 use xa_assoc::ConnectFault;
 use xa_desk::Door;
 use xa_frame::Request;
+use xa_xid::Xid;
 
 /// A door at which sessions connect, too.
 pub trait Reception: Door {
-    ghost use Rattle.std.specs.Prelude.{ℕ, ◌≡◌, ◌⊎◌, All, Bool, IsSomeAnd, Result};
+    ghost use Rattle.std.specs.Prelude.{ℕ, ◌≡◌, ◌⊎◌, All, Bool, IfOk, IsSomeAnd, List, Result};
     ghost use Rattle.xa_assoc.specs.declared.fault.ConnectFault.{ConnectFault};
     ghost use Rattle.xa_frame.specs.declared.request.Request.{Request};
     ghost use Rattle.xa_reactor.specs.{Asking.HasRequest, Asking.TellsAll, Asking.TellsSome, Reception.IsPosted, Reception.KeepsSettled};
+    ghost use Rattle.xa_xid.specs.Triple.{Triple};
 
     /// A connect took it from one to the other, with this result.
     ghost connected: { Self → Result ℕ ConnectFault → Self → Type 0 };
 
     /// It was asked whether this session has an association with a branch, and this was answered.
     ghost associates: { Self → ℕ → Bool → Type 0 };
+
+    /// It was asked which sessions have an association of their own with this branch, and these were answered.
+    ghost attached: { Self → Triple → List ℕ → Type 0 };
 
     /// It was asked where the log ends, and this was answered.
     ghost ends: { Self → ℕ → Type 0 };
@@ -76,6 +82,13 @@ pub trait Reception: Door {
     /// Whether a session has an association of its own with a branch: it is at work for it, or has suspended that.
     fn has_association(&self, session: u64) -> bool
         ensures { associates self.now session result };
+
+    /// The sessions that have an association of their own with this branch, ascending.
+    fn sessions_of(&self, alloc: Global, xid: &Xid) -> Result<Vec<u64>, AllocError>
+        ensures { IfOk result (λ v. attached self.now xid.now v.items) };
+
+    /// Appends what was counted at all doors: each id, and how many.
+    fn put_counts(&self, out: &mut Vec<u64>) -> Result<(), AllocError>;
 
     /// Where the log's next record begins, while the manager is up.
     fn log_end(&self) -> u64

@@ -10,6 +10,7 @@ use crate::attending::attend;
 use crate::beside::{accept, begin, goes_on, look, stop, take_in, tell, wait_for};
 use crate::clock::LoopClock;
 use crate::common::Common;
+use crate::noted::tell_left_out;
 use crate::noticing::{note_all, notice_all};
 use crate::peers::Peers;
 use crate::reception::Reception;
@@ -47,6 +48,7 @@ pub(crate) fn tend<D: Reception, R: AllocGlobal + Clock + Eprint + Wait>(
         common.stop();
     }
     common.leave(peers.len() as u64);
+    tell_left_out(rt, peers.allowance.left_out());
     let stopper = peers.part_stopper(door);
     peers.end_all(door);
     // no other loop waits for this one
@@ -240,7 +242,7 @@ impl Loop {
     }
 
     // Answers the requests that wait for no device.
-    fn answer_quick<D: Reception, R: AllocGlobal + Clock>(
+    fn answer_quick<D: Reception, R: AllocGlobal + Clock + Eprint>(
         &mut self,
         rt: &R,
         peers: &mut Peers,
@@ -260,7 +262,7 @@ impl Loop {
 
     // While requests wait for a device at which another loop is, answers those that don't, and opens the turns of those that
     // have one by then: what they ask of the device is answered with the rest. Whether a connection waits to be accepted.
-    fn gather<D: Reception, R: AllocGlobal + Clock>(
+    fn gather<D: Reception, R: AllocGlobal + Clock + Eprint>(
         &mut self,
         rt: &R,
         peers: &mut Peers,
@@ -296,7 +298,7 @@ impl Loop {
 
     // While requests are to be answered that may wait for a device, answers those that don't, and opens the turns of those
     // that have one by then: what they ask shares the device's sync. Whether a connection waits to be accepted.
-    fn linger<D: Reception, R: AllocGlobal + Clock>(
+    fn linger<D: Reception, R: AllocGlobal + Clock + Eprint>(
         &mut self,
         rt: &R,
         peers: &mut Peers,
@@ -321,7 +323,7 @@ impl Loop {
 
     // While requests are to be answered that may wait for a device, gives further turns to those that have more to do, but not
     // too often: what they ask needn't wait for the device. Whether a connection waits to be accepted.
-    fn give_more<D: Reception, R: AllocGlobal + Clock>(
+    fn give_more<D: Reception, R: AllocGlobal + Clock + Eprint>(
         &mut self,
         rt: &R,
         peers: &mut Peers,
@@ -347,7 +349,7 @@ impl Loop {
     }
 
     // Looks for more requests so often. Whether a connection waits to be accepted, and whether there were events.
-    fn look_on<D: Reception, R: AllocGlobal + Clock>(
+    fn look_on<D: Reception, R: AllocGlobal + Clock + Eprint>(
         &mut self,
         rt: &R,
         peers: &mut Peers,
@@ -377,7 +379,7 @@ impl Loop {
 
     // Looks for events once, for so long, where there is room for the turns that they make, and opens all that there are; and
     // answers the requests that wait for no device. Where there is a turn to open it waits for no event.
-    fn linger_once<D: Reception, R: AllocGlobal + Clock>(
+    fn linger_once<D: Reception, R: AllocGlobal + Clock + Eprint>(
         &mut self,
         rt: &R,
         peers: &mut Peers,

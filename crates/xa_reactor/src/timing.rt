@@ -1,8 +1,10 @@
 //! The times of a loop, in milliseconds.
 ghost use Rattle.std.specs.Prelude.{◌≡◌};
 ghost use Rattle.std.specs.Duration.{as_nanos};
-ghost use Rattle.xa_reactor.specs.Timing.{gather_nanos, is_overdue, is_too_quiet, looks_of, wait_of};
+ghost use Rattle.xa_reactor.specs.Timing.{IsToEnd, gather_nanos, is_overdue, is_too_quiet, looks_of, wait_of};
 
+use crate::common::Settings;
+use crate::reception::Reception;
 use std::time::Duration;
 
 /// For how long accepting pauses where an accept failed.
@@ -74,5 +76,30 @@ pub(crate) fn wait_of(has_turn: bool, pauses: bool, has_connections: bool) -> Op
         Some(LOOK)
     } else {
         None
+    }
+}
+
+/// Whether the connection of a session is to end, by whether it is inside a frame, and for how long it was quiet.
+pub(crate) fn is_to_end<D: Reception>(
+    door: &D,
+    session: u64,
+    is_inside: bool,
+    quiet: u64,
+    settings: &Settings,
+) -> bool
+    ensures { IsToEnd (D.associates door.now session) is_inside quiet settings.now result }
+{
+    if is_overdue(is_inside, quiet, settings.frame_seconds) {
+        return true;
+    }
+    let ends_idle = is_too_quiet(quiet, settings.idle_seconds);
+    let ends_busy = is_too_quiet(quiet, settings.branch_seconds);
+    if ends_idle == ends_busy {
+        return ends_idle;
+    }
+    if door.has_association(session) {
+        ends_busy
+    } else {
+        ends_idle
     }
 }

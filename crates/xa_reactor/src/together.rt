@@ -167,7 +167,7 @@ impl Together {
 
     /// Answers the requests that wait for no device, and sends the replies. Those that have to wait for another loop's are
     /// left, and all of them where there is no memory.
-    pub(crate) fn answer_quick<D: Reception, R: Clock>(
+    pub(crate) fn answer_quick<D: Reception, R: Clock + Eprint>(
         &mut self,
         rt: &R,
         peers: &mut Peers,
@@ -201,7 +201,7 @@ impl Together {
     /// Answers the requests that were brought in, and closes their turns. The replies to those that wait for no device are
     /// sent before the others are answered; those that have to wait for another loop's come last. What comes after the turns
     /// comes behind all: until then each session stays under its key.
-    pub(crate) fn close_all<D: Reception, R: Clock>(
+    pub(crate) fn close_all<D: Reception, R: Clock + Eprint>(
         &mut self,
         rt: &R,
         peers: &mut Peers,
@@ -235,7 +235,7 @@ fn may_wait<D: Reception>(door: &D, ask: &Ask) -> bool
 
 // Answers requests that wait for no device at a door, and sends the replies. What comes after their turns is put with the
 // rest of that. Those that have to wait are left.
-fn give_quick<D: Reception, R: Clock>(
+fn give_quick<D: Reception, R: Clock + Eprint>(
     rt: &R,
     asks: &mut Vec<Ask>,
     left: &mut Vec<Ask>,
@@ -264,7 +264,7 @@ fn give_quick<D: Reception, R: Clock>(
 }
 
 // Answers all requests, also those that may wait for a device: none that was posted is left.
-fn give_waiting<D: Reception, R: Clock>(
+fn give_waiting<D: Reception, R: Clock + Eprint>(
     rt: &R,
     asks: &mut Vec<Ask>,
     over: &mut Vec<(usize, Step)>,
@@ -288,7 +288,7 @@ fn give_waiting<D: Reception, R: Clock>(
 }
 
 // Gives the connections of asks that were answered back, and sends their replies.
-fn send_all<R: Clock>(
+fn send_all<R: Clock + Eprint>(
     rt: &R,
     asks: &mut Vec<Ask>,
     over: &mut Vec<(usize, Step)>,
@@ -312,7 +312,7 @@ fn send_all<R: Clock>(
 }
 
 // The same of those that were answered. The others are put with those that are left.
-fn send_answered<R: Clock>(
+fn send_answered<R: Clock + Eprint>(
     rt: &R,
     asks: &mut Vec<Ask>,
     left: &mut Vec<Ask>,
@@ -339,7 +339,7 @@ fn send_answered<R: Clock>(
 }
 
 // Closes the turn of an ask, if it was answered; else puts it with those that are left.
-fn send_or_leave<R: Clock>(
+fn send_or_leave<R: Clock + Eprint>(
     rt: &R,
     ask: Ask,
     left: &mut Vec<Ask>,

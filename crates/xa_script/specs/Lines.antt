@@ -74,6 +74,10 @@ module _ (xid_of : List ℕ → Option Triple) where
       (λ v. option_map (λ request. Call n request) (request_of xid_of v arguments))
       (verb_of name)
 
+  -- which sessions have an association with the branch of an XID
+  abbrev pub sessions_of : ℕ → List (List ℕ) → Option Line
+  sessions_of n words = by_one xid_of (λ xid. Control n (control.Sessions xid)) words
+
   -- what a session asks of its server, or by a call
   abbrev pub asks_of : ℕ → List ℕ → List (List ℕ) → Option Line
   asks_of n name arguments =
@@ -82,6 +86,7 @@ module _ (xid_of : List ℕ → Option Triple) where
       then alone (Control n (control.Hello (record { revision = REVISION; features = 0 }))) arguments
       else if bytes_eq name (codes "metrics") then alone (Control n control.Metrics) arguments
       else if bytes_eq name (codes "disconnect") then disconnect_of n arguments
+      else if bytes_eq name (codes "sessions") then sessions_of n arguments
       else call_of n name arguments
 
   -- what a session's number says, and the words behind it

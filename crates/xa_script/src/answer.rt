@@ -50,6 +50,10 @@ fn push_answer(alloc: Global, line: &mut Vec<u8>, answer: &Answer) -> Result<(),
             line.extend_from_slice(b" metrics")?;
             push_numbers(alloc, line, metrics.as_slice())
         }
+        Answer::Sessions(sessions) => {
+            line.extend_from_slice(b" sessions")?;
+            push_numbers(alloc, line, sessions.as_slice())
+        }
     }
 }
 

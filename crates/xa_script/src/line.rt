@@ -3,7 +3,7 @@ ghost use Rattle.std.specs.Option.{option_copied};
 ghost use Rattle.std.specs.Prelude.{◌≡◌, ◌≢◌, ◌∷◌, [], ℕ, IfOk, IfSome, List, Option, false, unwrap_or};
 ghost use Rattle.xa_xid.specs.Triple.{Triple};
 ghost use Rattle.xa_script.specs.Lines.{IsWithinLimits, asked_of, asks_of, by_file, by_words, call_of, crash_of, disconnect_of};
-ghost use Rattle.xa_script.specs.Lines.{fail_of, file_of, line_of, said_of, sole_of, stop_of};
+ghost use Rattle.xa_script.specs.Lines.{fail_of, file_of, line_of, said_of, sessions_of, sole_of, stop_of};
 ghost use Rattle.xa_script.specs.Requests.{ReadsTexts};
 ghost use Rattle.xa_script.specs.Words.{alone, words, words_behind};
 
@@ -16,6 +16,7 @@ use crate::words::{first_word, only_word, two_words};
 use std::alloc::{AllocError, Global};
 use xa_control::{Control, Hello, REVISION};
 use xa_frame::Request;
+use xa_xid::Xid;
 
 /// What a line of a script says.
 #[derive(Debug, Drop)]
@@ -220,6 +221,9 @@ fn read_asks(
     if verb == b"disconnect".as_slice() {
         return Ok(read_disconnect(session, words).unwrap_or(Line::Unknown));
     }
+    if verb == b"sessions".as_slice() {
+        return Ok(read_sessions(session, words).unwrap_or(Line::Unknown));
+    }
     read_request_of(alloc, session, verb, words)
 }
 
@@ -230,6 +234,16 @@ fn read_disconnect(session: u64, words: Option<&[u8]>) -> Option<Line>
 {
     let other = read_number(only_word(words)?)?;
     Some(Line::Control(session, Control::Disconnect(other)))
+}
+
+/// What the word after `sessions` asks: which sessions have an association with the branch of that XID.
+fn read_sessions(session: u64, words: Option<&[u8]>) -> Option<Line>
+    ensures value { (xid_of : List ℕ → Option Triple) → ReadsTexts xid_of →
+        result ≡ sessions_of xid_of session (words_behind (option_copied words.entry)) }
+    ensures limits { IfSome result IsWithinLimits }
+{
+    let xid = Xid::take_text(only_word(words)?)?;
+    Some(Line::Control(session, Control::Sessions(xid)))
 }
 
 /// What a session asks by the verb of a request, and the words behind it.

@@ -49,6 +49,7 @@ pub fn mistake_text(alloc: Global, line: &[u8], has_disks: bool) -> Result<Vec<u
     match read_verb(verb) {
         Some(call) => first_mistake(alloc, parts_of(call), words),
         None if verb == b"disconnect".as_slice() => first_mistake(alloc, &[Part::Session], words),
+        None if verb == b"sessions".as_slice() => first_mistake(alloc, &[Part::Xid], words),
         None if is_bare(verb) => told(alloc, "too many words", words.unwrap_or(verb)),
         None => told(alloc, "call", verb),
     }

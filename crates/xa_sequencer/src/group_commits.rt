@@ -4,6 +4,7 @@ use xa_disk::{SyncAnswer, Syncer};
 use xa_frame::{Reply, Request, Status};
 use xa_history::Manages;
 use xa_manager::{Asked, PendingGroup};
+use xa_xid::Xid;
 
 /// A manager with group commit: the sync of one group may be left to whoever has its syncer, and meanwhile the manager
 /// answers what leaves the group as it is. With a group pending it stands for the states before the group.
@@ -18,7 +19,7 @@ pub trait GroupCommits: Manages {
     ghost use Rattle.xa_manager.specs.Status.{status_of};
     ghost use Rattle.xa_manager.specs.declared.pending.PendingGroup.{PendingGroup};
     ghost use Rattle.xa_history.specs.declared.manages.Manages.{Ghosts};
-    ghost use Rattle.xa_sequencer.specs.Associates.{IsAssociated, IsLogEnd};
+    ghost use Rattle.xa_sequencer.specs.Associates.{IsAssociated, IsLogEnd, WorksFor};
     ghost use Rattle.xa_sequencer.specs.Believed.GroupManager.{GroupManager, alone, beside};
     ghost use Rattle.xa_sequencer.specs.GroupCommits.{ActsAs, AnswersAs, AsksOne, IsAlone, RestsAs};
 
@@ -114,6 +115,11 @@ pub trait GroupCommits: Manages {
     fn has_association(&self, session: u64) -> bool
         ensures { (pending : Option PendingGroup)
             → IsAssociated manages.stands (record { manager = self.now; pending = pending }) session result };
+
+    /// Whether a session has an association of its own with this branch.
+    fn works_for(&self, session: u64, xid: &Xid) -> bool
+        ensures { (pending : Option PendingGroup)
+            → WorksFor manages.stands (record { manager = self.now; pending = pending }) session xid.now result };
 
     /// Where the log's next record begins, while the manager is up: with a group pending, its first one.
     fn log_end(&self) -> u64

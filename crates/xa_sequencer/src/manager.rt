@@ -3,6 +3,7 @@ use xa_assoc::ConnectFault;
 use xa_disk::{Disk, SyncAnswer, Syncer};
 use xa_frame::{Reply, Request, Status};
 use xa_manager::{Asked, Manager, PendingGroup};
+use xa_xid::Xid;
 
 /// The manager over a log on two disks.
 impl<D: Disk> GroupCommits for Manager<D> {
@@ -69,6 +70,10 @@ impl<D: Disk> GroupCommits for Manager<D> {
 
     fn has_association(&self, session: u64) -> bool {
         self.has_association(session)
+    }
+
+    fn works_for(&self, session: u64, xid: &Xid) -> bool {
+        self.works_for(session, xid)
     }
 
     fn log_end(&self) -> u64 {

@@ -14,13 +14,16 @@ use crate::beside::{answer, connect, hang_up, pending_calls};
 use crate::group_commits::GroupCommits;
 use crate::numbers::are_left;
 use crate::together::{hold_all, number_all};
+use std::alloc::{AllocError, Global};
 use std::fmt;
 use std::marker::{Model, PhantomData};
 use xa_assoc::ConnectFault;
 use xa_disk::{SyncAnswer, Syncer};
 use xa_frame::{Reply, Request, Status};
 use xa_history::{Start, is_memory, placed};
+use xa_limits::MOST_SESSIONS;
 use xa_manager::{Asked, PendingGroup, connect_reply, memory_reply, reached_promises};
+use xa_xid::Xid;
 
 /// A manager whose events are numbered, from 1 on, with the group that it may have pending. To a contract it is these two as
 /// they are now, and the count.
@@ -222,13 +225,28 @@ impl<M: GroupCommits, S: Start> Sequencer<M, S> {
 }
 
 impl<M: GroupCommits, S: Start> Sequencer<M, S> {
-    ghost use Rattle.xa_sequencer.specs.Associates.{IsAssociated, IsLogEnd};
+    ghost use Rattle.xa_sequencer.specs.Associates.{AreSessions, IsAssociated, IsLogEnd};
 
     /// Whether a session has an association of its own.
     pub fn has_association(&self, session: u64) -> bool
         ensures { IsAssociated M.manages.stands self.now.now session result }
     {
         self.manager.has_association(session)
+    }
+
+    /// The sessions that have an association of their own with this branch, ascending.
+    #[tactic(auto, unfolding(crate::specs::Associates::sessions_up_to))]
+    pub fn sessions_of(&self, alloc: Global, xid: &Xid) -> Result<Vec<u64>, AllocError>
+        ensures { IfOk result (λ v. AreSessions M.manages.stands self.now.now xid.now v.items) }
+    {
+        let mut sessions = Vec::new(alloc);
+        for before in 0..MOST_SESSIONS as u64 {
+            let session = before + 1;
+            if self.manager.works_for(session, xid) {
+                sessions.push(session)?;
+            }
+        }
+        Ok(sessions)
     }
 
     /// Where the log's next record begins, while the manager is up: while a group is pending, its first one.

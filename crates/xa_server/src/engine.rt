@@ -10,14 +10,14 @@ ghost use Rattle.xa_tokens.specs.Believed.Receipts.{AreSame};
 
 use crate::fault::ServerFault;
 use crate::post::Post;
-use std::alloc::AllocError;
+use std::alloc::{AllocError, Global};
 use std::io::Print;
 use std::marker::Brand;
 use std::net::Net;
 use std::rt::Clock;
 use std::sync::Wait;
 use std::thread::Threads;
-use xa_handles::SharedSequencer;
+use xa_handles::{SharedSequencer, Tally};
 use xa_history::Start;
 use xa_reactor::{Ended, Listener, LoopFault, Seen, Settings, Watch, run_loops};
 use xa_sequencer::{GroupCommits, Sequencer};
@@ -96,7 +96,8 @@ fn loop_by<
     let sequencer: Sequencer<M, S> = Sequencer::new(manager);
     let (shared, share) = SharedSequencer::<M, S, B>::new(rt.alloc(), sequencer, opened);
     let watch = Watch::new();
-    let posts = make_posts(rt, &shared, &watch, share, loops)?;
+    let tallies = make_tallies(rt.alloc(), loops)?;
+    let posts = make_posts(rt, &shared, &watch, tallies.as_slice(), share, loops)?;
     let (ran, settings) = run_posts(rt, listener, &shared, &watch, posts, settings)?;
     let Gathered {
         share,
@@ -114,14 +115,27 @@ fn loop_by<
     })
 }
 
+// What each loop counts: nothing yet.
+fn make_tallies(alloc: Global, loops: u64) -> Result<Vec<Tally>, AllocError>
+    ensures { IfOk result (λ tallies. length tallies.items ≡ loops) }
+{
+    let mut tallies = Vec::new(alloc);
+    for _i in 0..loops {
+        tallies.push(Tally::new(alloc)?)?;
+    }
+    Ok(tallies)
+}
+
 // A post for each loop. Its share has one part, and the last one's what is left.
 fn make_posts<'a, M: GroupCommits, S: Start, B: Book, R: AllocGlobal + Clock + Wait>(
     rt: &'a R,
     sequencer: &'a SharedSequencer<M, S, B>,
     watch: &'a Watch,
+    tallies: &'a [Tally],
     share: Share<B>,
     loops: u64,
 ) -> Result<Vec<Post<'a, M, S, B, R>>, AllocError>
+    requires tallies { length tallies.now ≡ loops }
     requires parts { (0 < loops) × (loops ≤ share.parts) }
     requires fresh { IsFresh share }
     ensures count { IfOk result (λ posts. length posts.items ≡ loops) }
@@ -131,11 +145,11 @@ fn make_posts<'a, M: GroupCommits, S: Start, B: Book, R: AllocGlobal + Clock + W
     let mut rest = share;
     let alloc = rt.alloc();
     let mut posts = Vec::new(alloc);
-    for _i in 1..loops {
+    for i in 1..loops {
         let one = sequencer.split(&mut rest);
-        posts.push(Post::new(rt, sequencer, watch, one, alloc)?)?;
+        posts.push(Post::new(rt, sequencer, watch, tallies, i as usize, one, alloc)?)?;
     }
-    posts.push(Post::new(rt, sequencer, watch, rest, alloc)?)?;
+    posts.push(Post::new(rt, sequencer, watch, tallies, 0, rest, alloc)?)?;
     Ok(posts)
 }
 

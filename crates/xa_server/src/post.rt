@@ -1,4 +1,5 @@
-ghost use Rattle.std.specs.Prelude.{ℕ, ◌≡◌, ◌+◌, IfSome};
+ghost use Rattle.std.specs.Prelude.{ℕ, ◌≡◌, ◌+◌, IfSome, option_map};
+ghost use Rattle.xa_frame.specs.Spelling.{call_of};
 ghost use Rattle.xa_sequencer.specs.Believed.GroupManager.{pending_of};
 ghost use Rattle.xa_server.specs.Believed.Watching.{is_restart, seen_of};
 
@@ -9,14 +10,16 @@ use std::rt::Clock;
 use std::sync::Wait;
 use std::thread::yield_now;
 use xa_assoc::ConnectFault;
+use xa_codes::Call;
 use xa_desk::Door;
 use xa_frame::{Reply, Request, Status};
-use xa_handles::{Content, Handle, Held, Letter, SharedSequencer};
+use xa_handles::{Content, Handle, Held, Letter, SharedSequencer, Tally, put_counts};
 use xa_history::Start;
 use xa_reactor::{Ask, Reception, Seen, Watch};
 use xa_room::Uptime;
 use xa_sequencer::GroupCommits;
 use xa_tokens::{Book, Share};
+use xa_xid::Xid;
 
 /// How often a loop lets others have the lock who wait for it, before it answers what they all have posted: what they ask
 /// meanwhile needn't wait for the device, and what they have posted shares its sync.
@@ -27,6 +30,9 @@ const LETS: u32 = 4;
 pub(crate) struct Post<'a, M: GroupCommits, S: Start, B: Book, R> {
     pub(crate) handle: Handle<'a, M, S, B, R>,
     watch: &'a Watch,
+    /// What each loop counts, and which place this one's has.
+    tallies: &'a [Tally],
+    place: usize,
     /// Whether the manager is down, by what this loop was told.
     seen: Seen,
     rt: &'a R,
@@ -37,7 +43,7 @@ pub(crate) struct Post<'a, M: GroupCommits, S: Start, B: Book, R> {
 }
 
 impl<'a, M: GroupCommits, S: Start, B: Book, R: Clock + Wait> Post<'a, M, S, B, R> {
-    ghost use Rattle.std.specs.Prelude.{◌≡◌, ◌⊎◌, ◌<◌, ◌≤◌, [], All, IfOk, IsTrue, None, is_none};
+    ghost use Rattle.std.specs.Prelude.{◌≡◌, ◌⊎◌, ◌<◌, ◌≤◌, [], All, IfOk, IsTrue, None, is_none, length};
     ghost use Rattle.xa_reactor.specs.Asking.{HasRequest, IsAnswered, Tells, TellsSome};
     ghost use Rattle.xa_server.specs.{Believed.Loops.Called, Rounds.IsWithin, Rounds.TakesBack, Rounds.TellsAtMost};
     ghost use Rattle.xa_server.specs.Believed.Watching.{IsSeenLast};
@@ -47,18 +53,23 @@ impl<'a, M: GroupCommits, S: Start, B: Book, R: Clock + Wait> Post<'a, M, S, B, 
         rt: &'a R,
         sequencer: &'a SharedSequencer<M, S, B>,
         watch: &'a Watch,
+        tallies: &'a [Tally],
+        place: usize,
         share: Share<B>,
         alloc: Global,
     ) -> Result<Post<'a, M, S, B, R>, AllocError>
+        requires place { place < length tallies.now }
         requires some { 0 < share.parts }
         requires told { share.told ≡ [] }
         requires owes { Owes share 0 }
         ensures { IfOk result (λ post. post.handle.asker ≡ share) }
     {
-        let handle = Handle::new(rt, sequencer, share, alloc)?;
+        let handle = Handle::new(rt, sequencer, &tallies[place], share, alloc)?;
         Ok(Post {
             handle,
             watch,
+            tallies,
+            place,
             seen: Seen::new(),
             rt,
             uptime: Uptime::new(rt),
@@ -177,6 +188,7 @@ impl<'a, M: GroupCommits, S: Start, B: Book, R: Clock + Wait> Post<'a, M, S, B, 
             return Some(held);
         }
         let is_restart = asks_restart(ask);
+        let call = call_of(ask);
         let (_, _, content) = letter.into_parts();
         let (reply, held) = match content {
             Content::Answered(answered) => (self.handle.take_answer(answered), Some(held)),
@@ -184,6 +196,7 @@ impl<'a, M: GroupCommits, S: Start, B: Book, R: Clock + Wait> Post<'a, M, S, B, 
         };
         self.logged = self.logged.wrapping_add(1);
         self.watch.see(self.rt, &mut self.seen, is_restart, &reply);
+        self.tally(call, &reply);
         ask.request = None;
         ask.reply = reply;
         held
@@ -214,9 +227,11 @@ impl<'a, M: GroupCommits, S: Start, B: Book, R: Clock + Wait> Post<'a, M, S, B, 
     {
         if let Some(request) = ask.request.take() {
             let is_restart = self.count(&request, may_log(&request));
+            let call = Some(request.call());
             let held = self.handle.hold();
             let (reply, held) = self.handle.call_held(held, ask.session, request);
             self.watch.see(self.rt, &mut self.seen, is_restart, &reply);
+            self.tally(call, &reply);
             ask.reply = reply;
             drop(held);
             yield_now();
@@ -233,6 +248,7 @@ impl<'a, M: GroupCommits, S: Start, B: Book, R: Clock + Wait> Post<'a, M, S, B, 
             unreachable!()
         };
         let is_restart = is_restart(&request);
+        let call = Some(request.call());
         let reply = match self.handle.call_now(held, ask.session, request) {
             Ok(reply) => reply,
             Err(request) => {
@@ -241,7 +257,15 @@ impl<'a, M: GroupCommits, S: Start, B: Book, R: Clock + Wait> Post<'a, M, S, B, 
             }
         };
         self.watch.see(self.rt, &mut self.seen, is_restart, &reply);
+        self.tally(call, &reply);
         ask.reply = reply;
+    }
+
+    // Counts a call that was answered, and its reply.
+    fn tally(&self, call: Option<Call>, reply: &Reply) {
+        if let (Some(call), Some(tally)) = (call, self.tallies.get(self.place)) {
+            tally.answered(call, reply.code);
+        }
     }
 
     // A request is to be answered that may log, or not. Whether it is a Restart.
@@ -273,8 +297,10 @@ impl<M: GroupCommits, S: Start, B: Book, R: Clock + Wait> Door for Post<'_, M, S
 
     fn call(&mut self, session: u64, request: Request) -> Reply {
         let is_restart = self.count(&request, may_log(&request));
+        let call = Some(request.call());
         let reply = self.handle.call(session, request);
         self.watch.see(self.rt, &mut self.seen, is_restart, &reply);
+        self.tally(call, &reply);
         reply
     }
 
@@ -293,7 +319,7 @@ impl<M: GroupCommits, S: Start, B: Book, R: Clock + Wait> Door for Post<'_, M, S
 impl<M: GroupCommits, S: Start, B: Book, R: Clock + Wait> Reception for Post<'_, M, S, B, R> {
     ghost use Rattle.xa_handles.specs.Believed.Accounts.{Posts};
     ghost use Rattle.xa_model.specs.declared.event.Event.TheVariants as Event;
-    ghost use Rattle.xa_sequencer.specs.Associates.{AssociatedBy, EndedBy};
+    ghost use Rattle.xa_sequencer.specs.Associates.{AssociatedBy, AttachedBy, EndedBy};
     ghost use Rattle.xa_server.specs.{Believed.Loops.Connected, Believed.Loops.Posted, Logging.may_log, Settled.keeps_settled};
     ghost use Rattle.xa_tokens.specs.Believed.Account.{Owes};
 
@@ -314,6 +340,8 @@ impl<M: GroupCommits, S: Start, B: Book, R: Clock + Wait> Reception for Post<'_,
     ghost keeps_settled = { keeps_settled M.manages S.start S.base (λ p. p.handle.asker) };
 
     ghost associates = { λ _ session result. AssociatedBy M.manages S.start S.base session result };
+
+    ghost attached = { λ _ xid sessions. AttachedBy M.manages S.start S.base xid sessions };
 
     ghost ends = { λ _ result. EndedBy M.manages S.start S.base result };
 
@@ -361,6 +389,14 @@ impl<M: GroupCommits, S: Start, B: Book, R: Clock + Wait> Reception for Post<'_,
         self.handle.has_association(session)
     }
 
+    fn sessions_of(&self, alloc: Global, xid: &Xid) -> Result<Vec<u64>, AllocError> {
+        self.handle.sessions_of(alloc, xid)
+    }
+
+    fn put_counts(&self, out: &mut Vec<u64>) -> Result<(), AllocError> {
+        put_counts(out, self.tallies)
+    }
+
     fn log_end(&self) -> u64 {
         self.handle.log_end()
     }
@@ -377,6 +413,16 @@ fn asks_restart(ask: &Ask) -> bool
     match &ask.request {
         Some(request) => is_restart(request),
         None => false,
+    }
+}
+
+// Which call an ask that isn't answered is.
+fn call_of(ask: &Ask) -> Option<Call>
+    ensures { result ≡ option_map call_of ask.now.request }
+{
+    match &ask.request {
+        Some(request) => Some(request.call()),
+        None => None,
     }
 }
 

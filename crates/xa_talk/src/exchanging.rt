@@ -32,20 +32,6 @@ pub fn exchange<R: Read, W: Write>(
     exchange_frame(alloc, connection, frame.as_slice())
 }
 
-/// Asks a server something that it answers by a reply: with a body that a reply may have, or none.
-pub fn exchange_control<R: Read, W: Write>(
-    alloc: Global,
-    connection: &mut Connection<R, W>,
-    control: &Control,
-) -> Result<Reply, TalkFault>
-    ensures { Brought (control_frame control.now) result
-        (W.contents connection.old.writer) (W.contents connection.new.writer)
-        (R.remaining connection.old.reader) (R.remaining connection.new.reader) }
-{
-    let frame = control_frame_of(alloc, control)?;
-    exchange_frame(alloc, connection, frame.as_slice())
-}
-
 /// Asks a server something, and gives its answer.
 pub fn ask_control<R: Read, W: Write>(
     alloc: Global,

@@ -7,8 +7,8 @@
 //! - `answer`: what one line is answered; `MOST_CONNECTIONS`; `controlling`: the same of what asks the server itself; `answered`:
 //!   `Answered`, an answer, and how it is shown
 //! - `connections`: the script's connections by their numbers
-//! - `exchanging`: `exchange`, a question that goes over a connection, and its reply that comes back; `ask_control` and
-//!   `exchange_control`, the same of what asks a server something; `ask_end`, what asks it to end
+//! - `exchanging`: `exchange`, a question that goes over a connection, and its reply that comes back; `ask_control`, the same
+//!   of what asks a server something; `ask_end`, what asks it to end
 //! - `dial`: `Dial`, what opens connections, and `Connection`
 //! - `fault`: `TalkFault`, why a script wasn't talked to its end
 //!
@@ -38,8 +38,9 @@ mod tick_fault;
 mod ticker;
 
 pub use answer::MOST_CONNECTIONS;
+pub use answered::Answered;
 pub use dial::{Connection, Dial};
-pub use exchanging::{ask_end, exchange, exchange_control};
+pub use exchanging::{ask_control, ask_end, exchange};
 pub use fault::TalkFault;
 pub use manner::Manner;
 pub use prompter::Prompter;

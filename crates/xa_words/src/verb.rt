@@ -175,7 +175,7 @@ impl Verb {
             Verb::Status =>
                 "Example: xarm status --port 4187\nStatus 0: done. 1: the server refused it. 2: the words are wrong. 3: no connection, or it was lost.",
             Verb::Branches =>
-                "Example: xarm branches --port 4187\nA line has the XID, the state, the mark (0 for none), the timestamp, and how many active, suspended and loose associations there are.\nStatus 0: done. 1: the server refused it. 2: the words are wrong. 3: no connection, or it was lost.",
+                "Example: xarm branches --port 4187\nA line has the XID, the state, the mark (0 for none), the timestamp, how many active, suspended and loose associations there are, and the sessions of the active and suspended ones (- for none, or if the server doesn't tell).\nStatus 0: done. 1: the server refused it. 2: the words are wrong. 3: no connection, or it was lost.",
             Verb::Recover =>
                 "Example: xarm recover --port 4187 --name bank\nStatus 0: done. 1: the server refused it. 2: the words are wrong. 3: no connection, or it was lost.",
             Verb::Commit =>

@@ -6,11 +6,12 @@ ghost use Rattle.xa_sequencer.specs.Believed.GroupManager.{alone};
 use crate::desks::opened;
 use std::alloc::Global;
 use std::marker::Brand;
+use std::rt::Clock;
 use std::sync::Wait;
 use xa_codes::XA_OK;
 use xa_disk::MemDisk;
 use xa_frame::Request;
-use xa_handles::{Content, Handle, Held, SharedSequencer};
+use xa_handles::{Content, Handle, Held, SharedSequencer, Tally};
 use xa_history::Start;
 use xa_manager::Manager;
 use xa_script::{Line, read_line};
@@ -27,7 +28,7 @@ pub fn call_of(alloc: Global, line: &str) -> Option<(u64, Request)>
 }
 
 // Whether each line is answered by 0.
-fn calls<M: GroupCommits, S: Start, B: Book, R: Wait>(
+fn calls<M: GroupCommits, S: Start, B: Book, R: Clock + Wait>(
     alloc: Global,
     handle: &mut Handle<'_, M, S, B, R>,
     lines: &[&str],
@@ -42,7 +43,7 @@ fn calls<M: GroupCommits, S: Start, B: Book, R: Wait>(
     Some(are_right)
 }
 
-fn posts<M: GroupCommits, S: Start, B: Book, R: Wait>(
+fn posts<M: GroupCommits, S: Start, B: Book, R: Clock + Wait>(
     alloc: Global,
     handle: &mut Handle<'_, M, S, B, R>,
     place: usize,
@@ -55,7 +56,7 @@ fn posts<M: GroupCommits, S: Start, B: Book, R: Wait>(
 }
 
 // The number of the next answer, if it is 0 to this line, at this place, and to no other session.
-fn takes<M: GroupCommits, S: Start, B: Book, R: Wait>(
+fn takes<M: GroupCommits, S: Start, B: Book, R: Clock + Wait>(
     alloc: Global,
     handle: &mut Handle<'_, M, S, B, R>,
     held: &mut Held<'_, M, S, B>,
@@ -78,7 +79,7 @@ fn takes<M: GroupCommits, S: Start, B: Book, R: Wait>(
 }
 
 // The number of the next call that comes back as it was, which its handle then answers itself.
-fn takes_back<'a, M: GroupCommits, S: Start, B: Book, R: Wait>(
+fn takes_back<'a, M: GroupCommits, S: Start, B: Book, R: Clock + Wait>(
     handle: &mut Handle<'a, M, S, B, R>,
     held: Held<'a, M, S, B>,
 ) -> Option<u64> {
@@ -95,7 +96,7 @@ fn takes_back<'a, M: GroupCommits, S: Start, B: Book, R: Wait>(
 }
 
 // Whether each call that the handle posted has come back to it, and was answered.
-fn has_all<M: GroupCommits, S: Start, B: Book, R: Wait>(
+fn has_all<M: GroupCommits, S: Start, B: Book, R: Clock + Wait>(
     handle: &Handle<'_, M, S, B, R>,
     held: &mut Held<'_, M, S, B>,
 ) -> bool {
@@ -116,7 +117,7 @@ const MEANWHILE: [&str; 8] = [
 
 // Two prepares that two handles post are answered together, by the one that has the lock. The first handle takes its answer
 // when it has asked for more of its own than there was in all after the group, and nobody asks for it again.
-fn share<M: GroupCommits, S: Start, B: Book, R: Wait>(
+fn share<M: GroupCommits, S: Start, B: Book, R: Clock + Wait>(
     alloc: Global,
     first: &mut Handle<'_, M, S, B, R>,
     second: &mut Handle<'_, M, S, B, R>,
@@ -134,7 +135,7 @@ fn share<M: GroupCommits, S: Start, B: Book, R: Wait>(
 }
 
 // So is a call that is posted alone, with this number.
-fn answers_alone<M: GroupCommits, S: Start, B: Book, R: Wait>(
+fn answers_alone<M: GroupCommits, S: Start, B: Book, R: Clock + Wait>(
     alloc: Global,
     handle: &mut Handle<'_, M, S, B, R>,
     line: &str,
@@ -148,7 +149,7 @@ fn answers_alone<M: GroupCommits, S: Start, B: Book, R: Wait>(
 }
 
 // One that logs nothing is left to its handle.
-fn leaves<M: GroupCommits, S: Start, B: Book, R: Wait>(
+fn leaves<M: GroupCommits, S: Start, B: Book, R: Clock + Wait>(
     alloc: Global,
     handle: &mut Handle<'_, M, S, B, R>,
     line: &str,
@@ -162,7 +163,7 @@ fn leaves<M: GroupCommits, S: Start, B: Book, R: Wait>(
     Some(is_right && has_all(handle, &mut held))
 }
 
-fn answers<M: GroupCommits, S: Start, B: Book, R: Wait>(
+fn answers<M: GroupCommits, S: Start, B: Book, R: Clock + Wait>(
     alloc: Global,
     first: &mut Handle<'_, M, S, B, R>,
     second: &mut Handle<'_, M, S, B, R>,
@@ -194,7 +195,7 @@ fn answers<M: GroupCommits, S: Start, B: Book, R: Wait>(
     Some(are_connected && is_ready && is_other_ready && is_shared && is_alone && is_left)
 }
 
-fn shares_both<M: GroupCommits + Drop, S: Start, B: Book, R: Wait>(
+fn shares_both<M: GroupCommits + Drop, S: Start, B: Book, R: Clock + Wait>(
     rt: &R,
     alloc: Global,
     manager: M,
@@ -207,8 +208,9 @@ fn shares_both<M: GroupCommits + Drop, S: Start, B: Book, R: Wait>(
     let sequencer: Sequencer<M, S> = Sequencer::new(manager);
     let (shared, mut share) = SharedSequencer::<M, S, B>::new(alloc, sequencer, history);
     let other = shared.split(&mut share);
-    let mut first = Handle::new(rt, &shared, share, alloc).ok()?;
-    let mut second = Handle::new(rt, &shared, other, alloc).ok()?;
+    let tally = Tally::new(alloc).ok()?;
+    let mut first = Handle::new(rt, &shared, &tally, share, alloc).ok()?;
+    let mut second = Handle::new(rt, &shared, &tally, other, alloc).ok()?;
     let are_right = answers(alloc, &mut first, &mut second)?;
     Some(are_right && second.status().calls == 22)
 }

@@ -1,5 +1,5 @@
 use Rattle.std.proofs.Common.{arith, sym}
-use Rattle.xa_control.proofs.Numbers.{one_more}
+use Rattle.xa_control.proofs.Counted.{one_more}
 use Rattle.xa_control.proofs.answer_reader.numbers_of.Goals as goal
 
 pub loop-preserved : goal.loop-preserved

@@ -1,5 +1,5 @@
 use Rattle.std.proofs.Common.{arith, sym}
-use Rattle.xa_control.proofs.Numbers.{four_front}
+use Rattle.xa_control.proofs.Counted.{four_front}
 use Rattle.xa_control.proofs.hello.hello_of.Goals as goal
 
 pub returns-clause-found : goal.returns-clause-found

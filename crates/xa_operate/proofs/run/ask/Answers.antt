@@ -41,6 +41,20 @@ returns-in_err-text-clause-ends g c =
       }),
     )
 
+pub returns-in_err-push_behind-clause-ends : goal.returns-in_err-push_behind-clause-ends
+returns-in_err-push_behind-clause-ends g c =
+    let p = err_from_is_err_and c.from_residual-in_err-push_behind.result c.from_residual-in_err-push_behind.ensures.1 in
+    rw (p.1, p.2) (
+      [],
+      nothing_appended (g.O.Write.contents c.args.output.now),
+      inr (inr record {
+        reply = c.in-Ok.reply;
+        done = record { exchanged = c.in-Ok.ensures; done = sym c.answers.ensures ∙ c.if-not-answers.false };
+        part = (shown c.args.format c.args.task.now c.args.question.now c.in-Ok.reply, refl);
+        told = inr refl;
+      }),
+    )
+
 pub returns-clause-ends : goal.returns-clause-ends
 returns-clause-ends g c =
     printed c.args.format c.args.task.now (λ k. g.W.Write.contents k.writer) (λ k. g.R.Read.remaining k.reader) c.args.question.now c.in-Ok.reply

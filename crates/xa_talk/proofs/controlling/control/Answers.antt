@@ -9,6 +9,9 @@ returns-in-Hello g c =
       | inl hello ↦ absurd (cc (sym hello.1 ∙ e))
       | inr others ↦ elim others [
         | inl disconnect ↦ absurd (cc (sym disconnect.1 ∙ e))
-        | inr metrics ↦ absurd (cc (sym metrics ∙ e))
+        | inr more ↦ elim more [
+          | inl metrics ↦ absurd (cc (sym metrics ∙ e))
+          | inr sessions ↦ absurd (cc (sym sessions.1 ∙ e))
+        ]
       ]
     ]) c.told.ensures c.ask.ensures

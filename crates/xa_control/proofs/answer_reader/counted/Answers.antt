@@ -1,6 +1,6 @@
 use Rattle.std.proofs.Common.{arith, sym}
-use Rattle.xa_control.proofs.Numbers.{found_so, is_counted, miscounted, only_so}
-use Rattle.xa_control.proofs.answer_reader.metrics_of.Goals as goal
+use Rattle.xa_control.proofs.Counted.{found_so, is_counted, miscounted, only_so}
+use Rattle.xa_control.proofs.answer_reader.counted.Goals as goal
 
 pub returns-then-numbers-count-clause-only : goal.returns-then-numbers-count-clause-only
 returns-then-numbers-count-clause-only c ns h =
@@ -11,7 +11,7 @@ returns-clause-found c =
     let e = c.in_ok-numbers.ensures in
     found_so c.new.result c.args.rest.now c.in_ok-numbers.numbers.items
     (is_counted c.args.rest.now c.in-Some.count c.in-Some.numbers.now c.in_ok-numbers.numbers.items (λ k. omega (arith, c.type_inv.rest k)) (sym c.in-Some.ensures) e.spelled e.holds (omega (arith, e.count, c.from-count.ensures))
-    (omega (arith, c.from-count.ensures, c.if-count-gt-MOST_METRICS.false)))
+    (omega (arith, c.from-count.ensures, c.if-count-gt-MOST_NUMBERS.false)))
     c.new.ensures.numbers
 
 pub returns-clause-only : goal.returns-clause-only
@@ -19,5 +19,5 @@ returns-clause-only c ns h =
     let e = c.in_ok-numbers.ensures in
     only_so c.new.result c.args.rest.now c.in_ok-numbers.numbers.items ns
     (is_counted c.args.rest.now c.in-Some.count c.in-Some.numbers.now c.in_ok-numbers.numbers.items (λ k. omega (arith, c.type_inv.rest k)) (sym c.in-Some.ensures) e.spelled e.holds (omega (arith, e.count, c.from-count.ensures))
-    (omega (arith, c.from-count.ensures, c.if-count-gt-MOST_METRICS.false)))
-    h (c.new.ensures.valid.1 (omega (arith, e.count, c.if-count-gt-MOST_METRICS.false))) c.new.ensures.numbers
+    (omega (arith, c.from-count.ensures, c.if-count-gt-MOST_NUMBERS.false)))
+    h (c.new.ensures.valid.1 (omega (arith, e.count, c.if-count-gt-MOST_NUMBERS.false))) c.new.ensures.numbers

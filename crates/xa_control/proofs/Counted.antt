@@ -48,7 +48,7 @@ same_numbers (m ∷ ms) (n ∷ ns) a b e =
     cc (p.0, rest)
 
 -- a count that was read, and the numbers behind it
-pub counted : (bytes : List ℕ) (count : ℕ) (rest ns : List ℕ) → length ns ≤ 256 → number_at w16 bytes ≡ Some (count, rest)
+pub counted : (bytes : List ℕ) (count : ℕ) (rest ns : List ℕ) → length ns ≤ 1024 → number_at w16 bytes ≡ Some (count, rest)
     → bytes ≡ counted_bytes (to_be_bytes w64) ns → (count ≡ length ns) × (rest ≡ spell ns)
 counted bytes count rest ns few e is =
     let pair : (count, rest) ≡ (length ns, spell ns) =
@@ -58,7 +58,7 @@ counted bytes count rest ns few e is =
 never : {A : Type 0} (x : A) → None ≡ Some x → ⊥
 never x e = absurd (cc e)
 
-pub uncounted : (bytes ns : List ℕ) → length ns ≤ 256 → number_at w16 bytes ≡ None → bytes ≡ counted_bytes (to_be_bytes w64) ns → ⊥
+pub uncounted : (bytes ns : List ℕ) → length ns ≤ 1024 → number_at w16 bytes ≡ None → bytes ≡ counted_bytes (to_be_bytes w64) ns → ⊥
 uncounted bytes ns few none is =
     never (length ns, spell ns) (sym none ∙ ap (λ (bs : List ℕ). number_at w16 bs) is ∙ two.again (length ns) (spell ns) (omega (arith, few)))
 
@@ -110,7 +110,7 @@ miscounted bytes count rest ns e h =
     omega (arith, p.0, ap (λ (bs : List ℕ). length bs) p.1, long ns)
 
 pub is_counted : (bytes : List ℕ) (count : ℕ) (rest ms : List ℕ) → AreBytes bytes → number_at w16 bytes ≡ Some (count, rest) → rest ≡ spell ms → All Small ms
-    → length ms ≡ count → count ≤ 256 → IsCounted bytes ms
+    → length ms ≡ count → count ≤ 1024 → IsCounted bytes ms
 is_counted bytes count rest ms are e is holds len few =
     let p = two.found bytes count rest are e in
     record {

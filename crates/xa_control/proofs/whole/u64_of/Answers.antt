@@ -1,7 +1,7 @@
 use Rattle.std.proofs.Common.{arith, sym}
 use Rattle.std.proofs.lemmas.List.{nil_from_length}
-use Rattle.xa_control.proofs.Numbers.{eight_alone}
-use Rattle.xa_control.proofs.number.u64_of.Goals as goal
+use Rattle.xa_control.proofs.Counted.{eight_alone}
+use Rattle.xa_control.proofs.whole.u64_of.Goals as goal
 
 pub returns-in-Some-default-empty-clause-found : goal.returns-in-Some-default-empty-clause-found
 returns-in-Some-default-empty-clause-found c =
