@@ -7,13 +7,15 @@ import tempfile
 import time
 
 import plays
-from frames import LIMIT, ROOM, Peer, free_port, request, shown, timeless
+from frames import LIMIT, ROOM, Peer, free_port, placeless, request, shown, timeless
 
 PROGRAM = os.path.join(plays.TOP, "crates/xarm/out/xarm")
 # The longest that who behaves well waits for a reply, in seconds, on a machine that is busy with other things.
 PATIENCE = 10
 OK = "0 Nothing"
 OPEN = "1 open TMNOFLAGS n"
+# What a server tells that was asked to end, by a port.
+ENDING = "xarm: PEER: shutdown\nxarm: shutdown\n"
 
 
 class Server:
@@ -48,7 +50,7 @@ class Server:
 
     def end_and_print(self):
         printed, _ = self.ran.communicate(timeout=LIMIT)
-        return self.ran.returncode, printed.decode(), self.has_told()
+        return self.ran.returncode, printed.decode(), placeless(self.has_told())
 
     def peer(self, *receives):
         return Peer(self.port, *receives)

@@ -2,6 +2,7 @@
 (docs/PROTOCOL.md, docs/SCRIPT.md)."""
 import itertools
 import os
+import re
 import socket
 
 # How long a reply may take, in seconds; and where servers have their files: in memory, where there are such folders.
@@ -97,6 +98,16 @@ def free_port():
                 pass
 
 
+def placeless(told):
+    """What a server told, from whichever port an order came."""
+    return re.sub(r"127\.0\.0\.\d:\d+: ", "PEER: ", told)
+
+
+def but_orders(told):
+    """What a server told beside an operator's orders."""
+    return re.sub(r"(?m)^xarm: (127\.0\.0\.\d:\d+|PEER|socket|port): (decide|disconnect|doom|restart|shutdown|trim)\b.*\n", "", told)
+
+
 def timeless(*words):
     """That option, where it is none of these, and where no workers serve, which tell no time."""
     return () if "--tick" in words or "--workers" in words else TIMELESS
@@ -167,6 +178,10 @@ class Reading:
             return " branches" + "".join(self.branch() for _ in range(self.number(2)))
         if kind == 6:
             return " status" + "".join(f" {name} {self.number(8)}" for name in NUMBERS)
+        if kind == 8:
+            return f" hello {self.number(4)} {self.number(8)}"
+        if kind in (9, 10):
+            return (" metrics", " sessions")[kind - 9] + "".join(f" {self.number(8)}" for _ in range(self.number(2)))
         assert kind in (0, 3)
         return " absent" if kind else ""
 

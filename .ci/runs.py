@@ -4,6 +4,7 @@ import re
 
 from callers import KEYS
 from crashes import Aftermath, fail_power, tails
+from frames import but_orders
 from histories import History, Search
 from loads import Load, Mistake, Server
 from promises import check_promises
@@ -60,8 +61,8 @@ class Run:
 
 
 def count_events(run, history, printed, *audit):
-    """The server counts what has a place, the hang-ups at the end too, and tells of nothing but trims."""
-    if rest := TRIMMED.sub("", run.server.has_told()).strip():
+    """The server counts what has a place, the hang-ups at the end too, and tells of nothing but trims and orders."""
+    if rest := TRIMMED.sub("", but_orders(run.server.has_told())).strip():
         raise Mistake(f"the server told: {rest}")
     trims = len(TRIMMED.findall(run.server.has_told()))
     connects = len(run.load.all) + run.load.again + len(run.load.late)

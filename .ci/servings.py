@@ -7,7 +7,7 @@ import subprocess
 import tempfile
 
 import plays
-from frames import ROOM, TIMELESS
+from frames import ROOM, TIMELESS, but_orders
 
 # How long a program may take, in seconds: one that isn't proved takes many times as long.
 LIMIT = 600
@@ -80,11 +80,11 @@ class Server:
         self.end()
 
     def end(self):
-        """Its status, where it ended by itself, and what it told."""
+        """Its status, where it ended by itself, and what it told beside orders."""
         if self.is_ready:
             self.ran.kill()
         _, told = self.ran.communicate(timeout=LIMIT)
-        return self.ran.returncode, told.decode()
+        return self.ran.returncode, but_orders(told.decode())
 
     def answers(self, asked):
         """What lines are answered, one each."""

@@ -85,7 +85,7 @@ def previews(server):
     """What is shown first for the words of a command: the line of the branch, or what becomes of which branches."""
     rows = {line.split()[0]: f"{line}\n" for line in server.run("branches")[1].splitlines()}
     working = [xid for xid, row in rows.items() if row.split()[1] == "working"]
-    marked = [xid for xid in working if rows[xid].split()[2] != "0" and rows[xid].split()[4:] == ["0", "0", "0"]]
+    marked = [xid for xid in working if rows[xid].split()[2] != "0" and rows[xid].split()[4:7] == ["0", "0", "0"]]
     at_work = f"branches at work {len(working)}\n"
     whole = {"restart": at_work, "disconnect": at_work, "rollback-marked": "".join(rows[xid] for xid in marked)}
     return lambda words: whole.get(words[0], rows.get(words[-1], ""))

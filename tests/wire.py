@@ -77,23 +77,25 @@ def long(front, count):
 # What asks a server with loops to end, and any how it is doing: neither is a request.
 SHUTDOWN = "01 45"
 # What a server with loops is asked itself, each at its limits, with its answers: a hello; the end of a session that no connection has; and
-# numbers, which this one doesn't tell.
-HELLO = "01 00000000 00 0000000000000000 08 00000001 0000000000000001"
+# the sessions of a branch that isn't known.
+HELLO = "01 00000000 00 0000000000000000 08 00000001 0000000000000007"
 CONTROLS = [
     ("01 46 00000000 0000000000000000", HELLO),
     ("01 46 00000001 0000000000000001", HELLO),
     ("01 46 ffffffff ffffffffffffffff", HELLO),
     ("01 47 0000000000000000", "01 fffffffb 00 0000000000000000 00"),
     ("01 47 ffffffffffffffff", "01 fffffffb 00 0000000000000000 00"),
-    ("01 48", "01 fffffffb 06 0000000000000000 00"),
+    ("01 49 7fffffff 01 00 aa", "01 00000000 00 0000000000000000 0a 0000"),
+    ("01 49 80000000 40 40" + " a5" * 128, "01 00000000 00 0000000000000000 0a 0000"),
 ]
 # Contents of other versions and operations.
 NO_CONTROLS = ["02 46 00000001 0000000000000001", "02 47 0000000000000001", "02 48", "01 44", "01 49", "01 4a 0000000000000001"]
 ASKS_STATUS = "01 43"
-# What asks a server what it speaks, what it has counted, and that it hang up the session of the greatest number.
+# What asks a server what it speaks, what it has counted, that it hang up the session of the greatest number, and for a branch's sessions.
 HELLO = "01 46 00000001 0000000000000000"
 METRICS = "01 48"
 DISCONNECT = "01 47 ffffffffffffffff"
+SESSIONS = "01 49 fffffffe 02 01 aabb cc"
 # Each field at what is just no field, and what is left behind each content.
 MALFORMED = [
     ("", "S"),
@@ -282,6 +284,8 @@ DONE = ANSWERED.format("00000000", 0)
 GREETS = "0000001b 01 00000000 00 0000000000000000 08 ffffffff 8000000000000003"
 COUNTS = "00000021 01 00000000 00 0000000000000000 09 0002 0000000000000007 ffffffffffffffff"
 COUNTS_NONE = "00000011 01 00000000 00 0000000000000000 09 0000"
+LISTS = "00000021 01 00000000 00 0000000000000000 0a 0002 0000000000000001 0000000100000002"
+LISTS_NONE = "00000011 01 00000000 00 0000000000000000 0a 0000"
 NO_HELLO = "0000001a 01 00000000 00 0000000000000000 08 00000001 00000000000000"
 NO_METRICS = "00000019 01 00000000 00 0000000000000000 09 0002 0000000000000007"
 TALKS = [
@@ -361,27 +365,32 @@ TALKS = [
     (
         "what asks a server something else, and what doesn't",
         "connect\n1 hello \n1 hello 1\nhello\n0 hello\n1 Hello\n1 metrics x\n1 disconnect\n1 disconnect 0\n1 disconnect 01\n"
-        "1 disconnect 18446744073709551616\n1 disconnect 1 2\n1 disconnect 1:aa:\n2 hello\n2 metrics\n2 disconnect 1",
+        "1 disconnect 18446744073709551616\n1 disconnect 1 2\n1 disconnect 1:aa:\n1 sessions\n1 sessions 1\n1 sessions 1:aa: 2\n"
+        "2 hello\n2 metrics\n2 disconnect 1\n2 sessions 1:aa:",
         [""],
         [""],
-        "0 Nothing number 1\n" + "-5 Frame\n" * 12 + "-6 Nothing\n" * 3,
+        "0 Nothing number 1\n" + "-5 Frame\n" * 15 + "-6 Nothing\n" * 4,
         "",
     ),
     (
         "what a server answers that is asked something else: its connection stays",
-        "connect\n1 hello\n1 metrics\n1 metrics\n1 disconnect 18446744073709551615\n1 disconnect 18446744073709551615\n1 get 6b\n",
-        [GREETS + COUNTS + COUNTS_NONE + DONE + ANSWERED.format("fffffffb", 0) + OK],
-        [f"0000000e {HELLO} {f'00000002 {METRICS}' * 2} {f'0000000a {DISCONNECT}' * 2} 00000004 01 0a 01 6b"],
+        "connect\n1 hello\n1 metrics\n1 metrics\n1 disconnect 18446744073709551615\n1 disconnect 18446744073709551615\n"
+        "1 sessions -2:aabb:cc\n1 sessions -2:aabb:cc\n1 get 6b\n",
+        [GREETS + COUNTS + COUNTS_NONE + DONE + ANSWERED.format("fffffffb", 0) + LISTS + LISTS_NONE + OK],
+        [
+            f"0000000e {HELLO} {f'00000002 {METRICS}' * 2} {f'0000000a {DISCONNECT}' * 2} {f'0000000b {SESSIONS}' * 2}"
+            " 00000004 01 0a 01 6b"
+        ],
         "0 Nothing number 1\n0 Nothing hello 4294967295 9223372036854775811\n0 Nothing metrics 7 18446744073709551615\n0 Nothing metrics\n"
-        "0 Nothing\n-5 Nothing\n0 Nothing\n",
+        "0 Nothing\n-5 Nothing\n0 Nothing sessions 1 4294967298\n0 Nothing sessions\n0 Nothing\n",
         "",
     ),
     (
         "a server that is asked something else, and knows none of it: its connection stays",
-        "connect\n1 hello\n1 metrics\n1 disconnect 18446744073709551615\n1 get 6b\n",
-        [ANSWERED.format("fffffffb", 6) * 3 + OK],
-        [f"0000000e {HELLO} 00000002 {METRICS} 0000000a {DISCONNECT} 00000004 01 0a 01 6b"],
-        "0 Nothing number 1\n" + "-5 Frame\n" * 3 + "0 Nothing\n",
+        "connect\n1 hello\n1 metrics\n1 disconnect 18446744073709551615\n1 sessions -2:aabb:cc\n1 get 6b\n",
+        [ANSWERED.format("fffffffb", 6) * 4 + OK],
+        [f"0000000e {HELLO} 00000002 {METRICS} 0000000a {DISCONNECT} 0000000b {SESSIONS} 00000004 01 0a 01 6b"],
+        "0 Nothing number 1\n" + "-5 Frame\n" * 4 + "0 Nothing\n",
         "",
     ),
     ("an answer to a hello is cut", "connect\n1 hello\n", [GREETS[:-2]], [f"0000000e {HELLO}"], "0 Nothing number 1\n", "connection lost"),
@@ -420,6 +429,9 @@ MISTAKES = [
     ("1 disconnect 0", "session: 0"),
     ("1 disconnect x", "session: x"),
     ("1 disconnect 1 2", "too many words: 2"),
+    ("1 sessions", "XID: missing"),
+    ("1 sessions 1:AA:", "XID: 1:AA:"),
+    ("1 sessions 1:aa: 2", "too many words: 2"),
     ("1 open TMFOO n", "flags: TMFOO"),
     ("1 open TMNOFLAGS", "name: missing"),
     ("1 open TMNOFLAGS \u00e4", "name: \\xc3\\xa4"),

@@ -233,13 +233,22 @@ class _Reading:
             return Status(*(self.number(8) for _ in Status._fields))
         if kind == 8:
             return Hello(self.number(4), self.number(8))
+        if kind == 9:
+            numbers = [self.number(8) for _ in range(self.number(2))]
+            if len(numbers) % 2:
+                raise ValueError("an id without a count")
+            return dict(zip(numbers[::2], numbers[1::2]))
+        if kind == 10:
+            return [self.number(8) for _ in range(self.number(2))]
         raise ValueError("its kind")
 
 
 # The byte of each request, and the kinds of body that a success has, if not 0.
 _OPERATIONS = {name: number for number, name in enumerate("open close start end prepare commit rollback recover forget get".split(), 1)}
 _OPERATIONS.update(put=11, delete=12, decide=13, doom=14, restart=15, timeout=16, tick=17, trim=65, branches=66, status=67, hello=70, disconnect=71)
+_OPERATIONS.update(metrics=72, sessions=73)
 _BODIES = {"start": (1,), "get": (2, 3), "recover": (4,), "tick": (1,), "trim": (1,), "branches": (5,), "status": (6,), "hello": (8,)}
+_BODIES.update(metrics=(9,), sessions=(10,))
 
 
 def _detail(number: int, code: int) -> Detail:
@@ -682,6 +691,15 @@ class Connection:
         """Hangs up the session of this number, as if its connection had broken, also if its client is gone. XAER_INVAL: no connection has
         it; with detail Frame: the server disconnects none."""
         self._done("disconnect", session.to_bytes(8, "big"))
+
+    def sessions(self, name: Xid) -> List[int]:
+        """The numbers of the sessions that have an association of their own with a branch, active or suspended. XAER_INVAL with detail
+        Frame: the server lists none."""
+        return self._done("sessions", _spelled(name))
+
+    def metrics(self) -> Dict[int, int]:
+        """What the server has counted, by ids (docs/PROTOCOL.md). XAER_INVAL with detail Frame: it counts nothing."""
+        return self._done("metrics")
 
     def branches(self, count: int = _MOST_XIDS, above: Optional[Xid] = None) -> List[Branch]:
         """The first known branches, at most `count` (1 to 256), ascending, above an XID, known or not."""

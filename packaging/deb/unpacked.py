@@ -158,4 +158,5 @@ class Server:
         """What the service's stop comes to, and then its end."""
         stop = self.beside("ExecStop")
         printed, told = self.ran.communicate(timeout=20)
-        return stop, (self.ran.returncode, printed, told)
+        # by whichever port the stop came
+        return stop, (self.ran.returncode, printed, re.sub(r"127\.0\.0\.1:\d+: ", "PEER: ", told))

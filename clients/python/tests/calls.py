@@ -2,7 +2,7 @@
 
 import xarm
 from expect import equal, is_lost, is_no_value, name, raises, refuses, value, works
-from servers import Server
+from servers import Fake, Server, reply
 from xarm import Code, Detail, Flags, State
 
 MOST_KEYS = 256
@@ -38,6 +38,7 @@ def tests(program, room):
             calls.arguments,
             calls.unix_socket(program, room),
             calls.disconnected(program, room),
+            calls.counted,
         ):
             yield test.__doc__, test
 
@@ -373,6 +374,33 @@ class Calls:
                     two.disconnect(1 << 63)
 
         return test
+
+    @staticmethod
+    def counted():
+        """a server tells what it has counted, by ids, and the sessions of a branch"""
+        fake = Fake()
+        one = fake.connection()
+
+        def tells(kind, *numbers):
+            fake.put(reply(0, body=bytes([kind, 0, len(numbers)]) + b"".join(it.to_bytes(8, "big") for it in numbers)))
+
+        tells(9, 1, 7, 9, 1 << 40)
+        tells(9)
+        equal([one.metrics(), one.metrics()], [{1: 7, 9: 1 << 40}, {}])
+        tells(10, 1, 1 << 63)
+        tells(10)
+        equal([one.sessions(name("a")), one.sessions(name("a"))], [[1, 1 << 63], []])
+        fake.put(reply(-5, Detail.Frame))
+        with refuses(Code.XAER_INVAL, Detail.Frame):
+            one.sessions(name("a"))
+        tells(9, 1)  # an id without a count
+        with is_lost():
+            one.metrics()
+        tells(10, 1)  # no answer to this
+        with is_lost():
+            one.metrics()
+        equal(fake.asked, [72, 72, 73, 73, 73, 72, 72])
+        fake.close()
 
     @staticmethod
     def unix_socket(program, room):
