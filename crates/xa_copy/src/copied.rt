@@ -1,0 +1,12 @@
+/// What was copied.
+#[derive(Clone, Copy, Debug, PartialEq, Eq)]
+pub struct Copied {
+    /// How many records.
+    pub records: u64,
+    /// Where the next record would begin, in bytes.
+    pub end: u64,
+    /// The log's generation: the number in its first record, the boot's.
+    pub generation: usize,
+    /// Whether it was read from the first file.
+    pub on_first: bool,
+}
