@@ -11,5 +11,6 @@ pub mod HangingUp
 pub mod Held
 pub mod Leaving
 pub mod Moves
+pub mod OwnAny
 pub mod Reseats
 pub mod Scanning

@@ -1,5 +1,5 @@
 -- What contracts see of the sessions, by look-up.
-use Rattle.std.specs.Prelude.{ℕ, Bool, false, Option, Some, None, option_map, option_and_then, not, ◌&&◌, nat_lt, length}
+use Rattle.std.specs.Prelude.{ℕ, Bool, false, List, [], Option, Some, None, option_map, option_and_then, not, ◌&&◌, nat_lt, length}
 use Rattle.std.specs.BTreeMap.{get}
 use Rattle.std.specs.BTreeSet.{contains}
 use Rattle.std.specs.Ordering.{nat_cmp}
@@ -31,6 +31,14 @@ holds xid (Some x) = contains xid_cmp x.own xid
 -- whether the session has an association of its own with the XID
 abbrev pub owns_at : Sessions → ℕ → Triple → Bool
 owns_at m n xid = holds xid (seat_at m n)
+
+-- the XIDs of all associations of its own
+abbrev pub keys_in : Option Seat → List Triple
+keys_in None = []
+keys_in (Some x) = x.own.keys
+
+abbrev pub own_keys_at : Sessions → ℕ → List Triple
+own_keys_at m n = keys_in (seat_at m n)
 
 -- one that it isn't at work in
 abbrev pub suspends_at : Sessions → ℕ → Triple → Bool

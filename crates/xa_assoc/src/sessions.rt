@@ -1,13 +1,13 @@
-ghost use Rattle.std.specs.Prelude.{◌≡◌, [], is_some, option_copied};
+ghost use Rattle.std.specs.Prelude.{◌≡◌, [], IfNone, IfSome, is_some, option_copied};
 ghost use Rattle.xa_model.specs.State.{State, is_with};
 ghost use Rattle.xa_assoc.specs.Company.{company_of};
-ghost use Rattle.xa_assoc.specs.Seats.{connected_in, opened_at, active_at, owns_at, suspends_at, holds_any_at};
+ghost use Rattle.xa_assoc.specs.Seats.{connected_in, opened_at, active_at, owns_at, own_keys_at, suspends_at, holds_any_at};
 ghost use Rattle.xa_assoc.specs.Sessions.{SessionsStandFor};
 
 use crate::free::WORDS;
 use crate::seat::Seat;
 use std::alloc::Global;
-use std::collections::BTreeMap;
+use std::collections::{BTreeMap, BTreeSet};
 use xa_xid::Xid;
 
 /// The connected sessions by their numbers, and the numbers from 1 to `MOST_SESSIONS` that are free, a bit each.
@@ -70,6 +70,17 @@ impl Sessions {
         match self.seats.get(&session) {
             Some(seat) => seat.own.contains(xid),
             None => false,
+        }
+    }
+
+    /// The XIDs of all associations of the session's own, if it is connected.
+    pub fn own_of(&self, session: u64) -> Option<&BTreeSet<Xid>>
+        ensures some { IfSome result (λ own. own.now.keys ≡ own_keys_at self.now session) }
+        ensures none { IfNone result (own_keys_at self.now session ≡ []) }
+    {
+        match self.seats.get(&session) {
+            Some(seat) => Some(&seat.own),
+            None => None,
         }
     }
 

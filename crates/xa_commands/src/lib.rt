@@ -3,6 +3,7 @@
 //! - `playing`: `play`, a script from standard input is played
 //! - `scanning`: `scan`, the records of a log are printed; `scanning_fault`: `ScanningFault`, why they aren't
 //! - `checking`: `check`, it is told what a log's two files are; `checking_fault`: `CheckingFault`, why it isn't
+//! - `copying`: `copy`, a log whose server may run is copied; `copying_fault`: `CopyingFault`, why it isn't
 //! - `accepting`: `accept_damage`, what stands of a damaged log is made ready to be opened; `accepting_fault`:
 //!   `AcceptingFault`, why it isn't; `keeping`: copies of its files
 //! - `talking`: `talk`, a script goes to a server; `server`: `Server`, one at a `Reach`; `stream`: `Stream`, a connection to
@@ -18,6 +19,8 @@ mod accepting;
 mod accepting_fault;
 mod checking;
 mod checking_fault;
+mod copying;
+mod copying_fault;
 mod ending;
 mod errors;
 mod keeping;
@@ -37,6 +40,8 @@ pub use accepting::accept_damage;
 pub use accepting_fault::AcceptingFault;
 pub use checking::check;
 pub use checking_fault::CheckingFault;
+pub use copying::copy;
+pub use copying_fault::{CopyingFault, Side};
 pub use ending::{checked, ended, ended_at, operated, served, words_fault};
 pub use mistakes::Mistakes;
 pub use operating::{confirm, operate, show_script};

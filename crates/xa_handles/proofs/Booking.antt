@@ -8,7 +8,7 @@ use Rattle.xa_model.specs.State.{State}
 use Rattle.xa_model.specs.declared.event.Event.{Event}
 use Rattle.xa_history.specs.Believed.Book.{receipt_of}
 use Rattle.xa_history.specs.declared.entry.Entry.{Entry}
-use Rattle.xa_history.specs.declared.manages.Manages.{Ghosts}
+use Rattle.xa_history.specs.Believed.Manages.{Behaviour}
 use Rattle.xa_sequencer.specs.Believed.Numbers.{Adds}
 use Rattle.xa_sequencer.specs.Believed.Stands.{AllPromise, GoesOn, HasHistory, Numbered, Stands}
 use Rattle.xa_tokens.specs.Believed.Account.{Account, IsWithin}
@@ -16,7 +16,7 @@ use Rattle.xa_tokens.specs.declared.ask.Ask.{Ask}
 use Rattle.xa_tokens.specs.declared.receipt.Receipt.{Receipt}
 use Rattle.xa_tokens.specs.Believed.Receipts as tokens
 
-module _ {M : Type 0} (m : Ghosts M) (start : State → Type 0) (base : ℕ × ℕ) where
+module _ {M : Type 0} (m : Behaviour M) (start : State → Type 0) (base : ℕ × ℕ) where
   -- it goes on with entries, which the keeper has noted
   pub goes_on : (old new : Numbered M) (history history' : List Receipt) (entries : List Entry) (more : List Receipt)
       → GoesOn m start base old entries new → map receipt_of entries ≡ map shown more → history' ≡ history ++ more

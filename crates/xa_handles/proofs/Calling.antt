@@ -18,7 +18,7 @@ use Rattle.xa_model.specs.State.{State}
 use Rattle.xa_model.specs.declared.event.Event.{Event}
 use Rattle.xa_model.specs.declared.event.Event.TheVariants.{Connect, Hangup, Call}
 use Rattle.xa_history.specs.Believed.Book.{placed}
-use Rattle.xa_history.specs.declared.manages.Manages.{Ghosts}
+use Rattle.xa_history.specs.Believed.Manages.{Behaviour}
 use Rattle.xa_sequencer.specs.Believed.Numbers.{Adds, Called, Connected, Leaves, Left}
 use Rattle.xa_sequencer.specs.Believed.Stands.{HasHistory, Numbered}
 use Rattle.xa_tokens.specs.declared.ask.Ask.{Ask}
@@ -49,7 +49,7 @@ was_false : (A B : Type 0) (b : Bool) → b ≡ false → MatchBool b A B → B
 was_false A B false is h = h
 was_false A B true is h = absurd (cc is)
 
-module _ {M : Type 0} (m : Ghosts M) (start : State → Type 0) (base : ℕ × ℕ) where
+module _ {M : Type 0} (m : Behaviour M) (start : State → Type 0) (base : ℕ × ℕ) where
   -- ---- a connect
 
   pub connect_adds : (old new : Numbered M) (result : Result ℕ ConnectFault) (reply : Reply) → is_memory (connect_reply result).detail ≡ false

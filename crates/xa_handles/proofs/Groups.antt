@@ -10,7 +10,7 @@ use Rattle.xa_model.specs.declared.outcome.Outcome.TheVariants.{Joined}
 use Rattle.xa_history.specs.Believed.Book.{receipt_of}
 use Rattle.xa_history.specs.Believed.Together.{IsToldOf}
 use Rattle.xa_history.specs.declared.entry.Entry.{Entry}
-use Rattle.xa_history.specs.declared.manages.Manages.{Ghosts}
+use Rattle.xa_history.specs.Believed.Manages.{Behaviour}
 use Rattle.xa_sequencer.specs.Believed.Stands.{GoesOn, HasHistory, Numbered}
 use Rattle.xa_sequencer.specs.Believed.Together.{ArePlaced, CalledTogether, entries_for, entry_for}
 
@@ -18,7 +18,7 @@ pub all_within : (calls : List Asked) (rs : List (ℕ × Reply)) → AllByRecurs
 all_within calls [] told = tt
 all_within calls (r ∷ rs) told = (told.0.within, all_within calls rs told.1)
 
-module _ {M : Type 0} (m : Ghosts M) (start : State → Type 0) (base : ℕ × ℕ) where
+module _ {M : Type 0} (m : Behaviour M) (start : State → Type 0) (base : ℕ × ℕ) where
   -- it goes on with entries whose receipts are those of the replies
   pub record GoesOnBy (old new : Numbered M) (calls : List Asked) (replies : List (ℕ × Reply)) : Type 0 where
     pub entries : List Entry

@@ -7,14 +7,14 @@ use Rattle.xa_handles.specs.Believed.Standing.{shown}
 use Rattle.xa_manager.specs.declared.together.Asked.{Asked}
 use Rattle.xa_model.specs.State.{State}
 use Rattle.xa_history.specs.Believed.Together.{event_at}
-use Rattle.xa_history.specs.declared.manages.Manages.{Ghosts}
+use Rattle.xa_history.specs.Believed.Manages.{Behaviour}
 use Rattle.xa_history.specs.declared.receipt.Receipt as entry
 use Rattle.xa_tokens.specs.declared.ask.Ask.{Ask}
 use Rattle.xa_tokens.specs.declared.receipt.Receipt.{Receipt}
 use Rattle.xa_tokens.specs.Believed.Receipts.{ask_of, receipt_of}
 
 -- the call of a reply was answered like this, whatever its asker had been told before
-abbrev pub IsAnswerTo : {M : Type 0} → Ghosts M → (State → Type 0) → ℕ × ℕ → List Asked → ℕ × Reply → Type 0
+abbrev pub IsAnswerTo : {M : Type 0} → Behaviour M → (State → Type 0) → ℕ × ℕ → List Asked → ℕ × Reply → Type 0
 IsAnswerTo m start base calls r = (after : ℕ) → WasAnswered m start base (ask_of (event_at calls r.0) after) r.1
 
 -- the letter of a reply's call is there, and has no answer yet

@@ -5,7 +5,7 @@ ghost use Rattle.xa_handles.specs.Believed.Accounts.{Ends, Posts, asking, next_a
 ghost use Rattle.xa_handles.specs.{Believed.Standing.LeavesMail, Mail.IsCall, Mail.put_at};
 ghost use Rattle.xa_handles.specs.Believed.Shared.{CalledBy, ConnectedBy, DidCall, IsTold, LeftBy};
 ghost use Rattle.xa_model.specs.declared.event.Event.TheVariants as Event;
-ghost use Rattle.xa_sequencer.specs.{Associates.AssociatedBy, Associates.AttachedBy, Associates.EndedBy, Believed.GroupManager.pending_of};
+ghost use Rattle.xa_sequencer.specs.{Associates.AssociatedBy, Associates.AttachedBy, Associates.EndedBy, Associates.UnmarkedBy, Believed.GroupManager.pending_of};
 ghost use Rattle.xa_tokens.specs.{Believed.Account.Account, Believed.Account.Owes, Believed.Receipts.IsInOrder};
 
 use crate::asker::Asker;
@@ -20,10 +20,11 @@ use std::sync::Wait;
 use xa_assoc::ConnectFault;
 use xa_desk::Door;
 use xa_frame::{Reply, Request, Status};
-use xa_history::{Start, take};
+use xa_history::Start;
 use xa_model::Event;
-use xa_sequencer::GroupCommits;
+use xa_sequencer::Manages;
 use xa_tokens::{Answered, Ask, Book, Posted, Share};
+use xa_waits::take;
 use xa_xid::Xid;
 
 /// How many letters a handle has out at most, for which its tray has room: as many as sessions may be connected.
@@ -31,7 +32,7 @@ const ROOM: usize = 1_024;
 
 /// A thread's handle of a sequencer that it shares with others: a door, with the account of what was asked at it.
 #[derive(Drop)]
-pub struct Handle<'a, M: GroupCommits, S: Start, B: Book, R> {
+pub struct Handle<'a, M: Manages, S: Start, B: Book, R> {
     rt: &'a R,
     sequencer: &'a SharedSequencer<M, S, B>,
     /// What it counts of the groups whose sync it makes.
@@ -44,7 +45,7 @@ pub struct Handle<'a, M: GroupCommits, S: Start, B: Book, R> {
     pub ghost owes: { Owes asker owed },
 }
 
-impl<'a, M: GroupCommits, S: Start, B: Book, R: Clock + Wait> Handle<'a, M, S, B, R> {
+impl<'a, M: Manages, S: Start, B: Book, R: Clock + Wait> Handle<'a, M, S, B, R> {
     /// With a share with which nothing was asked yet.
     ///
     /// # Errors
@@ -74,14 +75,30 @@ impl<'a, M: GroupCommits, S: Start, B: Book, R: Clock + Wait> Handle<'a, M, S, B
         })
     }
 
-    /// Connects a session.
-    pub fn connect(&mut self) -> Result<u64, ConnectFault>
-        ensures { ConnectedBy M.manages S.start S.base self.old.asker result self.new.asker }
+    /// Connects a session. Tells how many events there were then: the place of this one, unless memory ran out.
+    pub fn connect(&mut self) -> (Result<u64, ConnectFault>, u64)
+        ensures { ConnectedBy M.manages S.start S.base self.old.asker result.0 self.new.asker }
     {
         let sequencer = self.sequencer;
-        sequencer
-            .take(self.rt)
-            .connect(&sequencer.tokens, &mut self.asker)
+        let mut locked = sequencer.take(self.rt);
+        let session = locked.connect(&sequencer.tokens, &mut self.asker);
+        (session, locked.count())
+    }
+
+    /// Hangs a session up, if it is connected, which it tells, and how many events there were then: if it was, the place of
+    /// this one.
+    pub fn hangup(&mut self, session: u64) -> (bool, u64)
+        ensures { LeftBy M.manages S.start S.base session self.old.asker result.0 self.new.asker }
+    {
+        let sequencer = self.sequencer;
+        let mut locked = sequencer.take(self.rt);
+        let left = locked.hangup(&sequencer.tokens, &mut self.asker, session);
+        let place = locked.count();
+        drop(locked);
+        match left {
+            Some(was_connected) => (was_connected, place),
+            None => hang_up_settled(self.rt, sequencer, &mut self.asker, session),
+        }
     }
 
     /// Takes the lock for several calls, with nothing of other threads in between. Other threads that ask wait until it is
@@ -275,6 +292,13 @@ impl<'a, M: GroupCommits, S: Start, B: Book, R: Clock + Wait> Handle<'a, M, S, B
         self.sequencer.take(self.rt).has_association(session)
     }
 
+    /// Whether a session has an association of its own with a branch that isn't marked; while the manager is down, with any.
+    pub fn has_unmarked(&self, session: u64) -> bool
+        ensures { UnmarkedBy M.manages S.start S.base session result }
+    {
+        self.sequencer.take(self.rt).has_unmarked(session)
+    }
+
     /// The sessions that have an association of their own with this branch, ascending.
     pub fn sessions_of(&self, alloc: Global, xid: &Xid) -> Result<Vec<u64>, AllocError>
         ensures { IfOk result (λ v. AttachedBy M.manages S.start S.base xid.now v.items) }
@@ -290,7 +314,7 @@ impl<'a, M: GroupCommits, S: Start, B: Book, R: Clock + Wait> Handle<'a, M, S, B
     }
 }
 
-impl<M: GroupCommits, S: Start, B: Book, R: Clock + Wait> Door for Handle<'_, M, S, B, R> {
+impl<M: Manages, S: Start, B: Book, R: Clock + Wait> Door for Handle<'_, M, S, B, R> {
     ghost use Rattle.std.specs.Prelude.{Bool};
     ghost use Rattle.xa_handles.specs.Believed.Shared.{AskedBy, LeftBy};
 
@@ -310,13 +334,7 @@ impl<M: GroupCommits, S: Start, B: Book, R: Clock + Wait> Door for Handle<'_, M,
     }
 
     fn hangup(&mut self, session: u64) {
-        let sequencer = self.sequencer;
-        let mut locked = sequencer.take(self.rt);
-        let left = locked.hangup(&sequencer.tokens, &mut self.asker, session);
-        drop(locked);
-        if left.is_none() {
-            let _was_connected = hang_up_settled(self.rt, sequencer, &mut self.asker, session);
-        }
+        let _left = self.hangup(session);
     }
 }
 
@@ -347,7 +365,7 @@ fn withdraw<B: Book>(asker: &mut Asker<'_, B>, posted: Posted<B>) -> Request
 }
 
 // Carries a call out, under the lock that was taken, which is returned, or once no group is pending.
-fn carry_out<'a, M: GroupCommits, S: Start, B: Book, R: Wait>(
+fn carry_out<'a, M: Manages, S: Start, B: Book, R: Wait>(
     rt: &R,
     sequencer: &'a SharedSequencer<M, S, B>,
     asker: &mut Asker<'_, B>,
@@ -369,26 +387,25 @@ fn carry_out<'a, M: GroupCommits, S: Start, B: Book, R: Wait>(
     }
 }
 
-// Hangs a session up that asks for a call of the pending group, once that is finished. Returns whether it was connected.
-fn hang_up_settled<M: GroupCommits, S: Start, B: Book, R: Wait>(
+// Hangs a session up that asks for a call of the pending group, once that is finished. Returns whether it was connected, and
+// how many events there were then.
+fn hang_up_settled<M: Manages, S: Start, B: Book, R: Wait>(
     rt: &R,
     sequencer: &SharedSequencer<M, S, B>,
     asker: &mut Asker<'_, B>,
     session: u64,
-) -> bool
-    ensures { LeftBy M.manages S.start S.base session asker.old result asker.new }
+) -> (bool, u64)
+    ensures { LeftBy M.manages S.start S.base session asker.old result.0 asker.new }
 {
-    let Some(was_connected) = sequencer
-        .take_settled(rt)
-        .hangup(&sequencer.tokens, asker, session)
-    else {
+    let mut locked = sequencer.take_settled(rt);
+    let Some(was_connected) = locked.hangup(&sequencer.tokens, asker, session) else {
         unreachable!()
     };
-    was_connected
+    (was_connected, locked.count())
 }
 
 // Carries a call out, once no group is pending.
-fn call_settled<M: GroupCommits, S: Start, B: Book, R: Wait>(
+fn call_settled<M: Manages, S: Start, B: Book, R: Wait>(
     rt: &R,
     sequencer: &SharedSequencer<M, S, B>,
     asker: &mut Asker<'_, B>,
@@ -409,7 +426,7 @@ fn call_settled<M: GroupCommits, S: Start, B: Book, R: Wait>(
 }
 
 /// Shows only the name, so that it never waits for the lock.
-impl<M: GroupCommits, S: Start, B: Book, R> fmt::Debug for Handle<'_, M, S, B, R> {
+impl<M: Manages, S: Start, B: Book, R> fmt::Debug for Handle<'_, M, S, B, R> {
     fn fmt<W: fmt::Write>(&self, f: &mut fmt::Formatter<W>) -> fmt::Result {
         f.debug_struct("Handle").finish_non_exhaustive()
     }

@@ -7,7 +7,7 @@ use std::marker::{Model, PhantomData};
 use xa_frame::{Reply, Request};
 use xa_history::Start;
 use xa_model::Event;
-use xa_sequencer::GroupCommits;
+use xa_sequencer::Manages;
 use xa_tokens::{Answered, Ask, Book, Keeper, Posted, Receipt, Tokens};
 
 /// What a letter brings.
@@ -22,14 +22,14 @@ pub enum Content<B: Book> {
 /// A call that a thread posted for whichever of them has the lock, or what it was answered. To a contract it is its
 /// owner, its ask, and its reply, once there is one.
 #[derive(Drop)]
-pub struct Letter<M: GroupCommits, S: Start, B: Book> {
+pub struct Letter<M: Manages, S: Start, B: Book> {
     tray: usize,
     place: usize,
     content: Content<B>,
     of: PhantomData<(M, S)>,
 }
 
-impl<M: GroupCommits, S: Start, B: Book> Model for Letter<M, S, B> {
+impl<M: Manages, S: Start, B: Book> Model for Letter<M, S, B> {
     ghost use Rattle.xa_handles.specs.{Mail.Mailed, Mail.mailed, Believed.Posted.IsLetter};
 
     ghost Value = { Mailed };
@@ -39,7 +39,7 @@ impl<M: GroupCommits, S: Start, B: Book> Model for Letter<M, S, B> {
     ghost invariant = { λ l. IsLetter M.manages S.start S.base (mailed l.tray l.place l.content) };
 }
 
-impl<M: GroupCommits, S: Start, B: Book> Letter<M, S, B> {
+impl<M: Manages, S: Start, B: Book> Letter<M, S, B> {
     /// Of the thread with this tray, which has asked it at this place.
     pub(crate) fn new(tray: usize, place: usize, content: Content<B>) -> Letter<M, S, B>
         requires { IsLetter M.manages S.start S.base (mailed tray place content) }

@@ -5,7 +5,7 @@ ghost use Rattle.xa_handles.specs.Believed.Accounts.{Ends};
 ghost use Rattle.xa_handles.specs.Mail.{IsCall, put_at};
 ghost use Rattle.xa_handles.specs.Believed.Shared.{ConnectedBy, DidCall, HoldsAt, IsTold, LeftBy};
 ghost use Rattle.xa_handles.specs.Believed.Standing.{HasBook, KeepsMail, LeavesMail, TellsMail};
-ghost use Rattle.xa_sequencer.specs.{Associates.AssociatedBy, Associates.AttachedBy, Associates.EndedBy, GroupCommits.AsksOne};
+ghost use Rattle.xa_sequencer.specs.{Associates.AssociatedBy, Associates.AttachedBy, Associates.EndedBy, Associates.UnmarkedBy, Manages.AsksOne};
 ghost use Rattle.xa_sequencer.specs.Believed.{GroupManager.pending_of, Stands.Stands};
 
 use crate::asker::Asker;
@@ -23,13 +23,13 @@ use xa_frame::{Reply, Status};
 use xa_history::{Start, is_memory, placed};
 use xa_manager::{Asked, connect_reply};
 use xa_model::Event;
-use xa_sequencer::{GroupCommits, Sequencer};
+use xa_sequencer::{Manages, Sequencer};
 use xa_tokens::{Ask, Book, Keeper, Posted, Share, Tokens};
 use xa_xid::Xid;
 
 /// What the lock protects: a sequencer, the keeper of its history, and the letters that were taken out of the mailbox.
 #[derive(Drop)]
-pub(crate) struct Locked<M: GroupCommits, S: Start, B: Book> {
+pub(crate) struct Locked<M: Manages, S: Start, B: Book> {
     sequencer: Sequencer<M, S>,
     keeper: Keeper<B>,
     /// While a group is pending, those of its calls, in their order.
@@ -40,7 +40,7 @@ pub(crate) struct Locked<M: GroupCommits, S: Start, B: Book> {
     alloc: Global,
 }
 
-impl<M: GroupCommits, S: Start, B: Book> Model for Locked<M, S, B> {
+impl<M: Manages, S: Start, B: Book> Model for Locked<M, S, B> {
     ghost use Rattle.xa_handles.specs.Mail.{FitPending};
     ghost use Rattle.xa_handles.specs.Believed.Standing.{HasBook, Standing};
     ghost use Rattle.xa_sequencer.specs.Believed.GroupManager.{GroupManager, pending_of};
@@ -53,7 +53,7 @@ impl<M: GroupCommits, S: Start, B: Book> Model for Locked<M, S, B> {
         × FitPending (pending_of l.sequencer.now) l.letters.items };
 }
 
-impl<M: GroupCommits, S: Start, B: Book> Locked<M, S, B> {
+impl<M: Manages, S: Start, B: Book> Locked<M, S, B> {
     pub(crate) fn new(
         alloc: Global,
         sequencer: Sequencer<M, S>,
@@ -308,6 +308,13 @@ impl<M: GroupCommits, S: Start, B: Book> Locked<M, S, B> {
         tokens.look(&mut self.keeper, share)
     }
 
+    /// How many events there were.
+    pub(crate) fn count(&self) -> u64
+        ensures { result ≡ self.now.at.count }
+    {
+        self.sequencer.count()
+    }
+
     pub(crate) fn status(&self) -> Status
         ensures { IsTold M.manages S.start S.base result }
     {
@@ -320,6 +327,13 @@ impl<M: GroupCommits, S: Start, B: Book> Locked<M, S, B> {
     {
         self.sequencer.promises();
         self.sequencer.has_association(session)
+    }
+
+    pub(crate) fn has_unmarked(&self, session: u64) -> bool
+        ensures { UnmarkedBy M.manages S.start S.base session result }
+    {
+        self.sequencer.promises();
+        self.sequencer.has_unmarked(session)
     }
 
     pub(crate) fn sessions_of(&self, alloc: Global, xid: &Xid) -> Result<Vec<u64>, AllocError>

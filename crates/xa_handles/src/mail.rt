@@ -14,11 +14,11 @@ use xa_frame::Reply;
 use xa_history::Start;
 use xa_manager::Asked;
 use xa_model::Event;
-use xa_sequencer::GroupCommits;
+use xa_sequencer::Manages;
 use xa_tokens::{Book, Keeper, Tokens};
 
 /// Copies the calls of letters. Returns whether it did: it doesn't if one of them has its answer, or there is no memory.
-pub(crate) fn copy_calls<M: GroupCommits, S: Start, B: Book>(
+pub(crate) fn copy_calls<M: Manages, S: Start, B: Book>(
     letters: &[Option<Letter<M, S, B>>],
     calls: &mut Vec<Asked>,
     alloc: Global,
@@ -50,7 +50,7 @@ fn push(calls: &mut Vec<Asked>, call: Asked) -> bool
 }
 
 // A copy of a letter's call, if it has no answer, and there is memory.
-fn call_of<M: GroupCommits, S: Start, B: Book>(
+fn call_of<M: Manages, S: Start, B: Book>(
     letter: &Option<Letter<M, S, B>>,
     alloc: Global,
 ) -> Option<Asked>
@@ -74,7 +74,7 @@ fn call_of<M: GroupCommits, S: Start, B: Book>(
 
 /// Answers the calls of a group, in the order of their replies, each of which comes with its call's place. They are the
 /// history's next entries. Takes no memory.
-pub(crate) fn answer_all<M: GroupCommits, S: Start, B: Book>(
+pub(crate) fn answer_all<M: Manages, S: Start, B: Book>(
     tokens: &Tokens<B>,
     keeper: &mut Keeper<B>,
     letters: &mut Vec<Option<Letter<M, S, B>>>,
@@ -93,7 +93,7 @@ pub(crate) fn answer_all<M: GroupCommits, S: Start, B: Book>(
 }
 
 // Answers one of them.
-fn answer_at<M: GroupCommits, S: Start, B: Book>(
+fn answer_at<M: Manages, S: Start, B: Book>(
     tokens: &Tokens<B>,
     keeper: &mut Keeper<B>,
     letters: &mut Vec<Option<Letter<M, S, B>>>,
@@ -114,7 +114,7 @@ fn answer_at<M: GroupCommits, S: Start, B: Book>(
 }
 
 /// Puts letters into their trays, the last one first, as long as there is memory.
-pub(crate) fn put_all<M: GroupCommits, S: Start, B: Book>(
+pub(crate) fn put_all<M: Manages, S: Start, B: Book>(
     letters: &mut Vec<Option<Letter<M, S, B>>>,
     trays: &mut Trays<M, S, B>,
 )

@@ -16,20 +16,15 @@ use std::sync::{Condvar, Mutex, MutexGuard, Wait};
 use std::thread::yield_now;
 use std::time::{Duration, Instant};
 use xa_disk::Syncer;
-use xa_history::{Start, take};
-use xa_sequencer::{GroupCommits, Sequencer};
+use xa_history::Start;
+use xa_sequencer::{Manages, Sequencer};
 use xa_tokens::{Book, Opened, Share, Tokens};
-
-/// How often a thread that waits for the pending group lets others run before it sleeps.
-const MOST_TRIES: u32 = 10_000;
-
-/// How long it sleeps at most, in milliseconds.
-const REST: u64 = 100;
+use xa_waits::{MOST_TRIES, REST, take};
 
 /// A sequencer behind a lock, which many threads share. What it carries out was asked for by a share, once, and is told
 /// to that share or another, once: the shares together have the history.
 #[derive(Drop)]
-pub struct SharedSequencer<M: GroupCommits, S: Start, B: Book> {
+pub struct SharedSequencer<M: Manages, S: Start, B: Book> {
     pub(crate) tokens: Tokens<B>,
     lock: Mutex<Locked<M, S, B>>,
     /// Calls that wait for whichever thread has the lock.
@@ -42,7 +37,7 @@ pub struct SharedSequencer<M: GroupCommits, S: Start, B: Book> {
     answered: Condvar,
 }
 
-impl<M: GroupCommits, S: Start, B: Book> SharedSequencer<M, S, B> {
+impl<M: Manages, S: Start, B: Book> SharedSequencer<M, S, B> {
     /// Shares a sequencer with an empty history, which was opened. The share has every part.
     pub fn new(
         alloc: Global,
@@ -225,7 +220,7 @@ fn micros_since<R: Clock>(rt: &R, began: Option<Instant>) -> u64 {
 }
 
 /// Shows only the name, so that it never waits for the lock.
-impl<M: GroupCommits, S: Start, B: Book> fmt::Debug for SharedSequencer<M, S, B> {
+impl<M: Manages, S: Start, B: Book> fmt::Debug for SharedSequencer<M, S, B> {
     fn fmt<W: fmt::Write>(&self, f: &mut fmt::Formatter<W>) -> fmt::Result {
         f.debug_struct("SharedSequencer").finish_non_exhaustive()
     }

@@ -5,16 +5,16 @@ use crate::letter::Letter;
 use std::alloc::{AllocError, Global};
 use std::marker::Model;
 use xa_history::Start;
-use xa_sequencer::GroupCommits;
+use xa_sequencer::Manages;
 use xa_tokens::Book;
 
 /// A tray for each thread that posts calls, with the letters that came back to it. To a contract it is these.
 #[derive(Drop)]
-pub(crate) struct Trays<M: GroupCommits, S: Start, B: Book> {
+pub(crate) struct Trays<M: Manages, S: Start, B: Book> {
     all: Vec<Vec<Letter<M, S, B>>>,
 }
 
-impl<M: GroupCommits, S: Start, B: Book> Model for Trays<M, S, B> {
+impl<M: Manages, S: Start, B: Book> Model for Trays<M, S, B> {
     ghost use Rattle.std.specs.Prelude.{List, map};
     ghost use Rattle.xa_handles.specs.Mail.{Mailed};
 
@@ -23,7 +23,7 @@ impl<M: GroupCommits, S: Start, B: Book> Model for Trays<M, S, B> {
     ghost view = { λ t. map (λ v. v.items) t.all.items };
 }
 
-impl<M: GroupCommits, S: Start, B: Book> Trays<M, S, B> {
+impl<M: Manages, S: Start, B: Book> Trays<M, S, B> {
     pub(crate) fn new(alloc: Global) -> Trays<M, S, B>
         ensures { result ≡ [] }
     {
@@ -71,7 +71,7 @@ impl<M: GroupCommits, S: Start, B: Book> Trays<M, S, B> {
     }
 }
 
-fn push_to<M: GroupCommits, S: Start, B: Book>(
+fn push_to<M: Manages, S: Start, B: Book>(
     tray: &mut Vec<Letter<M, S, B>>,
     letter: Letter<M, S, B>,
 ) -> Result<(), Letter<M, S, B>>
@@ -85,7 +85,7 @@ fn push_to<M: GroupCommits, S: Start, B: Book>(
     Ok(())
 }
 
-fn pop_from<M: GroupCommits, S: Start, B: Book>(
+fn pop_from<M: Manages, S: Start, B: Book>(
     tray: &mut Vec<Letter<M, S, B>>,
 ) -> Option<Letter<M, S, B>>
     ensures { MatchOption result (tray.new.items ≡ tray.old.items) (λ letter. tray.old.items ≡ tray.new.items ++ letter ∷ []) }

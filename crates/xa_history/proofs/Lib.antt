@@ -1,3 +1,2 @@
 pub mod Longer
-pub mod Managing
 pub mod Together

@@ -17,9 +17,8 @@ use Rattle.xa_model.specs.Events.{HaveHappened, IsEvent, is_restart}
 use Rattle.xa_model.specs.declared.outcome.Appending.{Appending}
 use Rattle.xa_model.specs.History.{Leads, HasGroups, JoinAfter, append_in, joins}
 use Rattle.xa_history.specs.declared.entry.Entry.{Entry}
-use Rattle.xa_history.specs.declared.manages.Manages.{Ghosts}
 use Rattle.xa_history.specs.Believed.Book.{AreNumbered, HasNoRestart, entry_of, plain_entries, unplaced}
-use Rattle.xa_history.specs.Believed.Manages.{Acts, Counts, StepsTo}
+use Rattle.xa_history.specs.Believed.Manages.{Acts, Behaviour, Counts, StepsTo}
 use Rattle.xa_history.specs.Believed.Upholds.{Upholds}
 
 pub not_memory : (A B : Type 0) (b : Bool) → b ≡ false → MatchBool b A B → B
@@ -77,7 +76,7 @@ rises_twice m n a b c p q = λ first second.
     (earlier.0, earlier.1, omega (arith, earlier.2, later.2))
 
 -- a step more keeps what is upheld
-kept_step : {M : Type 0} (m : Ghosts M) (start : State → Type 0) (base : ℕ × ℕ) (now then : M) (es : List Entry) (cap cap' : ℕ) (e : Entry)
+kept_step : {M : Type 0} (m : Behaviour M) (start : State → Type 0) (base : ℕ × ℕ) (now then : M) (es : List Entry) (cap cap' : ℕ) (e : Entry)
     → Upholds m start base now es cap
     → StepsTo m.stands m.trusts now e.event e.outcome (unplaced e.reply) then
     → Counts m.stands m.trusts m.failures now e.event e.outcome then
@@ -102,10 +101,10 @@ kept_step m start base now then es cap cap' e kept steps counts event p q room =
 }
 
 -- an event that noted its entry keeps it
-pub kept_noted : {M : Type 0} (m : Ghosts M) (start : State → Type 0) (base : ℕ × ℕ) (now then : M) (es es0 es' : List Entry) (cap cap' : ℕ)
+pub kept_noted : {M : Type 0} (m : Behaviour M) (start : State → Type 0) (base : ℕ × ℕ) (now then : M) (es es0 es' : List Entry) (cap cap' : ℕ)
     (event : Event) (outcome : Outcome) (reply : Reply)
     → Upholds m start base now es cap
-    → Acts m.stands m.trusts m.told m.has_called m.crashes m.failures now event reply then
+    → Acts m now event reply then
     → is_memory reply.detail ≡ false → reply.place ≡ 0 → IsEvent event → outcome ≡ m.told then
     → es0 ≡ es → es' ≡ es0 ++ entry_of (length es0 + 1) event outcome reply ∷ [] → length es + 1 + m.sessions then ≤ cap'
     → Upholds m start base then es' cap'

@@ -18,3 +18,4 @@ pub mod Rows
 pub mod Plans
 pub mod GroupAnswers
 pub mod Once
+pub mod Unmarked

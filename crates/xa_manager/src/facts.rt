@@ -4,9 +4,10 @@ ghost use Rattle.xa_model.specs.State.{known_as, is_loose_with};
 ghost use Rattle.xa_model.specs.Associations.{is_unknown, is_lasting, is_taken, mark_in};
 ghost use Rattle.xa_assoc.specs.Sessions.{resume_refusal_of, leave_refusal_of};
 ghost use Rattle.xa_branch.specs.Kinds.{resumed_kind, ended_kind};
-ghost use Rattle.xa_manager.specs.{View.view_of, View.own_at, Tables.TablesSay};
+ghost use Rattle.xa_manager.specs.{View.view_of, View.own_at, Tables.TablesSay, Unmarked.is_of_unmarked, Unmarked.is_unmarked};
 
 use crate::tables::Tables;
+use std::collections::BTreeSet;
 use xa_branch::{Kind, Known, Working};
 use xa_codes::Code;
 use xa_xid::Xid;
@@ -51,6 +52,28 @@ impl Tables {
             Known::AtWork(mark) => mark,
             Known::Unknown | Known::InDoubt | Known::Completed(_) => None,
         }
+    }
+
+    /// Whether the session has an association of its own with a branch that isn't marked.
+    pub fn has_unmarked(&self, session: u64) -> bool
+        ensures { TablesSay self.now (λ s. list_any (is_of_unmarked session s) s.associations ≡ result) }
+    {
+        match self.sessions.own_of(session) {
+            Some(own) => self.is_any_unmarked(own),
+            None => false,
+        }
+    }
+
+    // Whether any of these branches isn't marked.
+    fn is_any_unmarked(&self, own: &BTreeSet<Xid>) -> bool
+        ensures { TablesSay self.now (λ s. list_any (is_unmarked s) own.now.keys ≡ result) }
+    {
+        for xid in own {
+            if self.mark_of(xid).is_none() {
+                return true;
+            }
+        }
+        false
     }
 
     /// Whether the branch has a loose association.

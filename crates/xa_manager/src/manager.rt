@@ -8,7 +8,7 @@ ghost use Rattle.xa_manager.specs.Believed.Answered.{FullyAnswered, AnswersAll, 
 ghost use Rattle.xa_assoc.specs.Company.{Gains, Loses};
 ghost use Rattle.xa_manager.specs.{Drained.HasGivenBack, Connected.connected_to};
 ghost use Rattle.xa_manager.specs.{Believed.Promises.PromisesAll, Believed.Counted.CountsAll, Believed.Parts.log_of};
-ghost use Rattle.xa_manager.specs.{Believed.Parts.outcome_of, Believed.Pending.IsPending, Status.versions_of};
+ghost use Rattle.xa_manager.specs.{Believed.Parts.outcome_of, Believed.Pending.IsPending, Status.versions_of, Unmarked.has_unmarked};
 ghost use Rattle.xa_manager.specs.declared.pending.PendingGroup.{PendingGroup};
 ghost use Rattle.xa_frame.specs.Limits.{IsReply};
 
@@ -126,6 +126,19 @@ impl<D: Disk> Manager<D> {
             → result ≡ list_any (is_of_session session) s.associations }
     {
         self.tables.sessions.holds_any(session)
+    }
+
+    /// Whether a session has an association of its own with a branch that isn't marked, and so may still commit. While the
+    /// manager is down no mark counts.
+    pub fn has_unmarked(&self, session: u64) -> bool
+        ensures alone { (s : State) → ManagerStandsFor D.Disk self.now s → result ≡ has_unmarked session s }
+        ensures beside { (f : PendingGroup) (s : State) → IsPending D.Disk self.now f s → result ≡ has_unmarked session s }
+    {
+        if self.up {
+            self.tables.has_unmarked(session)
+        } else {
+            self.tables.sessions.holds_any(session)
+        }
     }
 
     /// Whether a session has an association of its own with this branch.

@@ -4,7 +4,6 @@ pub mod Timing
 pub mod Since
 pub mod Admission
 pub mod Accepting
-pub mod Patience
 pub mod Trims
 pub mod Visited
 pub mod Aside

@@ -6,7 +6,7 @@ use Rattle.xa_connection.specs.Calls.{Feeds}
 use Rattle.xa_connection.specs.Fronts.{IsInsideFrame}
 use Rattle.xa_reactor.specs.declared.common.Settings.{Settings}
 use Rattle.xa_reactor.specs.declared.peer.Peer.{Peer}
-use Rattle.xa_reactor.specs.Timing.{IsToEnd}
+use Rattle.xa_reactor.specs.Timing.{IsToEnd, Ties}
 
 -- no byte came or went, and it is quiet since when it was
 abbrev pub IsStill : Connection → ℕ → Connection → ℕ → Type 0
@@ -36,23 +36,23 @@ OwesFrame c = IsInsideFrame c.input × (c.output ≡ [])
 
 -- The connection was looked at at this time: it has ended where it was to end, by how long it has been quiet, and is left
 -- where it wasn't.
-abbrev pub WasLooked : (ℕ → Bool → Type 0) → Settings → ℕ → Peer → Bool → Type 0
-WasLooked associates settings now p ends =
+abbrev pub WasLooked : (ℕ → Ties) → Settings → ℕ → Peer → Bool → Type 0
+WasLooked ties settings now p ends =
     (is_inside : Bool) × (IsTrue is_inside ↔ OwesFrame p.connection)
-    × IsToEnd (associates p.session) is_inside (now - p.since) settings ends
+    × IsToEnd (ties p.session) is_inside (now - p.since) settings ends
 
 -- so was the one under a key, if there is one, and no other one
-abbrev pub Looks : (ℕ → Bool → Type 0) → Settings → ℕ → ℕ → Slab Peer → Slab Peer → Type 0
-Looks associates settings now key old new =
+abbrev pub Looks : (ℕ → Ties) → Settings → ℕ → ℕ → Slab Peer → Slab Peer → Type 0
+Looks ties settings now key old new =
     MatchOption (get old key) (new ≡ old)
-    (λ p. (ends : Bool) × WasLooked associates settings now p ends × MatchBool ends (Updates old new key None) (new ≡ old))
+    (λ p. (ends : Bool) × WasLooked ties settings now p ends × MatchBool ends (Updates old new key None) (new ≡ old))
 
 -- by what is answered at some door, before and after
-abbrev pub IsLooked : {D : Type 0} → (D → ℕ → Bool → Type 0) → Settings → ℕ → Option Peer → Option Peer → Type 0
-IsLooked associates settings now None after = after ≡ None
-IsLooked {D} associates settings now (Some p) after =
-    (d : D) × (ends : Bool) × WasLooked (associates d) settings now p ends × MatchBool ends (after ≡ None) (after ≡ Some p)
+abbrev pub IsLooked : {D : Type 0} → (D → ℕ → Ties) → Settings → ℕ → Option Peer → Option Peer → Type 0
+IsLooked ties settings now None after = after ≡ None
+IsLooked {D} ties settings now (Some p) after =
+    (d : D) × (ends : Bool) × WasLooked (ties d) settings now p ends × MatchBool ends (after ≡ None) (after ≡ Some p)
 
 -- so was each connection
-abbrev pub LooksAll : {D : Type 0} → (D → ℕ → Bool → Type 0) → Settings → ℕ → Slab Peer → Slab Peer → Type 0
-LooksAll associates settings now old new = (key : ℕ) → IsLooked associates settings now (get old key) (get new key)
+abbrev pub LooksAll : {D : Type 0} → (D → ℕ → Ties) → Settings → ℕ → Slab Peer → Slab Peer → Type 0
+LooksAll ties settings now old new = (key : ℕ) → IsLooked ties settings now (get old key) (get new key)

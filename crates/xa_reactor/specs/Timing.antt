@@ -1,5 +1,5 @@
 -- The times of a loop, in milliseconds.
-use Rattle.std.specs.Prelude.{ℕ, ◌≡◌, ◌⊎◌, ◌+◌, ◌-◌, ◌*◌, ◌/◌, ◌^◌, max, min, Bool, true, false, ◌&&◌, nat_lt, nat_le, Option, Some, None, if◌then◌else◌}
+use Rattle.std.specs.Prelude.{ℕ, ◌≡◌, ◌⊎◌, ◌+◌, ◌-◌, ◌*◌, ◌/◌, ◌^◌, max, min, Bool, true, false, not, ◌&&◌, nat_lt, nat_le, Option, Some, None, if◌then◌else◌}
 use Rattle.xa_reactor.specs.declared.clock.LoopClock.{LoopClock}
 use Rattle.xa_reactor.specs.declared.common.Settings.{Settings}
 use Rattle.xa_reactor.specs.declared.timing.TheConstants.{PAUSE, LOOK}
@@ -24,19 +24,27 @@ is_too_quiet quiet seconds = nat_lt 0 seconds && nat_le (1000 * seconds) quiet
 abbrev pub is_overdue : Bool → ℕ → ℕ → Bool
 is_overdue is_inside quiet seconds = is_inside && is_too_quiet quiet seconds
 
--- whether a connection was quiet for too long, by whether its session has an association
-abbrev pub is_vanished : Bool → ℕ → Settings → Bool
-is_vanished true quiet settings = is_too_quiet quiet settings.branch_seconds
-is_vanished false quiet settings = is_too_quiet quiet settings.idle_seconds
+-- What may be answered of a session: whether it has an association of its own, and whether one of these is with a branch
+-- that isn't marked.
+pub record Ties : Type 1 where
+  pub associated : Bool → Type 0
+  pub unmarked : Bool → Type 0
 
--- By what is answered of whether a session has an association: its connection is to end where it is overdue inside a
--- frame, or was quiet for too long, whatever would be answered or by what is.
-pub record IsToEnd (associates : Bool → Type 0) (is_inside : Bool) (quiet : ℕ) (settings : Settings) (ends : Bool)
-    : Type 0 where
+-- Whether a connection was quiet for too long, by whether it was for an idle session, and for one at work: where only the
+-- second limit has passed it ends if it has an association; where only the first has, unless it has one with an unmarked
+-- branch.
+abbrev pub HasVanished : Ties → Bool → Bool → Bool → Type 0
+HasVanished ties true true ends = ends ≡ true
+HasVanished ties false false ends = ends ≡ false
+HasVanished ties false true ends = ties.associated ends
+HasVanished ties true false ends = (unmarked : Bool) × ties.unmarked unmarked × (ends ≡ not unmarked)
+
+-- By what is answered of its session: a connection is to end where it is overdue inside a frame, or was quiet for too
+-- long.
+pub record IsToEnd (ties : Ties) (is_inside : Bool) (quiet : ℕ) (settings : Settings) (ends : Bool) : Type 0 where
   pub overdue : is_overdue is_inside quiet settings.frame_seconds ≡ true → ends ≡ true
   pub vanished : is_overdue is_inside quiet settings.frame_seconds ≡ false
-      → ((has : Bool) → ends ≡ is_vanished has quiet settings)
-      ⊎ ((has : Bool) × associates has × (ends ≡ is_vanished has quiet settings))
+      → HasVanished ties (is_too_quiet quiet settings.idle_seconds) (is_too_quiet quiet settings.branch_seconds) ends
 
 -- 40 looks of one connection, and fewer of more
 abbrev pub looks_of : ℕ → ℕ

@@ -1,6 +1,7 @@
 -- What a round has lent.
-use Rattle.std.specs.Prelude.{ℕ, ◌≡◌, ◌+◌, ◌≤◌, Bool, ◌&&◌, ◌||◌, nat_le, nat_lt, All, List, [], ◌∷◌, ◌++◌, length}
+use Rattle.std.specs.Prelude.{ℕ, ◌≡◌, ◌+◌, ◌≤◌, Bool, ◌&&◌, ◌||◌, nat_le, nat_lt, All, List, [], ◌∷◌, ◌++◌, Vec, length}
 use Rattle.std.specs.Vec.{vec_capacity, vec_len}
+use Rattle.std.specs.declared.alloc.Global.{Global}
 use Rattle.std.specs.VecDeque.{deque_len}
 use Rattle.xa_reactor.specs.Asking.{IsLent}
 use Rattle.xa_reactor.specs.Believed.Tending.{Table, sessions_of}
@@ -8,6 +9,10 @@ use Rattle.xa_reactor.specs.Peers.{GoesOn, turns_of}
 use Rattle.xa_reactor.specs.declared.peer.Step.{Step}
 use Rattle.xa_reactor.specs.declared.peers.Peers.{Peers}
 use Rattle.xa_reactor.specs.declared.together.Together.{Together}
+
+-- it has room for the items of the other behind its own
+abbrev pub HasRoomFor : {A B : Type 0} → Vec A Global → Vec B Global → Type 0
+HasRoomFor v more = vec_len v + vec_len more ≤ vec_capacity v
 
 -- the requests that were brought in are of connections that are lent, and there is room for what comes after their turns
 pub record HasLent (table : Table) (t : Together) : Type 0 where

@@ -65,7 +65,7 @@ pub(crate) fn look<D: Reception>(
     is_look: bool,
 )
     ensures tends { Tends D.connected D.called D.left (sessions_of peers.old.all) door.old (sessions_of peers.new.all) door.new }
-    ensures looks { is_look ≡ true → LooksAll D.associates common.now.settings now peers.old.all peers.new.all }
+    ensures looks { is_look ≡ true → LooksAll D.ties common.now.settings now peers.old.all peers.new.all }
     ensures none { is_look ≡ false → peers.new ≡ peers.old }
 {
     if is_look {

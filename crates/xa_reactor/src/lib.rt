@@ -10,7 +10,7 @@
 //! - `ask`: a request that a connection brought in; `together`: the turns of a round, with one call at the door for all
 //!   requests that wait for no device, whose replies are sent then, and another for the rest, which are posted before
 //! - `tending`: a loop, round by round (`round`, `timing`, `clock`, `tools`): while another loop holds up its answers, it
-//!   takes in more requests, and for a while before it waits for a device (`patience`); `beside`: what it does between
+//!   takes in more requests, and for a while before it waits for a device; `beside`: what it does between
 //!   rounds; `noticing`: what events tell it; `acceptor`: the one that accepts, `admission`: whom; `common`: what the loops
 //!   share, with a `mailbox` for each
 //! - `noted`: an operator's order, which is told of once it is answered; `allowance`: how many lines a loop may tell of them
@@ -37,7 +37,6 @@ mod mailbox;
 mod noted;
 mod noticing;
 mod orders;
-mod patience;
 mod peer;
 mod peers;
 mod reception;

@@ -273,7 +273,7 @@ impl Peers {
     /// Ends those that are overdue inside a frame, and those that were quiet for too long, by whether they have an association.
     pub(crate) fn end_overdue<D: Reception>(&mut self, door: &mut D, now: u64, settings: &Settings)
         ensures tends { Tends D.connected D.called D.left (sessions_of self.old.all) door.old (sessions_of self.new.all) door.new }
-        ensures looks { LooksAll D.associates settings.now now self.old.all self.new.all }
+        ensures looks { LooksAll D.ties settings.now now self.old.all self.new.all }
         ensures turns { (self.new.queue ≡ self.old.queue) × (self.new.orders ≡ self.old.orders) }
     {
         for key in 0..self.all.capacity() {
@@ -368,7 +368,7 @@ fn end_if_overdue<D: Reception>(
     settings: &Settings,
 )
     ensures tends { Tends D.connected D.called D.left (sessions_of all.old) door.old (sessions_of all.new) door.new }
-    ensures looks { Looks (D.associates door.old) settings.now now key all.old all.new }
+    ensures looks { Looks (D.ties door.old) settings.now now key all.old all.new }
 {
     let ends = match all.get(key) {
         Some(peer) => is_to_end(

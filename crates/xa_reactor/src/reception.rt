@@ -10,14 +10,15 @@ pub trait Reception: Door {
     ghost use Rattle.std.specs.Prelude.{ℕ, ◌≡◌, ◌⊎◌, All, Bool, IfOk, IsSomeAnd, List, Result};
     ghost use Rattle.xa_assoc.specs.declared.fault.ConnectFault.{ConnectFault};
     ghost use Rattle.xa_frame.specs.declared.request.Request.{Request};
-    ghost use Rattle.xa_reactor.specs.{Asking.HasRequest, Asking.TellsAll, Asking.TellsSome, Reception.IsPosted, Reception.KeepsSettled};
+    ghost use Rattle.xa_reactor.specs.{Asking.HasRequest, Asking.TellsAll, Asking.TellsSome, Reception.IsPosted, Reception.KeepsSettled, Timing.Ties};
     ghost use Rattle.xa_xid.specs.Triple.{Triple};
 
     /// A connect took it from one to the other, with this result.
     ghost connected: { Self → Result ℕ ConnectFault → Self → Type 0 };
 
-    /// It was asked whether this session has an association with a branch, and this was answered.
-    ghost associates: { Self → ℕ → Bool → Type 0 };
+    /// It was asked whether this session has an association with a branch, or with one that isn't marked, and what was
+    /// answered.
+    ghost ties: { Self → ℕ → Ties };
 
     /// It was asked which sessions have an association of their own with this branch, and these were answered.
     ghost attached: { Self → Triple → List ℕ → Type 0 };
@@ -81,7 +82,11 @@ pub trait Reception: Door {
 
     /// Whether a session has an association of its own with a branch: it is at work for it, or has suspended that.
     fn has_association(&self, session: u64) -> bool
-        ensures { associates self.now session result };
+        ensures { (ties self.now session).associated result };
+
+    /// Whether one of these is with a branch that isn't marked.
+    fn has_unmarked(&self, session: u64) -> bool
+        ensures { (ties self.now session).unmarked result };
 
     /// The sessions that have an association of their own with this branch, ascending.
     fn sessions_of(&self, alloc: Global, xid: &Xid) -> Result<Vec<u64>, AllocError>

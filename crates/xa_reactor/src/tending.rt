@@ -17,7 +17,7 @@ use crate::reception::Reception;
 use crate::round::Round;
 use crate::socket::Socket;
 use crate::ticking::keep_time;
-use crate::timing::{FEW_EVENTS, GATHERS, MORE_TURNS, gather_wait, looks_of};
+use crate::timing::{gather_wait, looks_of};
 use crate::tools::{Tools, give_each};
 use crate::trimming::{begin_trims, keep_short};
 use mio::{Events, Poll};
@@ -26,6 +26,7 @@ use std::rt::Clock;
 use std::sync::Wait;
 use std::thread::yield_now;
 use std::time::Duration;
+use xa_waits::{FEW_EVENTS, GATHERS, MORE_TURNS};
 
 /// How many events one wait gives at most.
 const MOST_EVENTS: usize = 256;

@@ -6,32 +6,13 @@ ghost use Rattle.xa_reactor.specs.Timing.{IsToEnd, gather_nanos, is_overdue, is_
 use crate::common::Settings;
 use crate::reception::Reception;
 use std::time::Duration;
+use xa_waits::{LOOKS, QUICK_GATHERS};
 
 /// For how long accepting pauses where an accept failed.
 pub(crate) const PAUSE: u64 = 100;
 
 /// How long it is from one look for connections that are overdue to the next.
 pub(crate) const LOOK: u64 = 1_000;
-
-/// How often a loop with one connection looks for events before it sleeps until one comes, and after how many events at most
-/// it does so.
-const LOOKS: usize = 40;
-
-pub(crate) const FEW_EVENTS: usize = 4;
-
-/// How often at most a loop looks for events while another holds up its answers: for about a minute.
-pub(crate) const GATHERS: u32 = 61_000;
-
-/// How often of these it waits for none.
-const QUICK_GATHERS: u32 = 1_000;
-
-/// How often at most a loop gives more turns to those that have more to do before it answers those that may wait for a device:
-/// a client that sends requests without end doesn't hold these up.
-pub(crate) const MORE_TURNS: u32 = 64;
-
-/// How many connections a loop has at least that looks for more requests before it answers those that may wait for a
-/// device.
-pub(crate) const COMPANY: usize = 3;
 
 /// How often a loop with so many connections looks: the more they are, the sooner one of them wakes it, and the more others
 /// want the processor.
@@ -79,7 +60,8 @@ pub(crate) fn wait_of(has_turn: bool, pauses: bool, has_connections: bool) -> Op
     }
 }
 
-/// Whether the connection of a session is to end, by whether it is inside a frame, and for how long it was quiet.
+/// Whether the connection of a session is to end, by whether it is inside a frame, and for how long it was quiet. A session
+/// all of whose branches are marked counts as idle.
 pub(crate) fn is_to_end<D: Reception>(
     door: &D,
     session: u64,
@@ -87,7 +69,7 @@ pub(crate) fn is_to_end<D: Reception>(
     quiet: u64,
     settings: &Settings,
 ) -> bool
-    ensures { IsToEnd (D.associates door.now session) is_inside quiet settings.now result }
+    ensures { IsToEnd (D.ties door.now session) is_inside quiet settings.now result }
 {
     if is_overdue(is_inside, quiet, settings.frame_seconds) {
         return true;
@@ -97,9 +79,9 @@ pub(crate) fn is_to_end<D: Reception>(
     if ends_idle == ends_busy {
         return ends_idle;
     }
-    if door.has_association(session) {
-        ends_busy
+    if ends_busy {
+        door.has_association(session)
     } else {
-        ends_idle
+        !door.has_unmarked(session)
     }
 }

@@ -3,7 +3,7 @@ ghost use Rattle.std.specs.Prelude.{ℕ, ◌≡◌, ◌⊎◌, ◌+◌, ◌++◌
 ghost use Rattle.std.specs.{Vec.vec_capacity, Vec.vec_len, VecDeque.deque_len};
 ghost use Rattle.xa_reactor.specs.Asking.{IsAnswered, IsLeft, IsLent, IsOpen, MayBeTold, PutsAll, PutsIf, TurnedAll, TurnedSome};
 ghost use Rattle.xa_reactor.specs.Believed.Tending.{Table, Tends, TendsPosting, sessions_of};
-ghost use Rattle.xa_reactor.specs.{Timing.after_wait, Together.HasLent, Together.IsOver, Together.may_gather, Together.may_grow};
+ghost use Rattle.xa_reactor.specs.{Timing.after_wait, Together.HasLent, Together.HasRoomFor, Together.IsOver, Together.may_gather, Together.may_grow};
 ghost use Rattle.xa_reactor.specs.declared.peer.Step.{Step};
 ghost use Rattle.xa_reactor.specs.Together.{GoesOnAll, HasKept, HaveGone, KeepsTurns, turns_in};
 ghost use Rattle.xa_reactor.specs.{Peers.IsLast, declared.peer.Step.TheVariants.Goes};
@@ -14,17 +14,10 @@ use crate::peer::{Opened, Step};
 use crate::peers::Peers;
 use crate::reception::Reception;
 use crate::round::Round;
-use crate::timing::COMPANY;
 use std::alloc::Global;
 use std::mem;
 use std::rt::Clock;
-
-/// After how many turns a round waits for no more.
-const MANY_TURNS: usize = 64;
-
-/// After how many turns a round takes in no more while another loop syncs: what comes after each of them is kept until all
-/// are over.
-const MOST_TURNS: usize = 100_000;
+use xa_waits::{COMPANY, MANY_TURNS, MOST_TURNS};
 
 /// What the turns of a round came to, until all of them are over.
 #[derive(Drop)]
@@ -247,7 +240,7 @@ fn give_quick<D: Reception, R: Clock + Eprint>(
 )
     requires lent { All (IsLent (sessions_of peers.old.all)) asks.old.items }
     requires left { (left.old.items ≡ []) × (vec_len asks.old ≤ vec_capacity left.old) }
-    requires room { vec_len over.old + vec_len asks.old ≤ vec_capacity over.old }
+    requires room { HasRoomFor over.old asks.old }
     ensures tends { Tends D.connected D.called D.left (sessions_of peers.old.all) door.old (sessions_of peers.new.all) door.new }
     ensures same { sessions_of peers.new.all ≡ sessions_of peers.old.all }
     ensures lent { All (IsLent (sessions_of peers.new.all)) asks.new.items }
@@ -274,7 +267,7 @@ fn give_waiting<D: Reception, R: Clock + Eprint>(
     door: &mut D,
 )
     requires lent { All (IsLent (sessions_of peers.old.all)) asks.old.items }
-    requires room { vec_len over.old + vec_len asks.old ≤ vec_capacity over.old }
+    requires room { HasRoomFor over.old asks.old }
     ensures tends { Tends D.connected D.called D.left (sessions_of peers.old.all) door.old (sessions_of peers.new.all) door.new }
     ensures same { sessions_of peers.new.all ≡ sessions_of peers.old.all }
     ensures none { asks.new.items ≡ [] }
@@ -297,7 +290,7 @@ fn send_all<R: Clock + Eprint>(
     clock: &mut LoopClock,
 )
     requires answered { All IsAnswered asks.old.items }
-    requires room { vec_len over.old + vec_len asks.old ≤ vec_capacity over.old }
+    requires room { HasRoomFor over.old asks.old }
     ensures same { sessions_of peers.new.all ≡ sessions_of peers.old.all }
     ensures none { asks.new.items ≡ [] }
     ensures turns { (vec_len over.new ≡ vec_len over.old + vec_len asks.old) × (peers.new.queue ≡ peers.old.queue) }
@@ -323,7 +316,7 @@ fn send_answered<R: Clock + Eprint>(
 )
     requires asks { All (IsLeft (sessions_of peers.old.all)) asks.old.items }
     requires left { All (IsLent (sessions_of peers.old.all)) left.old.items }
-    requires room { (vec_len over.old + vec_len asks.old ≤ vec_capacity over.old) × (vec_len left.old + vec_len asks.old ≤ vec_capacity left.old) }
+    requires room { HasRoomFor over.old asks.old × HasRoomFor left.old asks.old }
     ensures same { sessions_of peers.new.all ≡ sessions_of peers.old.all }
     ensures none { asks.new.items ≡ [] }
     ensures lent { All (IsLent (sessions_of peers.new.all)) left.new.items }

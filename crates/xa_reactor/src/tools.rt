@@ -2,11 +2,10 @@
 ghost use Rattle.std.specs.Prelude.{◌≡◌, IfOk, vec_len};
 ghost use Rattle.xa_connection.specs.declared.connection.TheConstants.{MOST_INPUT};
 ghost use Rattle.xa_reactor.specs.Believed.Tending.{Tends, sessions_of};
-ghost use Rattle.xa_reactor.specs.Patience.{new_patience};
+ghost use Rattle.xa_waits.specs.Patience.{new_patience};
 
 use crate::clock::LoopClock;
 use crate::common::Common;
-use crate::patience::Patience;
 use crate::peers::Peers;
 use crate::reception::Reception;
 use crate::round::Round;
@@ -16,6 +15,7 @@ use std::alloc::{AllocError, Global};
 use std::rt::Clock;
 use std::sync::Wait;
 use xa_connection::MOST_INPUT;
+use xa_waits::Patience;
 
 /// What the turns of connections use.
 #[derive(Drop)]

@@ -1,3 +1,3 @@
 -- what must be believed (docs/BELIEVE.md)
-pub mod Told
+pub mod Recorded
 pub mod Audit

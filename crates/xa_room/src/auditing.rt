@@ -1,20 +1,17 @@
-ghost use Rattle.std.specs.Prelude.{◌≡◌, ℕ, ◌-◌, ◌<◌, ◌≤◌, ◌==◌, ◌⊎◌, [], ◌∷◌, length};
-ghost use Rattle.std.specs.Prelude.{IfOk, IfSome, Err, Some, None, List, sum_by, slice_get, true, false};
-ghost use Rattle.xa_room.specs.Believed.Audit.{Audits, HasFault, IsSound, Judges};
+ghost use Rattle.std.specs.Prelude.{◌≡◌, ℕ, ◌-◌, ◌<◌, ◌≤◌, ◌⊎◌, ◌↔◌, [], ◌∷◌, length};
+ghost use Rattle.std.specs.Prelude.{IfOk, IfSome, IsTrue, Err, Some, None, List, slice_get, true, false};
+ghost use Rattle.xa_room.specs.Believed.Audit.{AddUp, Audits, HasFault, IsSound, Judges};
 ghost use Rattle.xa_room.specs.HasMet.{HasMet};
 
-use crate::comparing::is_receipt_of;
-use crate::room::Room;
-use crate::share::Share;
+use crate::comparing::same_receipt;
 use std::alloc::{AllocError, Global};
-use std::sync::ledger::Ledger;
 use thiserror::Error;
-use xa_history::{Entry, Manages, Receipt, Start};
+use xa_history::Receipt;
 
 /// What an audit finds at fault first.
 #[derive(Clone, Copy, Debug, PartialEq, Eq, Error)]
 pub enum AuditFault {
-    /// The shares' counts don't add up to the number of entries.
+    /// A receipt was lost, or those that were told don't add up to those that the room kept.
     #[error("counts don't add up to the number of entries")]
     Count,
     /// This receipt's place is 0 or above the last. Receipts are counted from 0, places from 1.
@@ -27,7 +24,7 @@ pub enum AuditFault {
     /// A receipt before the one of this index has its place.
     #[error("receipt {0} repeats another's place")]
     Repeats(usize),
-    /// The receipt of this index isn't the entry at its place.
+    /// The receipt of this index isn't the room's at its place.
     #[error("receipt {0} differs from the entry at its place")]
     Differs(usize),
     /// There was no memory for the audit.
@@ -35,45 +32,40 @@ pub enum AuditFault {
     Memory,
 }
 
-/// Whether the receipts are entries of the room, each a different one, and the shares count them all.
-pub fn audit<M: Manages, S: Start, L: Ledger>(
+/// Whether the receipts that were told are those that a room kept, each a different one, and no event is missing: the room
+/// lost none, and with those that were dropped they are as many as it kept.
+pub fn audit(
     alloc: Global,
-    room: &Room<M, S>,
-    receipts: &[Receipt],
-    shares: &[Share<L>],
+    kept: &[Receipt],
+    lost: u64,
+    told: &[Receipt],
+    dropped: u64,
 ) -> Result<(), AuditFault>
-    ensures { (result ≡ Err AuditFault.Memory)
-        ⊎ Audits room.now.entries receipts.now (sum_by (λ s. s.count) shares.now) result }
+    ensures { (result ≡ Err AuditFault.Memory) ⊎ Audits kept.now lost told.now dropped result }
 {
-    let entries = room.entries();
-    if !adds_up(shares, entries.len()) {
+    if !add_up(kept, lost, told, dropped) {
         return Err(AuditFault::Count);
     }
-    judge(alloc, entries, receipts)
+    judge(alloc, kept, told)
 }
 
-// Whether the counts add up to this.
-fn adds_up<L: Ledger>(shares: &[Share<L>], wanted: usize) -> bool
-    ensures { result ≡ (sum_by (λ s. s.count) shares.now == wanted) }
+fn add_up(kept: &[Receipt], lost: u64, told: &[Receipt], dropped: u64) -> bool
+    ensures { IsTrue result ↔ AddUp kept.now lost told.now dropped }
 {
-    let mut total: u64 = 0;
-    for share in shares {
-        let Some(more) = total.checked_add(share.count()) else {
-            return false;
-        };
-        total = more;
+    match (told.len() as u64).checked_add(dropped) {
+        Some(count) => lost == 0 && count == kept.len() as u64,
+        None => false,
     }
-    total == wanted as u64
 }
 
-fn judge(alloc: Global, entries: &[Entry], receipts: &[Receipt]) -> Result<(), AuditFault>
-    ensures { (result ≡ Err AuditFault.Memory) ⊎ Judges entries.now [] 0 receipts.now result }
+fn judge(alloc: Global, kept: &[Receipt], told: &[Receipt]) -> Result<(), AuditFault>
+    ensures { (result ≡ Err AuditFault.Memory) ⊎ Judges kept.now [] 0 told.now result }
 {
-    let Ok(mut met) = none_met(alloc, entries.len()) else {
+    let Ok(mut met) = none_met(alloc, kept.len()) else {
         return Err(AuditFault::Memory);
     };
-    for i in 0..receipts.len() {
-        match judge_one(entries, &mut met, &receipts[i], i) {
+    for i in 0..told.len() {
+        match judge_one(kept, &mut met, &told[i], i) {
             Some(fault) => return Err(fault),
             None => {}
         }
@@ -83,31 +75,31 @@ fn judge(alloc: Global, entries: &[Entry], receipts: &[Receipt]) -> Result<(), A
 
 // The fault of one receipt, and the mark of its place.
 fn judge_one(
-    entries: &[Entry],
+    kept: &[Receipt],
     met: &mut Vec<bool>,
     receipt: &Receipt,
     i: usize,
 ) -> Option<AuditFault>
-    requires { length met.old.items ≡ length entries.now }
-    ensures len { length met.new.items ≡ length entries.now }
+    requires { length met.old.items ≡ length kept.now }
+    ensures len { length met.new.items ≡ length kept.now }
     ensures none { result ≡ None → (places : List ℕ) → HasMet met.old.items places
-        → HasMet met.new.items (receipt.now.place ∷ places) × IsSound entries.now places receipt.now }
+        → HasMet met.new.items (receipt.now.place ∷ places) × IsSound kept.now places receipt.now }
     ensures some { IfSome result (λ f. (places : List ℕ) → HasMet met.old.items places
-        → HasFault entries.now places i receipt.now f) }
+        → HasFault kept.now places i receipt.now f) }
 {
     let place = receipt.place;
-    if is_outside(entries, place) {
+    if is_outside(kept, place) {
         return Some(AuditFault::Place {
             receipt: i,
             place,
-            last: entries.len() as u64,
+            last: kept.len() as u64,
         });
     }
     if is_met(met.as_slice(), place) {
         return Some(AuditFault::Repeats(i));
     }
     let at = (place - 1) as usize;
-    if !is_receipt_of(receipt, &entries[at]) {
+    if !same_receipt(receipt, &kept[at]) {
         return Some(AuditFault::Differs(i));
     }
     met[at] = true;
@@ -120,11 +112,11 @@ fn none_met(alloc: Global, count: usize) -> Result<Vec<bool>, AllocError>
     vec![in alloc; false; count]
 }
 
-fn is_outside(entries: &[Entry], place: u64) -> bool
-    ensures yes { result ≡ true → (place ≡ 0) ⊎ (length entries.now < place) }
-    ensures no { result ≡ false → (0 < place) × (place ≤ length entries.now) }
+fn is_outside(kept: &[Receipt], place: u64) -> bool
+    ensures yes { result ≡ true → (place ≡ 0) ⊎ (length kept.now < place) }
+    ensures no { result ≡ false → (0 < place) × (place ≤ length kept.now) }
 {
-    place == 0 || place > entries.len() as u64
+    place == 0 || place > kept.len() as u64
 }
 
 fn is_met(met: &[bool], place: u64) -> bool

@@ -1,18 +1,17 @@
 ghost use Rattle.std.specs.Prelude.{◌≡◌, ◌↔◌, IsTrue};
-ghost use Rattle.xa_history.specs.Believed.Book.{receipt_of};
 
 use xa_frame::{Body, KnownBranch, Reply, Request};
-use xa_history::{Entry, Receipt};
+use xa_history::Receipt;
 use xa_model::Event;
 use xa_xid::Xid;
 
-/// Whether it is the receipt of the entry.
-pub(crate) fn is_receipt_of(receipt: &Receipt, entry: &Entry) -> bool
-    ensures { IsTrue result ↔ (receipt.now ≡ receipt_of entry.now) }
+/// Whether two receipts are the same.
+pub(crate) fn same_receipt(one: &Receipt, other: &Receipt) -> bool
+    ensures { IsTrue result ↔ (one.now ≡ other.now) }
 {
-    receipt.place == entry.place
-        && same_event(&receipt.event, &entry.event)
-        && same_reply(&receipt.reply, &entry.reply)
+    one.place == other.place
+        && same_event(&one.event, &other.event)
+        && same_reply(&one.reply, &other.reply)
 }
 
 fn same_event(one: &Event, other: &Event) -> bool

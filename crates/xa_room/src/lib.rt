@@ -1,37 +1,22 @@
-//! A room: a manager with the history of all that was asked of it. Behind a lock, with a ledger of its entries, it is
-//! the desk that sessions on many threads share. Whoever has the room again can audit it against the receipts that were
-//! given out. What a room asks of its manager, and what entries and receipts are, is said in `xa_history`.
+//! A room: a manager that keeps a receipt of each event that its own manager answered, and answers just what that does. So a
+//! sequencer over a room, `Sequencer<Room<M, S>, S>`, is one whose history can be audited: against the receipts that those who
+//! asked were given. What a receipt is, and what is asked of a manager, is said in `xa_history` and `xa_sequencer`.
 //!
-//! A room alone:
-//!
-//! - `room`: `Room`, which asks its manager and notes each event
-//! - `notes`: room for entries, and one more entry; `call`, `spare`: the copies of a request and of a reply that the
-//!   entry and the receipt take
-//! - `door`: a room as the door of a connection
-//!
-//! On many threads:
-//!
-//! - `desk`: `Desk`, a room behind the one lock; `counted`: the room and the ledger's book under it
-//! - `share`: `Share`, some parts of the ledger, and how many events were recorded by it; `agree`
+//! - `room`: `Room`; `manages`: what it does as a manager
+//! - `receipts`: what is kept; `copying`: `copied_reply`, the copy of a reply
+//! - `auditing`: `audit`, whether the receipts that were told are the room's, and `AuditFault`; `comparing`: two receipts
 //! - `uptime`: `Uptime`, for how long a server is up
-//! - `auditing`: `audit`, whether receipts and shares fit the room, and `AuditFault`; `comparing`: a receipt and an
-//!   entry
 #![tactic(auto)]
 
 mod auditing;
-mod call;
 mod comparing;
-mod counted;
-mod desk;
-mod door;
-mod notes;
+mod copying;
+mod manages;
+mod receipts;
 mod room;
-mod share;
-mod spare;
 mod uptime;
 
 pub use auditing::{AuditFault, audit};
-pub use desk::Desk;
+pub use copying::copied_reply;
 pub use room::Room;
-pub use share::{Share, agree};
 pub use uptime::Uptime;

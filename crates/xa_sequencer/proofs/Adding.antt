@@ -12,11 +12,9 @@ use Rattle.xa_model.specs.Events.{IsEvent}
 use Rattle.xa_model.specs.declared.event.Event.{Event}
 use Rattle.xa_history.proofs.Longer.{kept_noted, not_memory}
 use Rattle.xa_history.specs.Believed.Book.{entry_of, placed, plain_entries, unplaced}
-use Rattle.xa_history.specs.Believed.Manages.{Stays, StepsTo}
+use Rattle.xa_history.specs.Believed.Manages.{Acts, Behaviour, Stays, StepsTo}
 use Rattle.xa_history.specs.Believed.Upholds.{Upholds}
 use Rattle.xa_history.specs.declared.entry.Entry.{Entry}
-use Rattle.xa_history.specs.declared.manages.Manages.{Ghosts}
-use Rattle.xa_sequencer.specs.GroupCommits.{ActsAs}
 use Rattle.xa_sequencer.specs.Believed.Numbers.{Adds, Leaves}
 use Rattle.xa_sequencer.specs.Believed.Stands.{AllPromise, GoesOn, GoesOnTwice, HasHistory, Numbered, Stands, most_numbers}
 
@@ -25,8 +23,8 @@ was_memory A B true e h = h
 was_memory A B false e h = absurd (cc e)
 
 -- the entry of a reply with its number, as a room notes it
-noted : {M : Type 0} (m : Ghosts M) (start : State → Type 0) (base : ℕ × ℕ) (old new : Numbered M) (event : Event) (said reply : Reply)
-    → ActsAs m old.now event said new.now
+noted : {M : Type 0} (m : Behaviour M) (start : State → Type 0) (base : ℕ × ℕ) (old new : Numbered M) (event : Event) (said reply : Reply)
+    → Acts m old.now event said new.now
     → is_memory said.detail ≡ false → said.place ≡ 0 → IsEvent event
     → reply ≡ placed (old.count + 1) said → new.count ≡ old.count + 1 → new.count + m.sessions new.now ≤ most_numbers
     → GoesOn m start base old (entry_of reply.place event (m.told new.now) reply ∷ []) new
@@ -42,8 +40,8 @@ noted m start base old new event said reply acts served zero is_event is more ro
     }
 
 -- an event that found its memory
-pub added : {M : Type 0} (m : Ghosts M) (start : State → Type 0) (base : ℕ × ℕ) (old new : Numbered M) (event : Event) (said reply : Reply)
-    → ActsAs m old.now event said new.now
+pub added : {M : Type 0} (m : Behaviour M) (start : State → Type 0) (base : ℕ × ℕ) (old new : Numbered M) (event : Event) (said reply : Reply)
+    → Acts m old.now event said new.now
     → is_memory said.detail ≡ false → said.place ≡ 0 → IsEvent event
     → reply ≡ placed (old.count + 1) said → new.count ≡ old.count + 1 → new.count + m.sessions new.now ≤ most_numbers
     → Adds m start base old event reply new
@@ -66,7 +64,7 @@ rises_no_more n a b c p q = λ first second.
     (earlier.0, earlier.1, omega (arith, earlier.2, later.2))
 
 -- what wanted memory keeps what a room keeps
-pub stayed : {M : Type 0} (m : Ghosts M) (start : State → Type 0) (base : ℕ × ℕ) (now then : M) (entries : List Entry) (cap : ℕ)
+pub stayed : {M : Type 0} (m : Behaviour M) (start : State → Type 0) (base : ℕ × ℕ) (now then : M) (entries : List Entry) (cap : ℕ)
     → Upholds m start base now entries cap → Stays m.stands now then
     → ((s : State) → m.stands now s → RiseBy 0 (m.failures now) (m.failures then)) → m.sessions then ≤ m.sessions now
     → Upholds m start base then entries cap
@@ -82,8 +80,8 @@ stayed m start base now then entries cap kept stays counts fewer = record {
 }
 
 -- an event that wanted memory
-pub left_out : {M : Type 0} (m : Ghosts M) (start : State → Type 0) (base : ℕ × ℕ) (old new : Numbered M) (event : Event) (said : Reply)
-    → ActsAs m old.now event said new.now
+pub left_out : {M : Type 0} (m : Behaviour M) (start : State → Type 0) (base : ℕ × ℕ) (old new : Numbered M) (event : Event) (said : Reply)
+    → Acts m old.now event said new.now
     → is_memory said.detail ≡ true → new.count ≡ old.count → m.sessions new.now ≤ m.sessions old.now
     → Leaves m start base old event said new
 left_out m start base old new event said acts wanted same fewer =
@@ -101,12 +99,12 @@ left_out m start base old new event said acts wanted same fewer =
       stays = stays;
     }
 
-pub twice : {M : Type 0} (m : Ghosts M) (start : State → Type 0) (base : ℕ × ℕ) → GoesOnTwice m start base
+pub twice : {M : Type 0} (m : Behaviour M) (start : State → Type 0) (base : ℕ × ℕ) → GoesOnTwice m start base
 twice m start base a b c first second one other = λ entries stood.
     subst (λ (xs : List Entry). Stands m start base c xs) (append_assoc entries first second) (other (entries ++ first) (one entries stood))
 
 -- it stands for a history still
-pub has_more : {M : Type 0} (m : Ghosts M) (start : State → Type 0) (base : ℕ × ℕ) (old new : Numbered M) (more : List Entry)
+pub has_more : {M : Type 0} (m : Behaviour M) (start : State → Type 0) (base : ℕ × ℕ) (old new : Numbered M) (more : List Entry)
     → GoesOn m start base old more new → HasHistory m start base old → HasHistory m start base new
 has_more m start base old new more goes h = (h.0 ++ more, goes h.0 h.1)
 
@@ -124,7 +122,7 @@ none_more (Ok n) a b is h = absurd (cc is)
 none_more (Err e) a b is h = omega arith
 
 -- each history that it stands for promises what a room's book does
-pub promised : {M : Type 0} (m : Ghosts M) (start : State → Type 0) (base : ℕ × ℕ) (c : Numbered M) → ReachedPromises → AllPromise m start base c
+pub promised : {M : Type 0} (m : Behaviour M) (start : State → Type 0) (base : ℕ × ℕ) (c : Numbered M) → ReachedPromises → AllPromise m start base c
 promised m start base c law = λ entries stood s began opens premise.
     let legal = stood.upholds.legal s began premise in
     let reached : IsReached s (plain_entries entries) legal.0 = record { opens = opens; happened = stood.upholds.happened; leads = legal.1 } in

@@ -17,12 +17,11 @@ use Rattle.xa_model.specs.declared.outcome.Appending.{Appending}
 use Rattle.xa_model.specs.declared.outcome.Outcome.{Outcome}
 use Rattle.xa_model.specs.declared.outcome.Outcome.TheVariants.{Appended, Joined}
 use Rattle.xa_history.specs.Believed.Book.{AreNumbered, HasNoRestart, placed, plain_entries}
-use Rattle.xa_history.specs.Believed.Together as manager
-use Rattle.xa_history.specs.Believed.Together.{ActsTogether, AreUnplaced, IsToldOf, event_at, events_of, told_entries, told_entry}
+use Rattle.xa_history.specs.Believed.Together.{ActsTogether, AnswersNone, AnswersTogether, AreUnplaced, IsToldOf, event_at, events_of, told_entries, told_entry}
 use Rattle.xa_history.specs.Believed.Upholds.{Upholds}
 use Rattle.xa_history.specs.declared.entry.Entry.{Entry}
-use Rattle.xa_history.specs.declared.manages.Manages.{Ghosts}
-use Rattle.xa_sequencer.specs.GroupCommits.{AnswersAs, ArePending, KeepsPending, pending_count}
+use Rattle.xa_history.specs.Believed.Manages.{Behaviour}
+use Rattle.xa_sequencer.specs.Manages.{ArePending, KeepsPending, pending_count}
 use Rattle.xa_sequencer.specs.Believed.Stands.{GoesOn, HasHistory, Numbered, Stands, most_numbers}
 use Rattle.xa_sequencer.specs.Believed.Together.{AddsTogether, ArePlaced, CalledTogether, Rests, entries_for, entry_for, placed_from}
 use Rattle.xa_sequencer.proofs.Adding.{has_more, stayed}
@@ -168,11 +167,11 @@ rises_both m n a b c p q = λ first second.
 
 -- ---- a group more
 
-module _ {M : Type 0} (m : Ghosts M) (start : State → Type 0) (base : ℕ × ℕ) where
+module _ {M : Type 0} (m : Behaviour M) (start : State → Type 0) (base : ℕ × ℕ) where
   -- a group keeps what a room keeps
   kept_group : (now then : M) (es : List Entry) (cap : ℕ) (calls : List Asked) (r : ℕ × Reply) (rs : List (ℕ × Reply)) (a : Appending)
       → Upholds m start base now es cap
-      → ActsTogether m.stands m.has_called m.crashes_together m.failures now calls r rs a then
+      → ActsTogether m now calls r rs a then
       → AllByRecursion (λ c. IsAsked c.request) calls
       → length es + length (r ∷ rs) + m.sessions then ≤ cap
       → Upholds m start base then (es ++ group_from (length es) calls a r rs) cap
@@ -199,7 +198,7 @@ module _ {M : Type 0} (m : Ghosts M) (start : State → Type 0) (base : ℕ × �
       }
 
   goes_on : (old new : Numbered M) (calls : List Asked) (r : ℕ × Reply) (rs : List (ℕ × Reply)) (a : Appending)
-      → ActsTogether m.stands m.has_called m.crashes_together m.failures old.now calls r rs a new.now
+      → ActsTogether m old.now calls r rs a new.now
       → AllByRecursion (λ c. IsAsked c.request) calls
       → new.count ≡ old.count + length (r ∷ rs) → new.count + m.sessions new.now ≤ most_numbers
       → GoesOn m start base old (group_from old.count calls a r rs) new
@@ -212,7 +211,7 @@ module _ {M : Type 0} (m : Ghosts M) (start : State → Type 0) (base : ℕ × �
 
   -- calls that were answered together
   adds : (old new : Numbered M) (calls : List Asked) (r : ℕ × Reply) (rs : List (ℕ × Reply)) (a : Appending)
-      → ActsTogether m.stands m.has_called m.crashes_together m.failures old.now calls r rs a new.now
+      → ActsTogether m old.now calls r rs a new.now
       → AllByRecursion (λ c. IsAsked c.request) calls
       → new.count ≡ old.count + length (r ∷ rs) → new.count + m.sessions new.now ≤ most_numbers
       → AddsTogether m start base old calls (r.0, placed (old.count + 1) r.1) (placed_from (old.count + 1) rs) a new
@@ -230,7 +229,7 @@ module _ {M : Type 0} (m : Ghosts M) (start : State → Type 0) (base : ℕ × �
   }
 
   -- no call was answered
-  pub rests : (old new : Numbered M) → manager.Rests m.stands m.failures old.now new.now → new.count ≡ old.count
+  pub rests : (old new : Numbered M) → AnswersNone m old.now new.now → new.count ≡ old.count
       → m.sessions new.now ≡ m.sessions old.now → Rests m start base old new
   rests old new kept same sessions = record {
     count = same;
@@ -243,15 +242,15 @@ module _ {M : Type 0} (m : Ghosts M) (start : State → Type 0) (base : ℕ × �
   }
 
   -- there are no more replies than calls
-  no_more : (old then : M) (calls : List Asked) (replies : List (ℕ × Reply)) → AnswersAs m old calls replies then → AreOnce replies → length replies ≤ length calls
+  no_more : (old then : M) (calls : List Asked) (replies : List (ℕ × Reply)) → AnswersTogether m old calls replies then → AreOnce replies → length replies ≤ length calls
   no_more old then calls [] acts once = omega arith
   no_more old then calls (r ∷ rs) acts once = few (length calls) (r ∷ rs) once (all_within calls (r ∷ rs) acts.1.told)
 
-  pub all_told : (old then : M) (calls : List Asked) (replies : List (ℕ × Reply)) → AnswersAs m old calls replies then → AllByRecursion (IsToldOf calls) replies
+  pub all_told : (old then : M) (calls : List Asked) (replies : List (ℕ × Reply)) → AnswersTogether m old calls replies then → AllByRecursion (IsToldOf calls) replies
   all_told old then calls [] acts = tt
   all_told old then calls (r ∷ rs) acts = acts.1.told
 
-  together : (old new : Numbered M) (calls : List Asked) (replies : List (ℕ × Reply)) → AnswersAs m old.now calls replies new.now
+  together : (old new : Numbered M) (calls : List Asked) (replies : List (ℕ × Reply)) → AnswersTogether m old.now calls replies new.now
       → AllByRecursion (λ c. IsAsked c.request) calls
       → new.count ≡ old.count + length replies → m.sessions new.now ≡ m.sessions old.now → new.count + m.sessions new.now ≤ most_numbers
       → CalledTogether m start base old calls (placed_from old.count replies) new
@@ -260,12 +259,12 @@ module _ {M : Type 0} (m : Ghosts M) (start : State → Type 0) (base : ℕ × �
 
   -- numbers are left for the replies to the pending calls
   pub have_numbers : (has : M → Type 0) (p : Option (List Asked)) (now then : M) (count : ℕ) (calls : List Asked) (replies : List (ℕ × Reply)) → KeepsPending m has p now count
-      → p ≡ Some calls → AnswersAs m now calls replies then → AreOnce replies → count + m.sessions now + length replies ≤ most_numbers
+      → p ≡ Some calls → AnswersTogether m now calls replies then → AreOnce replies → count + m.sessions now + length replies ≤ most_numbers
   have_numbers has p now then count calls replies kept are acts once = omega (arith, kept.reserved, ap pending_count are, no_more now then calls replies acts once)
 
   -- they were called together
   pub called_together : (has : M → Type 0) (p : Option (List Asked)) (now then : M) (count more : ℕ) (calls : List Asked) (replies : List (ℕ × Reply)) → KeepsPending m has p now count
-      → p ≡ Some calls → AnswersAs m now calls replies then → AreOnce replies → more ≡ length replies → m.sessions then ≡ m.sessions now
+      → p ≡ Some calls → AnswersTogether m now calls replies then → AreOnce replies → more ≡ length replies → m.sessions then ≡ m.sessions now
       → CalledTogether m start base (record { now = now; count = count }) calls (placed_from count replies) (record { now = then; count = count + more })
   called_together has p now then count more calls replies kept are acts once as_many sessions =
       together (record { now = now; count = count }) (record { now = then; count = count + more }) calls replies acts (subst ArePending are kept.asked) (omega (arith, as_many)) sessions

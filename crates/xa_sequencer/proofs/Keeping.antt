@@ -3,12 +3,12 @@ use Rattle.std.proofs.Common.{◌≡◌, ℕ, ◌+◌, ◌≤◌, List, Option, 
 use Rattle.xa_manager.specs.declared.together.Asked.{Asked}
 use Rattle.xa_model.specs.State.{State}
 use Rattle.xa_history.specs.declared.entry.Entry.{Entry}
-use Rattle.xa_history.specs.declared.manages.Manages.{Ghosts}
-use Rattle.xa_sequencer.specs.GroupCommits.{ArePending, KeepsPending, pending_count}
+use Rattle.xa_history.specs.Believed.Manages.{Behaviour}
+use Rattle.xa_sequencer.specs.Manages.{ArePending, KeepsPending, pending_count}
 use Rattle.xa_sequencer.specs.Believed.Stands.{GoesOn, HasHistory, Numbered, most_numbers}
 use Rattle.xa_sequencer.proofs.Adding.{has_more}
 
-module _ {M : Type 0} (m : Ghosts M) (has : M → Type 0) (start : State → Type 0) (base : ℕ × ℕ) where
+module _ {M : Type 0} (m : Behaviour M) (has : M → Type 0) (start : State → Type 0) (base : ℕ × ℕ) where
   -- its history, and that, with these calls pending
   abbrev pub Keeps : Option (List Asked) → Numbered M → Type 0
   Keeps p c = HasHistory m start base c × KeepsPending m has p c.now c.count

@@ -11,21 +11,21 @@ use Rattle.xa_disk.specs.declared.disk.DiskFault.{DiskFault}
 use Rattle.xa_frame.specs.declared.reply.Reply.{Reply}
 use Rattle.xa_log.specs.Calls.{SettlesBy, WritesAhead}
 use Rattle.xa_log.specs.Believed.LogView.{LogView}
-use Rattle.xa_manager.specs.Believed.Answered.{HasCalled, StaysFor, as_appended}
+use Rattle.xa_manager.specs.Believed.Answered.{FullyAnswered, HasCalled, StaysFor, as_appended}
 use Rattle.xa_manager.specs.Believed.Counted.{RiseBy, counted_by, failures_in, failures_of_append}
 use Rattle.xa_manager.specs.Believed.LogStands.{Trusts}
 use Rattle.xa_manager.specs.Managed.{ManagerStandsFor}
-use Rattle.xa_manager.specs.Believed.Parts.{log_of}
+use Rattle.xa_manager.specs.Believed.Parts.{log_of, outcome_of}
 use Rattle.xa_manager.specs.Connected.{connected_to}
 use Rattle.xa_manager.specs.Believed.Pending.{AnsweredBeside, AsksNoneOf, HasFinished, IsPending, IsPendingFrom, WritesGroup, calls_of, write_of}
 use Rattle.xa_manager.specs.Reserving.{HasReserved}
 use Rattle.xa_manager.specs.declared.manager.Manager.{Manager}
 use Rattle.xa_manager.specs.declared.pending.PendingGroup.{PendingGroup}
 use Rattle.xa_manager.specs.declared.together.Asked.{Asked}
-use Rattle.xa_manager.proofs.Counting.{none_by, rise_both}
+use Rattle.xa_manager.proofs.Counting.{called_alone, called_for, none_by, rise_both}
 use Rattle.xa_manager.proofs.Reserved.{none_rises}
 use Rattle.xa_model.specs.Answer.{Answer, plain}
-use Rattle.xa_model.specs.Events.{is_restart}
+use Rattle.xa_model.specs.Events.{is_restart, is_trim}
 use Rattle.xa_model.specs.History.{Entry, Leads, joins}
 use Rattle.xa_model.specs.State.{State}
 use Rattle.xa_model.specs.Step.{step}
@@ -36,8 +36,10 @@ use Rattle.xa_model.specs.declared.outcome.Appending.{Appending}
 use Rattle.xa_model.specs.declared.outcome.Appending.TheVariants.{Kept, Refused, Lost}
 use Rattle.xa_model.specs.declared.outcome.Outcome.TheVariants.{Appended, Quiet}
 use Rattle.xa_history.proofs.Together.{all_told, all_unplaced, group_lost, group_told}
-use Rattle.xa_sequencer.specs.GroupCommits.{ActsAs, AnswersAs, AsksOne, RestsAs}
-use Rattle.xa_sequencer.specs.Believed.GroupManager.{StandsWith, alone, before_write, beside, counted_before, manages_of}
+use Rattle.xa_history.specs.Believed.Manages.{Acts}
+use Rattle.xa_history.specs.Believed.Together.{AnswersNone, AnswersTogether}
+use Rattle.xa_sequencer.specs.Manages.{AsksOne}
+use Rattle.xa_sequencer.specs.Believed.GroupManager.{StandsWith, alone, before_write, beside, calls_in, counted_before, manages_of, with_group}
 
 -- ---- counts of failures
 
@@ -81,6 +83,16 @@ either : {D : Type 0} (f : D → ℕ) (b : Bool) (x y : D) → f (if b then x el
 either f true x y = refl
 either f false x y = refl
 
+-- ---- both ways of a reply
+
+each_way : (b : Bool) (A B C E : Type 0) → (b ≡ true → A → C) → (b ≡ false → B → E) → MatchBool b A B → MatchBool b C E
+each_way true A B C E f g h = f refl h
+each_way false A B C E f g h = g refl h
+
+by_cases : (b : Bool) (C E : Type 0) → (b ≡ true → C) → (b ≡ false → E) → MatchBool b C E
+by_cases true C E f g = f refl
+by_cases false C E f g = g refl
+
 module _ {D : Type 0} (disks : disk.Ghosts D) where
   abbrev F : D → ℕ
   F = disks.failures
@@ -113,19 +125,39 @@ module _ {D : Type 0} (disks : disk.Ghosts D) where
       = sides (log_of m') ∙ (λ i. (if side i then F (log_of m').disk else F (other i), if side i then F (other i) else F (log_of m').disk)) in
       subst (λ (y : ℕ × ℕ). RiseBy (failures_of_append a) (counted_before F f (log_of m)) y) (sym same) there
 
+  -- ---- no group is pending
+
+  alone_acted : (m m' : Manager D) (event : Event) (reply : Reply) → FullyAnswered disks m event reply m' → Acts (manages_of disks) (alone m) event reply (alone m')
+  alone_acted m m' event reply full = record {
+    answered = each_way (is_memory reply.detail) _ _ _ _ (λ e h. h.0) (λ e h. h) full.answered;
+    pinned = full.pinned;
+    called = full.called;
+    crash = full.crash;
+    counted = by_cases (is_memory reply.detail) _ _
+        (λ e s stands. none_by disks (log_of m) (log_of m') (full.quiet e))
+        (λ e s stands premise.
+        let called = full.called e s stands premise in
+        (called_alone disks (is_trim event) (outcome_of m') (log_of m) (log_of m') called, called_for disks (is_trim event) (outcome_of m') (log_of m) (log_of m') called));
+  }
+
+  pub acted_with_none : (m m' : Manager D) (p : Option PendingGroup) (event : Event) (reply : Reply) → p ≡ None → FullyAnswered disks m event reply m'
+      → Acts (manages_of disks) (with_group m p) event reply (with_group m' p)
+  acted_with_none m m' p event reply is full =
+      subst (λ (x : Option PendingGroup). Acts (manages_of disks) (with_group m x) event reply (with_group m' x)) (sym is) (alone_acted m m' event reply full)
+
   -- ---- a group begins
 
   begun : (m m' : Manager D) (f : PendingGroup) → ((s : State) → ManagerStandsFor disks m s → IsPending disks m' f s) → WritesGroup disks m f m'
-      → RestsAs (manages_of disks) (alone m) (beside m' f)
+      → AnswersNone (manages_of disks) (alone m) (beside m' f)
   begun m m' f stays w = record { stays = stays; counted = wrote_rises m m' f w }
 
   pub begun_so : (m m' : Manager D) (r : Result PendingGroup (Vec Asked Global)) → IfOk r (λ f. (s : State) → ManagerStandsFor disks m s → IsPending disks m' f s)
-      → IfOk r (λ f. WritesGroup disks m f m') → IfOk r (λ f. RestsAs (manages_of disks) (alone m) (beside m' f))
+      → IfOk r (λ f. WritesGroup disks m f m') → IfOk r (λ f. AnswersNone (manages_of disks) (alone m) (beside m' f))
   begun_so m m' (Ok f) stays w = begun m m' f stays w
   begun_so m m' (Err given) stays w = tt
 
   pub left_alone : (m m' : Manager D) (r : Result PendingGroup (Vec Asked Global)) → OnErr r (StaysFor disks m m') → OnErr r (HasReserved disks (log_of m) (log_of m'))
-      → OnErr r (RestsAs (manages_of disks) (alone m) (alone m'))
+      → OnErr r (AnswersNone (manages_of disks) (alone m) (alone m'))
   left_alone m m' (Ok f) stays reserved = tt
   left_alone m m' (Err given) stays reserved =
       record { stays = stays; counted = none_by disks (log_of m) (log_of m') (none_rises disks (log_of m) (log_of m') reserved (log_of m) (refl, refl)) }
@@ -154,7 +186,7 @@ module _ {D : Type 0} (disks : disk.Ghosts D) where
     counts_by true = λ s st. same_counts
     counts_by false = λ s st premise. (refl, same_counts)
 
-    pub acted_beside : ActsAs (manages_of disks) (beside m f) event reply (beside m' f)
+    acted_beside : Acts (manages_of disks) (beside m f) event reply (beside m' f)
     acted_beside = record {
       answered = stays_by (is_memory reply.detail) w.answered;
       pinned = w.pinned;
@@ -163,11 +195,23 @@ module _ {D : Type 0} (disks : disk.Ghosts D) where
       counted = counts_by (is_memory reply.detail);
     }
 
-  pub hung_up_beside : (m m' : Manager D) (f : PendingGroup) (n : ℕ) (did : Bool)
+  pub acted_with_some : (m m' : Manager D) (p : Option PendingGroup) (f : PendingGroup) (event : Event) (reply : Reply) → p ≡ Some f → AnsweredBeside disks m f event reply m'
+      → Acts (manages_of disks) (with_group m p) event reply (with_group m' p)
+  acted_with_some m m' p f event reply is w =
+      subst (λ (x : Option PendingGroup). Acts (manages_of disks) (with_group m x) event reply (with_group m' x)) (sym is) (acted_beside m m' f event reply w)
+
+  hung_up_beside : (m m' : Manager D) (f : PendingGroup) (n : ℕ) (did : Bool)
       → MatchBool did (AnsweredBeside disks m f (Hangup n) (plain (pos 0)) m' × Loses (connected_to m) n (connected_to m')) ((m' ≡ m) × (AsksNoneOf n f → ⊥))
-      → MatchBool did (ActsAs (manages_of disks) (beside m f) (Hangup n) (plain (pos 0)) (beside m' f)) ((m' ≡ m) × AsksOne n (Some (calls_of f).items))
+      → MatchBool did (Acts (manages_of disks) (beside m f) (Hangup n) (plain (pos 0)) (beside m' f)) ((m' ≡ m) × AsksOne n (calls_in (Some f)))
   hung_up_beside m m' f n true h = acted_beside m m' f (Hangup n) (plain (pos 0)) h.0
   hung_up_beside m m' f n false h = h
+
+  pub hung_up_with_some : (m m' : Manager D) (p : Option PendingGroup) (f : PendingGroup) (n : ℕ) (did : Bool) → p ≡ Some f
+      → MatchBool did (AnsweredBeside disks m f (Hangup n) (plain (pos 0)) m' × Loses (connected_to m) n (connected_to m')) ((m' ≡ m) × (AsksNoneOf n f → ⊥))
+      → MatchBool did (Acts (manages_of disks) (with_group m p) (Hangup n) (plain (pos 0)) (with_group m' p)) ((m' ≡ m) × AsksOne n (calls_in p))
+  hung_up_with_some m m' p f n did is h =
+      subst (λ (x : Option PendingGroup). MatchBool did (Acts (manages_of disks) (with_group m x) (Hangup n) (plain (pos 0)) (with_group m' x)) ((m' ≡ m) × AsksOne n (calls_in x))) (sym is)
+      (hung_up_beside m m' f n did h)
 
   fewer_by : (was : Bool) (a b : ℕ) → was ≡ true → b + (if was then 1 else 0) ≡ a → b + 1 ≡ a
   fewer_by true a b e h = h
@@ -188,7 +232,7 @@ module _ {D : Type 0} (disks : disk.Ghosts D) where
   -- ---- it is finished
 
   pub answered_group : (m m' : Manager D) (f : PendingGroup) (replies : List (ℕ × Reply)) → HasFinished disks m f replies m'
-      → AnswersAs (manages_of disks) (beside m f) (calls_of f).items replies (alone m')
+      → AnswersTogether (manages_of disks) (beside m f) (calls_of f).items replies (alone m')
   answered_group m m' f [] h = absurd h
   answered_group m m' f (r ∷ rs) h =
       let first = h.0 in

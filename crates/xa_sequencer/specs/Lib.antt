@@ -1,3 +1,3 @@
 pub mod Believed
 pub mod Associates
-pub mod GroupCommits
+pub mod Manages

@@ -1,9 +1,9 @@
 ghost use Rattle.xa_sequencer.specs.Believed.Stands.{GoesOnTwice};
 
-use crate::group_commits::GroupCommits;
+use crate::manages::Manages;
 use xa_history::Start;
 
 /// What goes on with some entries, and then with others, goes on with these after those. It does nothing.
-pub fn goes_on_twice<M: GroupCommits, S: Start>()
+pub fn goes_on_twice<M: Manages, S: Start>()
     ensures { GoesOnTwice M.manages S.start S.base }
 {}

@@ -1,13 +1,12 @@
-use crate::group_commits::GroupCommits;
+use crate::manages::Manages;
 use xa_assoc::ConnectFault;
 use xa_disk::{Disk, SyncAnswer, Syncer};
 use xa_frame::{Reply, Request, Status};
 use xa_manager::{Asked, Manager, PendingGroup};
 use xa_xid::Xid;
 
-/// The manager over a log on two disks.
-impl<D: Disk> GroupCommits for Manager<D> {
-    ghost use Rattle.std.specs.Prelude.{refl};
+/// The manager over a log on two disks. Its counts of failures are those of the two.
+impl<D: Disk> Manages for Manager<D> {
     ghost use Rattle.xa_manager.specs.Believed.{Parts.log_of, Pending.IsGroupOf};
     ghost use Rattle.xa_sequencer.specs.Believed.GroupManager.{manages_of};
 
@@ -17,19 +16,46 @@ impl<D: Disk> GroupCommits for Manager<D> {
 
     ghost its_syncer = { λ m s. D.its_syncer (log_of m).disk s };
 
-    ghost is_alone = { record {
-      acts = λ old event reply new a. record {
-        answered = a.answered;
-        pinned = a.pinned;
-        called = a.called;
-        crash = a.crash;
-        counted = a.counted;
-      };
-      stands = λ x s stood. stood;
-      versions = λ x. refl;
-      has_session = λ g n. refl;
-      sessions = λ g. refl;
-    } };
+    fn connect(&mut self, pending: &Option<PendingGroup>) -> Result<u64, ConnectFault> {
+        match pending {
+            Some(group) => self.connect_beside(group),
+            None => self.connect(),
+        }
+    }
+
+    fn call(
+        &mut self,
+        pending: &Option<PendingGroup>,
+        session: u64,
+        request: Request,
+    ) -> Result<Reply, Request> {
+        match pending {
+            Some(group) => self.call_beside(group, session, request),
+            None => Ok(self.call(session, request)),
+        }
+    }
+
+    fn hangup(&mut self, pending: &Option<PendingGroup>, session: u64) -> bool {
+        match pending {
+            Some(group) => self.hangup_beside(group, session),
+            None => {
+                self.hangup(session);
+                true
+            }
+        }
+    }
+
+    fn is_connected(&self, session: u64) -> bool {
+        self.is_connected(session)
+    }
+
+    fn connected(&self) -> u64 {
+        self.connected()
+    }
+
+    fn status(&self) -> Status {
+        self.status()
+    }
 
     fn begin_group(&mut self, calls: Vec<Asked>) -> Result<PendingGroup, Vec<Asked>> {
         self.begin_group(calls)
@@ -37,27 +63,6 @@ impl<D: Disk> GroupCommits for Manager<D> {
 
     fn syncer(&self) -> Syncer {
         self.syncer()
-    }
-
-    fn call_beside(
-        &mut self,
-        group: &PendingGroup,
-        session: u64,
-        request: Request,
-    ) -> Result<Reply, Request> {
-        self.call_beside(group, session, request)
-    }
-
-    fn connect_beside(&mut self, group: &PendingGroup) -> Result<u64, ConnectFault> {
-        self.connect_beside(group)
-    }
-
-    fn hangup_beside(&mut self, group: &PendingGroup, session: u64) -> bool {
-        self.hangup_beside(group, session)
-    }
-
-    fn status_beside(&self) -> Status {
-        self.status()
     }
 
     fn finish_group(
@@ -70,6 +75,10 @@ impl<D: Disk> GroupCommits for Manager<D> {
 
     fn has_association(&self, session: u64) -> bool {
         self.has_association(session)
+    }
+
+    fn has_unmarked(&self, session: u64) -> bool {
+        self.has_unmarked(session)
     }
 
     fn works_for(&self, session: u64, xid: &Xid) -> bool {

@@ -5,14 +5,13 @@ ghost use Rattle.xa_manager.specs.Once.{AreOnce};
 ghost use Rattle.xa_model.specs.State.{State};
 ghost use Rattle.xa_history.specs.{Status.Tells, Believed.Together.IsToldOf};
 ghost use Rattle.xa_sequencer.specs.Believed.GroupManager.{alone, pending_of};
-ghost use Rattle.xa_sequencer.specs.GroupCommits.{AsksOne};
+ghost use Rattle.xa_sequencer.specs.Manages.{AsksOne};
 ghost use Rattle.xa_sequencer.specs.Believed.Numbers.{Called, Connected, Left};
 ghost use Rattle.xa_sequencer.specs.Believed.Stands.{AllPromise, HasHistory, Stands};
 ghost use Rattle.xa_sequencer.specs.Believed.Together.{CalledTogether, Rests};
 
-use crate::beside::{answer, connect, hang_up, pending_calls};
-use crate::group_commits::GroupCommits;
-use crate::numbers::are_left;
+use crate::manages::Manages;
+use crate::numbers::{are_left, pending_calls};
 use crate::together::{hold_all, number_all};
 use std::alloc::{AllocError, Global};
 use std::fmt;
@@ -32,15 +31,15 @@ use xa_xid::Xid;
 /// entries are a legal history from there to a state that the manager stands for now. Each event that found its memory
 /// adds the one entry that it is, to whichever history the sequencer stood for. No entry is kept.
 #[derive(Drop)]
-pub struct Sequencer<M: GroupCommits, S: Start> {
+pub struct Sequencer<M: Manages, S: Start> {
     manager: M,
     pending: Option<PendingGroup>,
     count: u64,
     of: PhantomData<S>,
 }
 
-impl<M: GroupCommits, S: Start> Model for Sequencer<M, S> {
-    ghost use Rattle.xa_sequencer.specs.{GroupCommits.KeepsPending, Believed.Stands.HasHistory, Believed.Stands.Numbered};
+impl<M: Manages, S: Start> Model for Sequencer<M, S> {
+    ghost use Rattle.xa_sequencer.specs.{Manages.KeepsPending, Believed.Stands.HasHistory, Believed.Stands.Numbered};
     ghost use Rattle.xa_sequencer.specs.Believed.GroupManager.{GroupManager, HasItsGroup, pending_of};
 
     ghost Value = { Numbered (GroupManager M) };
@@ -52,7 +51,7 @@ impl<M: GroupCommits, S: Start> Model for Sequencer<M, S> {
         × KeepsPending M.manages (HasItsGroup M.is_group) (pending_of now) now s.count };
 }
 
-impl<M: GroupCommits, S: Start> Sequencer<M, S> {
+impl<M: Manages, S: Start> Sequencer<M, S> {
     /// A sequencer with an empty history.
     pub fn new(manager: M) -> Sequencer<M, S>
         requires start { (s : State) → S.start s → M.manages.stands (alone manager) s }
@@ -80,7 +79,7 @@ impl<M: GroupCommits, S: Start> Sequencer<M, S> {
         if !are_left(taken, self.manager.connected(), 2) {
             return Err(ConnectFault::Memory);
         }
-        let session = connect(&mut self.manager, &self.pending);
+        let session = self.manager.connect(&self.pending);
         if is_memory(&connect_reply(session)) {
             return session;
         }
@@ -111,7 +110,7 @@ impl<M: GroupCommits, S: Start> Sequencer<M, S> {
             }
             return Err(request);
         }
-        let reply = answer(&mut self.manager, &self.pending, session, request)?;
+        let reply = self.manager.call(&self.pending, session, request)?;
         if is_memory(&reply) {
             return Ok(reply);
         }
@@ -186,7 +185,7 @@ impl<M: GroupCommits, S: Start> Sequencer<M, S> {
         if !self.manager.is_connected(session) {
             return Some(false);
         }
-        if !hang_up(&mut self.manager, &self.pending, session) {
+        if !self.manager.hangup(&self.pending, session) {
             return None;
         }
         self.count += 1;
@@ -200,7 +199,7 @@ impl<M: GroupCommits, S: Start> Sequencer<M, S> {
     {
         Status {
             calls: self.count,
-            ..self.manager.status_beside()
+            ..self.manager.status()
         }
     }
 
@@ -209,6 +208,16 @@ impl<M: GroupCommits, S: Start> Sequencer<M, S> {
         ensures { result ≡ self.now.count }
     {
         self.count
+    }
+
+    /// The manager.
+    pub fn into_manager(self) -> M
+    where
+        M: Drop,
+        ensures { result ≡ self.now.manager }
+    {
+        let Sequencer { manager, .. } = self;
+        manager
     }
 
     /// There is a history that it stands for, and each one keeps what is promised: the committed branches read what they
@@ -224,14 +233,21 @@ impl<M: GroupCommits, S: Start> Sequencer<M, S> {
     }
 }
 
-impl<M: GroupCommits, S: Start> Sequencer<M, S> {
-    ghost use Rattle.xa_sequencer.specs.Associates.{AreSessions, IsAssociated, IsLogEnd};
+impl<M: Manages, S: Start> Sequencer<M, S> {
+    ghost use Rattle.xa_sequencer.specs.Associates.{AreSessions, IsAssociated, IsLogEnd, IsUnmarked};
 
     /// Whether a session has an association of its own.
     pub fn has_association(&self, session: u64) -> bool
         ensures { IsAssociated M.manages.stands self.now.now session result }
     {
         self.manager.has_association(session)
+    }
+
+    /// Whether a session has an association of its own with a branch that isn't marked; while the manager is down, with any.
+    pub fn has_unmarked(&self, session: u64) -> bool
+        ensures { IsUnmarked M.manages.stands self.now.now session result }
+    {
+        self.manager.has_unmarked(session)
     }
 
     /// The sessions that have an association of their own with this branch, ascending.
@@ -258,7 +274,7 @@ impl<M: GroupCommits, S: Start> Sequencer<M, S> {
 }
 
 /// Shows how many events were numbered.
-impl<M: GroupCommits, S: Start> fmt::Debug for Sequencer<M, S> {
+impl<M: Manages, S: Start> fmt::Debug for Sequencer<M, S> {
     fn fmt<W: fmt::Write>(&self, f: &mut fmt::Formatter<W>) -> fmt::Result {
         f.debug_struct("Sequencer")
             .field("count", &self.count)

@@ -6,11 +6,10 @@ use Rattle.xa_server.specs.declared.listens.Listens as listens
 use Rattle.xa_server.specs.declared.fault.ServerFault.{ServerFault}
 use Rattle.xa_server.specs.declared.fault.ServerFault.TheVariants as serving
 use Rattle.xa_server.specs.Faults.{serving_fault}
-use Rattle.xa_server.specs.Believed.Served.{AreFiles, AreLoops, HasFailedBy, NoLoops, NoWorkers, Place, Refuses, WasReady, never}
+use Rattle.xa_server.specs.Believed.Served.{AreFiles, AreLoops, HasFailedBy, NoLoops, Place, Refuses, WasReady, never}
 use Rattle.xa_server.specs.declared.serve_fault.ServeFault.{ServeFault}
 use Rattle.xa_server.specs.declared.serve_fault.ServeFault.TheVariants as fault
-use Rattle.xa_service.specs.declared.loop_service.TheConstants.{MOST_LOOPS}
-use Rattle.xa_service.specs.declared.service.TheConstants.{MOST_WORKERS}
+use Rattle.xa_service.specs.declared.service.TheConstants.{MOST_LOOPS}
 
 -- it failed on the files at a path
 pub failed_on_files : {D R : Type 0} (disks : disk.Ghosts D) (opened : D → List ℕ → Type 0)
@@ -53,17 +52,6 @@ failed_early disks opened refused net log_bytes place late (fault.Stray log_file
 failed_early disks opened refused net log_bytes place late (fault.Damaged log_file number at) h = h
 failed_early disks opened refused net log_bytes place late (fault.Manager e) h = h
 
--- all was ready, and its sessions weren't served by workers
-pub failed_when_ready : {D R : Type 0} (disks : disk.Ghosts D) (opened : D → List ℕ → Type 0)
-    (refused : List ℕ → FileFault → Type 0) (net : listens.Ghosts R) (log_bytes : ℕ) (place : Place) (workers : ℕ)
-    (why : ServerFault)
-    → WasReady disks opened net log_bytes place
-    → (why ≡ serving.Memory) ⊎ (why ≡ serving.Workers workers)
-    → (why ≡ serving.Workers workers → (workers ≡ 0) ⊎ (MOST_WORKERS < workers))
-    → HasFailedBy disks opened refused net log_bytes place (NoWorkers workers) (serving_fault why)
-failed_when_ready disks opened refused net log_bytes place workers why ready (inl memory) none = rw memory tt
-failed_when_ready disks opened refused net log_bytes place workers why ready (inr is) none = rw is (ready, none is)
-
 -- a number of loops that is none is more than there may be
 too_many : (asked loops : ℕ) → AreLoops asked loops → (loops ≡ 0) ⊎ (MOST_LOOPS < loops) → MOST_LOOPS < asked
 too_many zero loops are (inl none) = absurd (omega (arith, are.0, none))
@@ -84,3 +72,12 @@ loops_failed disks opened refused net log_bytes place asked loops why ready are 
 loops_failed disks opened refused net log_bytes place asked loops why ready are (inr (inr (inl write))) none = rw write ready
 loops_failed disks opened refused net log_bytes place asked loops why ready are (inr (inr (inr is))) none =
     rw is (ready, too_many asked loops are (none is))
+
+-- all was ready, and what is told in the end couldn't be printed
+pub tell_failed : {D R : Type 0} (disks : disk.Ghosts D) (opened : D → List ℕ → Type 0)
+    (refused : List ℕ → FileFault → Type 0) (net : listens.Ghosts R) (log_bytes : ℕ) (place : Place)
+    (late : ServeFault → Type 0) (why : ServeFault)
+    → WasReady disks opened net log_bytes place → (why ≡ fault.Memory) ⊎ (why ≡ fault.Write)
+    → HasFailedBy disks opened refused net log_bytes place late why
+tell_failed disks opened refused net log_bytes place late why ready (inl memory) = rw memory tt
+tell_failed disks opened refused net log_bytes place late why ready (inr write) = rw write ready

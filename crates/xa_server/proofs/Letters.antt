@@ -13,7 +13,7 @@ use Rattle.xa_handles.specs.declared.letter.Content.{Content}
 use Rattle.xa_handles.specs.declared.letter.Content.TheVariants.{Answered, Posted}
 use Rattle.xa_model.specs.State.{State}
 use Rattle.xa_model.specs.declared.event.Event.TheVariants.{Call}
-use Rattle.xa_history.specs.declared.manages.Manages.{Ghosts}
+use Rattle.xa_history.specs.Believed.Manages.{Behaviour}
 use Rattle.xa_tokens.specs.Believed.Account.{Account, Owes}
 use Rattle.xa_tokens.specs.Believed.Receipts.{IsInOrder}
 use Rattle.xa_tokens.specs.declared.ask.Ask.{Ask}
@@ -34,7 +34,7 @@ owes_ended_too is_none a before b ask reply (inl now) ends owes =
 owes_ended_too is_none a before b ask reply (inr posted) ends owes =
     (posted.1, owes_ended is_none before b ask reply posted.1 ends (subst (λ (x : Account). Owes x (posted.1 + 1)) (sym posted.0) posted.2))
 
-module _ {M : Type 0} (m : Ghosts M) (start : State → Type 0) (base : ℕ × ℕ) where
+module _ {M : Type 0} (m : Behaviour M) (start : State → Type 0) (base : ℕ × ℕ) where
   -- some number behind a call, too
   pub owes_called : (session : ℕ) (a : Account) (request : Request) (reply : Reply) (b : Account) → OwesSome a
       → CalledBy m start base session a request reply b → OwesSome b

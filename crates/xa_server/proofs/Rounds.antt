@@ -12,7 +12,7 @@ use Rattle.xa_reactor.specs.declared.ask.Ask.{Ask}
 use Rattle.xa_reactor.specs.Asking.{HasRequest, IsAnswered, Tells, TellsAll, TellsEach, TellsOne, TellsSome}
 use Rattle.xa_reactor.proofs.Asking.{all_left_true}
 use Rattle.xa_model.specs.State.{State}
-use Rattle.xa_history.specs.declared.manages.Manages.{Ghosts}
+use Rattle.xa_history.specs.Believed.Manages.{Behaviour}
 use Rattle.xa_server.specs.Believed.Loops.{Called}
 use Rattle.xa_server.specs.Rounds.{IsWithin, TakesBack, TellsAtMost}
 use Rattle.xa_tokens.specs.Believed.Account.{Account}
@@ -118,7 +118,7 @@ TellsBy d f called asks told e = TellsSome (λ s x q r y. called s (f x) q r (f 
 
 -- ---- letters that come back
 
-module _ {M : Type 0} (m : Ghosts M) (start : State → Type 0) (base : ℕ × ℕ) where
+module _ {M : Type 0} (m : Behaviour M) (start : State → Type 0) (base : ℕ × ℕ) where
   pub takes_none : (asks : List Ask) (a : Account) → TakesBack m start base a asks asks a
   takes_none asks a = record { some = tells_none (Called m start base) asks a; asked = refl }
 

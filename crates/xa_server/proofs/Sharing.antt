@@ -18,7 +18,7 @@ use Rattle.xa_reactor.specs.declared.loops.Ended.{Ended}
 use Rattle.xa_reactor.specs.Believed.Tending.{Does, DoesOrPosts, HaveTended, Table, nobody}
 use Rattle.xa_reactor.proofs.Doing.{does_keep}
 use Rattle.xa_reactor.proofs.Parts.{has_tended_by}
-use Rattle.xa_history.specs.declared.manages.Manages.{Ghosts}
+use Rattle.xa_history.specs.Believed.Manages.{Behaviour}
 use Rattle.xa_server.specs.Believed.Loops.{AllLoop, Called, Connected, HasLooped, IsFresh, Left, Posted}
 use Rattle.xa_tokens.specs.Believed.Account.{Account, Owes}
 use Rattle.xa_tokens.specs.declared.ask.Ask.{Ask}
@@ -53,7 +53,7 @@ parts_asked : (a : Account) (ask : Ask) (b : Account) → HasAsked a ask b → b
 parts_asked a ask b (inl h) = ap (λ (x : Account). x.parts) h.1
 parts_asked a ask b (inr h) = ap (λ (x : Account). x.parts) h.0
 
-module _ {M : Type 0} (m : Ghosts M) (start : State → Type 0) (base : ℕ × ℕ) where
+module _ {M : Type 0} (m : Behaviour M) (start : State → Type 0) (base : ℕ × ℕ) where
   parts_called : (session : ℕ) (a : Account) (question : Question) (reply : Reply) (b : Account)
       → Called m start base session a question reply b → b.parts ≡ a.parts
   parts_called session a (Call request) reply b h =

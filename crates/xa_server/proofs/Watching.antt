@@ -11,7 +11,7 @@ use Rattle.xa_handles.specs.Believed.Accounts.{AsksAtOnce, Ends, HasAsked}
 use Rattle.xa_handles.specs.Owing.{owes_asked, owes_ended}
 use Rattle.xa_handles.specs.Believed.Shared.{CalledBy}
 use Rattle.xa_handles.specs.Believed.Standing.{shown}
-use Rattle.xa_history.specs.declared.manages.Manages.{Ghosts}
+use Rattle.xa_history.specs.Believed.Manages.{Behaviour}
 use Rattle.xa_history.specs.declared.receipt.Receipt as entry
 use Rattle.xa_model.specs.State.{State}
 use Rattle.xa_model.specs.declared.event.Event.{Event}
@@ -42,7 +42,7 @@ told_asked : (old before : Account) (ask : Ask) → HasAsked old ask before → 
 told_asked old before ask (inl h) = ap (λ (a : Account). seen_of a.told) h.1
 told_asked old before ask (inr h) = ap (λ (a : Account). seen_of a.told) h.0
 
-pub seen_called : {M : Type 0} (m : Ghosts M) (start : State → Type 0) (base : ℕ × ℕ) (session : ℕ) (old : Account) (request : Request)
+pub seen_called : {M : Type 0} (m : Behaviour M) (start : State → Type 0) (base : ℕ × ℕ) (session : ℕ) (old : Account) (request : Request)
     (reply : Reply) (new : Account) → CalledBy m start base session old request reply new
     → seen_of new.told ≡ after_reply (seen_of old.told) (is_restart request) reply
 seen_called m start base session old request reply new h =
@@ -60,7 +60,7 @@ seen_at_once false old new event reply h none =
     ∙ (seen_more unseen old.told _ ∙ ap (λ (n : Option Bool). after_told (seen_of old.told) reply.place n) none)
 
 -- what a loop has seen once the reply is, by what it had seen before the call
-pub seen_then : {M : Type 0} (m : Ghosts M) (start : State → Type 0) (base : ℕ × ℕ) (session : ℕ) (old : Account) (request : Request)
+pub seen_then : {M : Type 0} (m : Behaviour M) (start : State → Type 0) (base : ℕ × ℕ) (session : ℕ) (old : Account) (request : Request)
     (reply : Reply) (new : Account) (before after : Seen) (restarts : Bool) → CalledBy m start base session old request reply new
     → before ≡ seen_of old.told → restarts ≡ is_restart request → after ≡ after_reply before restarts reply → after ≡ seen_of new.told
 seen_then m start base session old request reply new before after restarts called kept is saw =
@@ -70,7 +70,7 @@ seen_then m start base session old request reply new before after restarts calle
     ∙ sym (seen_called m start base session old request reply new called)))
 
 -- who owed nothing owes nothing behind a call
-pub called_owes : {M : Type 0} (m : Ghosts M) (start : State → Type 0) (base : ℕ × ℕ) (session : ℕ) (old : Account) (request : Request)
+pub called_owes : {M : Type 0} (m : Behaviour M) (start : State → Type 0) (base : ℕ × ℕ) (session : ℕ) (old : Account) (request : Request)
     (reply : Reply) (new : Account) → CalledBy m start base session old request reply new → Owes old 0 → Owes new 0
 called_owes m start base session old request reply new h owes =
     owes_ended (is_memory reply.detail) h.before new h.ask reply 0 h.ends (owes_asked old h.before h.ask h.asked owes)

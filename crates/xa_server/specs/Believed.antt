@@ -2,5 +2,6 @@
 pub mod Served
 pub mod Serves
 pub mod Loops
+pub mod Audits
 pub mod Watching
 pub mod Moments

@@ -26,7 +26,6 @@ opening_fault fault = Manager fault
 -- why its sessions weren't served
 abbrev pub serving_fault : ServerFault → ServeFault
 serving_fault serving.Memory = Memory
-serving_fault (serving.Workers n) = Start
 serving_fault (serving.Loops n) = Start
 serving_fault serving.Wait = Wait
 serving_fault serving.Write = Write

@@ -2,5 +2,6 @@ pub mod Believed
 pub mod Faults
 pub mod Lines
 pub mod Logging
+pub mod Reports
 pub mod Rounds
 pub mod Settled

@@ -10,11 +10,11 @@ use Rattle.xa_manager.specs.Believed.Answered.{connect_reply}
 use Rattle.xa_model.specs.State.{State}
 use Rattle.xa_model.specs.declared.event.Event.TheVariants.{Connect, Hangup}
 use Rattle.xa_reactor.specs.Reception.{KeepsSettled}
-use Rattle.xa_history.specs.declared.manages.Manages.{Ghosts}
+use Rattle.xa_history.specs.Believed.Manages.{Behaviour}
 use Rattle.xa_server.specs.Believed.Loops.{Called, Connected, Left}
 use Rattle.xa_tokens.specs.Believed.Account.{Account, Owes}
 
-module _ {M : Type 0} (m : Ghosts M) (start : State → Type 0) (base : ℕ × ℕ) where
+module _ {M : Type 0} (m : Behaviour M) (start : State → Type 0) (base : ℕ × ℕ) where
   called_settled : (session : ℕ) (a : Account) (q : Question) (reply : Reply) (b : Account) → Called m start base session a q reply b
       → Owes a 0 → Owes b 0
   called_settled session a (question.Call request) reply b h owes =

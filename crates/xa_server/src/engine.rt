@@ -1,14 +1,15 @@
 ghost use Rattle.std.specs.Prelude.{◌≡◌, ◌↔◌, ◌+◌, ◌<◌, ◌≤◌, ◌⊎◌, ℕ, List, IfErr, IfOk, IsErrOf, length, map, sum_by};
 ghost use Rattle.xa_model.specs.State.{State};
 ghost use Rattle.std.specs.List.{AllByRecursion};
-ghost use Rattle.xa_server.specs.Believed.Loops.{AllLoop, IsFresh, ServesByLoops, told_by};
+ghost use Rattle.xa_server.specs.Believed.Loops.{AllLoop, IsFresh, ServesByLoops, ServesTo, told_by};
 ghost use Rattle.xa_server.specs.Believed.Watching.{IsSeenLast};
 ghost use Rattle.xa_sequencer.specs.Believed.GroupManager.{alone};
-ghost use Rattle.xa_service.specs.declared.loop_service.TheConstants.{MOST_LOOPS};
+ghost use Rattle.xa_service.specs.declared.service.TheConstants.{MOST_LOOPS};
 ghost use Rattle.xa_tokens.specs.Believed.Account.{Account, Owes};
 ghost use Rattle.xa_tokens.specs.Believed.Receipts.{AreSame};
 
 use crate::fault::ServerFault;
+use crate::keeping::{Keeps, Nothing};
 use crate::post::Post;
 use std::alloc::{AllocError, Global};
 use std::io::Print;
@@ -20,7 +21,7 @@ use std::thread::Threads;
 use xa_handles::{SharedSequencer, Tally};
 use xa_history::Start;
 use xa_reactor::{Ended, Listener, LoopFault, Seen, Settings, Watch, run_loops};
-use xa_sequencer::{GroupCommits, Sequencer};
+use xa_sequencer::{Manages, Sequencer};
 use xa_service::MOST_LOOPS;
 use xa_tokens::{Book, Opened, Share};
 
@@ -47,7 +48,7 @@ pub struct Looped {
 /// entry was told to one loop, once, for what that asked of a session that it connected, answered and hung up; and no loop
 /// was told anything else.
 pub fn loop_manager<
-    M: GroupCommits + Send + Drop,
+    M: Manages + Send + Drop,
     R: AllocGlobal + Clock + Print + Eprint + Net + Threads + Wait + Sync,
 >(
     rt: &R,
@@ -67,15 +68,20 @@ pub fn loop_manager<
         return Err(ServerFault::Loops(loops));
     }
     let opened = Opened::new(rt.alloc())?;
-    loop_by::<M, Brand, Brand, R>(rt, listener, manager, opened, loops, settings)
+    let (told, _, _) = loop_by::<M, Brand, Brand, R, Nothing>(
+        rt, listener, manager, opened, loops, settings, Nothing,
+    )?;
+    Ok(told)
 }
 
-// The same by so many loops, from the states that `S` picks, with the history that `B` names.
-fn loop_by<
-    M: GroupCommits + Send + Drop,
+/// The same by so many loops, from the states that `S` picks, with the history that `B` names. Gives back the manager, and what
+/// the loops kept.
+pub(crate) fn loop_by<
+    M: Manages + Send + Drop,
     S: Start + Send + Sync,
     B: Book + Send + Sync,
     R: AllocGlobal + Clock + Print + Eprint + Net + Threads + Wait + Sync,
+    K: Keeps + Send,
 >(
     rt: &R,
     listener: Listener,
@@ -83,13 +89,14 @@ fn loop_by<
     opened: Opened,
     loops: u64,
     settings: Settings,
-) -> Result<Looped, ServerFault>
+    keeper: K,
+) -> Result<(Looped, M, K), ServerFault>
     requires start { (s : State) → S.start s → M.manages.stands (alone manager) s }
     requires base { M.manages.failures (alone manager) ≡ S.base }
     requires name { opened ≡ B.table }
     requires loops { (0 < loops) × (loops ≤ MOST_LOOPS) }
-    ensures served { IfOk result (λ told. ServesByLoops M.manages S.start S.base loops told) }
-    ensures settings { IfOk result (λ told. told.settings ≡ settings) }
+    ensures served { IfOk result (λ made. ServesTo M.manages S.start S.base loops made.0 made.1) }
+    ensures settings { IfOk result (λ made. made.0.settings ≡ settings) }
     ensures fault { IfErr result (λ fault. (fault ≡ ServerFault.Memory) ⊎ ((fault ≡ ServerFault.Wait)
         ⊎ (fault ≡ ServerFault.Write))) }
 {
@@ -97,22 +104,32 @@ fn loop_by<
     let (shared, share) = SharedSequencer::<M, S, B>::new(rt.alloc(), sequencer, opened);
     let watch = Watch::new();
     let tallies = make_tallies(rt.alloc(), loops)?;
-    let posts = make_posts(rt, &shared, &watch, tallies.as_slice(), share, loops)?;
+    let posts = make_posts(
+        rt,
+        &shared,
+        &watch,
+        tallies.as_slice(),
+        share,
+        loops,
+        keeper,
+    )?;
     let (ran, settings) = run_posts(rt, listener, &shared, &watch, posts, settings)?;
     let Gathered {
         share,
         is_whole,
         seen,
+        keeper,
     } = ran;
     let sequencer = shared.into_sequencer(share);
     sequencer.promises();
-    Ok(Looped {
+    let told = Looped {
         calls: sequencer.count(),
         is_whole,
         is_down: seen.is_down(),
         ended_down: watch.has_ended(),
         settings,
-    })
+    };
+    Ok((told, sequencer.into_manager(), keeper))
 }
 
 // What each loop counts: nothing yet.
@@ -127,14 +144,15 @@ fn make_tallies(alloc: Global, loops: u64) -> Result<Vec<Tally>, AllocError>
 }
 
 // A post for each loop. Its share has one part, and the last one's what is left.
-fn make_posts<'a, M: GroupCommits, S: Start, B: Book, R: AllocGlobal + Clock + Wait>(
+fn make_posts<'a, M: Manages, S: Start, B: Book, R: AllocGlobal + Clock + Wait, K: Keeps>(
     rt: &'a R,
     sequencer: &'a SharedSequencer<M, S, B>,
     watch: &'a Watch,
     tallies: &'a [Tally],
     share: Share<B>,
     loops: u64,
-) -> Result<Vec<Post<'a, M, S, B, R>>, AllocError>
+    keeper: K,
+) -> Result<Vec<Post<'a, M, S, B, R, K>>, AllocError>
     requires tallies { length tallies.now ≡ loops }
     requires parts { (0 < loops) × (loops ≤ share.parts) }
     requires fresh { IsFresh share }
@@ -147,34 +165,39 @@ fn make_posts<'a, M: GroupCommits, S: Start, B: Book, R: AllocGlobal + Clock + W
     let mut posts = Vec::new(alloc);
     for i in 1..loops {
         let one = sequencer.split(&mut rest);
-        posts.push(Post::new(rt, sequencer, watch, tallies, i as usize, one, alloc)?)?;
+        let another = keeper.another();
+        posts.push(Post::new(
+            rt, sequencer, watch, tallies, i as usize, one, another, alloc,
+        )?)?;
     }
-    posts.push(Post::new(rt, sequencer, watch, tallies, 0, rest, alloc)?)?;
+    posts.push(Post::new(rt, sequencer, watch, tallies, 0, rest, keeper, alloc)?)?;
     Ok(posts)
 }
 
-// What loops have that ended: their shares as one, whether each could wait to its end, and what they have seen together.
+// What loops have that ended: their shares as one, whether each could wait to its end, and what they have seen and kept together.
 #[derive(Drop)]
-pub(crate) struct Gathered<B: Book> {
+pub(crate) struct Gathered<B: Book, K> {
     share: Share<B>,
     is_whole: bool,
     seen: Seen,
+    keeper: K,
 }
 
 // Runs a loop at each post. What they have as they end, and what was asked of them.
 fn run_posts<
-    M: GroupCommits + Send,
+    M: Manages + Send,
     S: Start + Send + Sync,
     B: Book + Send + Sync,
     R: AllocGlobal + Clock + Print + Eprint + Net + Threads + Wait + Sync,
+    K: Keeps + Send,
 >(
     rt: &R,
     listener: Listener,
     sequencer: &SharedSequencer<M, S, B>,
     watch: &Watch,
-    posts: Vec<Post<'_, M, S, B, R>>,
+    posts: Vec<Post<'_, M, S, B, R, K>>,
     settings: Settings,
-) -> Result<(Gathered<B>, Settings), LoopFault>
+) -> Result<(Gathered<B, K>, Settings), LoopFault>
     requires some { 0 < length posts.items }
     requires fresh { AllByRecursion IsFresh (map (λ p. p.handle.asker) posts.items) }
     ensures parts { IfOk result (λ all. all.0.share.parts ≡ sum_by (λ p. p.handle.asker.parts) posts.entry.items) }
@@ -191,10 +214,10 @@ fn run_posts<
 }
 
 // What loops have that ended.
-fn gather<M: GroupCommits, S: Start, B: Book, R: Clock + Wait>(
+fn gather<M: Manages, S: Start, B: Book, R: Clock + Wait, K: Keeps>(
     sequencer: &SharedSequencer<M, S, B>,
-    ended: Vec<Ended<Post<'_, M, S, B, R>>>,
-) -> Gathered<B>
+    ended: Vec<Ended<Post<'_, M, S, B, R, K>>>,
+) -> Gathered<B, K>
     requires some { 0 < length ended.items }
     requires settled { AllByRecursion (λ e. Owes e.door.handle.asker 0) ended.items }
     ensures parts { result.share.parts ≡ sum_by (λ e. e.door.handle.asker.parts) ended.entry.items }
@@ -213,7 +236,7 @@ fn gather<M: GroupCommits, S: Start, B: Book, R: Clock + Wait>(
     else {
         unreachable!()
     };
-    let (mut share, mut seen) = door.into_parts();
+    let (mut share, mut seen, mut keeper) = door.into_parts();
     while let Some(
         Ended {
             door,
@@ -222,8 +245,9 @@ fn gather<M: GroupCommits, S: Start, B: Book, R: Clock + Wait>(
         },
     ) = ended.pop()
     {
-        let (other, also) = door.into_parts();
+        let (other, also, kept) = door.into_parts();
         sequencer.merge(&mut share, other);
+        keeper = keeper.join(kept);
         seen = seen.with(also);
         is_whole = is_whole && more;
     }
@@ -231,5 +255,6 @@ fn gather<M: GroupCommits, S: Start, B: Book, R: Clock + Wait>(
         share,
         is_whole,
         seen,
+        keeper,
     }
 }

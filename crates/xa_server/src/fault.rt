@@ -5,18 +5,14 @@ ghost use Rattle.xa_server.specs.Faults.{loop_fault};
 use std::alloc::AllocError;
 use thiserror::Error;
 use xa_reactor::LoopFault;
-use xa_service::{MOST_LOOPS, MOST_WORKERS};
-use xa_workers::WorkFault;
+use xa_service::MOST_LOOPS;
 
 /// Why nothing is told of what was served.
 #[derive(Clone, Copy, Debug, PartialEq, Eq, Error)]
 pub enum ServerFault {
-    /// There was no memory for the room, the workers or the audit, for the loops, or for a reply, of which nobody was told.
+    /// There was no memory for the loops, for the audit, or for a reply, of which nobody was told.
     #[error("no memory")]
     Memory,
-    /// So many workers: not 1 to `MOST_WORKERS`. Nobody was served.
-    #[error("{0} workers, not 1 to {most}", most = MOST_WORKERS)]
-    Workers(u64),
     /// So many loops: not 1 to `MOST_LOOPS`. Nobody was served.
     #[error("{0} loops, not 1 to {most}", most = MOST_LOOPS)]
     Loops(u64),
@@ -33,16 +29,6 @@ impl From<AllocError> for ServerFault {
 
     fn from(_: AllocError) -> ServerFault {
         ServerFault::Memory
-    }
-}
-
-impl From<WorkFault> for ServerFault {
-    ghost from_gives = { λ _ fault. fault ≡ Memory };
-
-    fn from(fault: WorkFault) -> ServerFault {
-        match fault {
-            WorkFault::Memory => ServerFault::Memory,
-        }
     }
 }
 

@@ -48,7 +48,7 @@ impl fmt::Display for ServeFault<'_> {
             ServeFault::Memory => f.write_str("no memory"),
             ServeFault::Write => f.write_str("cannot write"),
             ServeFault::Listen => f.write_str("cannot listen"),
-            ServeFault::Start => f.write_str("cannot start workers"),
+            ServeFault::Start => f.write_str("cannot start loops"),
             ServeFault::Wait => f.write_str("cannot wait for connections"),
             ServeFault::InUse => f.write_str("log in use"),
             ServeFault::File { file, fault } => write_unopened(f, file, fault),
@@ -108,7 +108,7 @@ impl From<ServerFault> for ServeFault<'_> {
         match fault {
             ServerFault::Memory => ServeFault::Memory,
             // the command line takes no such number
-            ServerFault::Workers(_) | ServerFault::Loops(_) => ServeFault::Start,
+            ServerFault::Loops(_) => ServeFault::Start,
             ServerFault::Wait => ServeFault::Wait,
             ServerFault::Write => ServeFault::Write,
         }

@@ -1,134 +1,193 @@
-ghost use Rattle.std.specs.Prelude.{◌≡◌, ◌↔◌, ◌+◌, ◌<◌, ◌⊎◌, ℕ, IfErr, IfOk, IsErrOf, false, length, vec_len};
-ghost use Rattle.std.specs.declared.marker.Brand.{Brand};
-ghost use Rattle.xa_model.specs.State.{State};
-ghost use Rattle.xa_room.specs.Gone.{WasGone};
-ghost use Rattle.xa_server.specs.Believed.Serves.{Serves, Tells};
-ghost use Rattle.xa_service.specs.declared.service.TheConstants.{MOST_WORKERS};
-ghost use Rattle.xa_workers.specs.Connections.{Runs};
+//! A manager over two files, whose sessions are the connections of a port, a Unix socket or both, by event loops.
+ghost use Rattle.std.specs.Prelude.{◌≡◌, ◌↔◌, ◌&&◌, ◌||◌, ◌<◌, ◌⊎◌, IfErr, IfOk, IsErrOf, is_some, not};
+ghost use Rattle.xa_server.specs.Believed.Served.{AreLoops, HasFailed, HasServed, ServesAs, is_sound};
+ghost use Rattle.xa_service.specs.declared.service.TheConstants.{MOST_LOOPS};
 
-use crate::audited::Audited;
+use crate::audited::{Audited, audited_lines};
+use crate::engine::{Looped, loop_manager};
 use crate::fault::ServerFault;
-use std::alloc::Global;
-use std::marker::Brand;
-use std::net::TcpListener;
+use crate::gate::OpenGate;
+use crate::listening::Listening;
+use crate::listens::Listens;
+use crate::ready::{make_ready, tell_passed_over};
+use crate::serve_fault::ServeFault;
+use crate::workers::run_workers;
+use std::io;
+use std::io::{Eprint, Print};
+use std::net::{IpAddr, Net};
 use std::rt::Clock;
 use std::sync::Wait;
-use std::sync::ledger::{Blank, Book, Ledger};
-use std::thread::Threads;
-use xa_history::{Manages, Start};
-use xa_room::{AuditFault, Desk, Room, agree, audit};
-use xa_service::MOST_WORKERS;
-use xa_workers::{OpenGate, Report, run_workers};
+use std::thread::{Threads, available_parallelism};
+use xa_disk::{Disk, Opens};
+use xa_manager::Manager;
+use xa_reactor::{Listener, Settings};
+use xa_service::{At, Service};
 
-/// Serves the sessions of a manager: by so many workers, 1 to `MOST_WORKERS`, until so many connections were taken. A
-/// worker serves one connection at a time. Then it tells how many entries the history has, how many of their receipts
-/// found no memory, and what the audit of the others found.
+/// Opens the log's two files, listens, and opens the manager; then it serves by loops, until they end, and audits the history if
+/// that was asked for. False where the audit found a fault, or where a server that is down was to end, and the manager is down
+/// then, or the loops ended since it was.
 ///
-/// From whichever state the manager stood for, the history is a legal one of so many entries; its committed branches
-/// are one copy; and what was answered as prepared is listed until its completion is asked for. The receipts are those
-/// of the connections that the workers served, one for each entry that isn't told as dropped.
-pub fn serve_manager<M: Manages + Send + Drop, R: AllocGlobal + Clock + Threads + Wait + Sync>(
-    rt: &R,
-    listener: &TcpListener,
-    manager: M,
-    workers: u64,
-    connections: u64,
-) -> Result<Audited, ServerFault>
-    ensures served { IfOk result (λ told. Serves Brand M.Manages (M.stands manager) (M.failures manager)
-        workers told) }
-    ensures workers { IsErrOf result (ServerFault.Workers workers) ↔ ((workers ≡ 0) ⊎ (MOST_WORKERS < workers)) }
-    ensures fault { IfErr result (λ fault. (fault ≡ ServerFault.Memory) ⊎ (fault ≡ ServerFault.Workers workers)) }
+/// Nobody is answered before the manager is open. Where the port or the path can't be had, or a file of the log is missing or is none,
+/// the manager isn't opened, so that nothing is written to either file.
+pub fn serve<
+    'a,
+    R: AllocGlobal + Print + Eprint + Opens + Listens + Clock + Net + Threads + Wait + Sync,
+>(rt: &R, service: &Service<'a>) -> Result<bool, ServeFault<'a>>
+    ensures served { IfOk result (HasServed ⟦<R::Disk as Disk>⟧ R.opened R.Listens
+        service.now) }
+    ensures failed { IfErr result (HasFailed ⟦<R::Disk as Disk>⟧ R.opened R.refused R.Listens
+        service.now) }
 {
-    // the parts of the ledger, of which each worker takes some
-    let blank = Blank::new(MOST_WORKERS);
-    serve_by::<M, Brand, Brand, R>(rt, listener, manager, blank, workers, connections)
+    warn(rt, service.at);
+    let mut left = None;
+    let (listening, manager) = make_ready(
+        rt,
+        service.path,
+        service.name,
+        service.at,
+        service.log_bytes,
+        &mut left,
+    )?;
+    tell_passed_over(rt, service.path, left);
+    let Ok(listener) = unblocked(listening) else {
+        return Err(ServeFault::Wait);
+    };
+    let loops = loops_of(rt, service.loops);
+    let settings = Settings {
+        connections: service.connections,
+        frame_seconds: service.frame_seconds,
+        idle_seconds: service.idle_seconds,
+        branch_seconds: service.branch_seconds,
+        ends_when_down: service.ends_when_down,
+        trim_bytes: service.trim_bytes,
+        log_bytes: service.log_bytes,
+        tick_seconds: service.tick_seconds,
+    };
+    let (told, audited) = serve_by(rt, listener, manager, loops, settings, service.audits)?;
+    if !told.is_whole {
+        return Err(ServeFault::Wait);
+    }
+    tell(rt, told.calls, audited)?;
+    Ok(is_well(
+        service.ends_when_down,
+        told.is_down,
+        told.ended_down,
+        audited,
+    ))
 }
 
-// The same from the states that `S` picks, with the ledger that `L` picks.
+// Serves by loops, with an audit or without.
 fn serve_by<
-    M: Manages + Send + Drop,
-    S: Start + Send + Sync,
-    L: Ledger + Send + Sync,
-    R: AllocGlobal + Clock + Threads + Wait + Sync,
+    D: Disk + Drop + Send,
+    R: AllocGlobal + Clock + Print + Eprint + Net + Threads + Wait + Sync,
 >(
     rt: &R,
-    listener: &TcpListener,
-    manager: M,
-    blank: Blank,
-    workers: u64,
-    connections: u64,
-) -> Result<Audited, ServerFault>
-    requires start { (s : State) → S.start s → M.stands manager s }
-    requires base { M.failures manager ≡ S.base }
-    requires name { blank.name ≡ L.name }
-    requires parts { (blank.parts ≡ L.parts) × (blank.parts ≡ MOST_WORKERS) }
-    ensures served { IfOk result (λ told. Serves L M.Manages S.start S.base workers told) }
-    ensures workers { IsErrOf result (ServerFault.Workers workers) ↔ ((workers ≡ 0) ⊎ (MOST_WORKERS < workers)) }
-    ensures fault { IfErr result (λ fault. (fault ≡ ServerFault.Memory) ⊎ (fault ≡ ServerFault.Workers workers)) }
+    listener: Listener,
+    manager: Manager<D>,
+    loops: u64,
+    settings: Settings,
+    audits: bool,
+) -> Result<(Looped, Option<Audited>), ServerFault>
+    ensures served { IfOk result (λ told. ServesAs D.Disk manager loops told.0 told.1) }
+    ensures audits { IfOk result (λ told. is_some told.1 ≡ audits) }
+    ensures settings { IfOk result (λ told. told.0.settings ≡ settings) }
+    ensures loops { IsErrOf result (ServerFault.Loops loops) ↔ ((loops ≡ 0) ⊎ (MOST_LOOPS < loops)) }
+    ensures fault { IfErr result (λ fault. (fault ≡ ServerFault.Memory) ⊎ ((fault ≡ ServerFault.Wait)
+        ⊎ ((fault ≡ ServerFault.Write) ⊎ (fault ≡ ServerFault.Loops loops)))) }
 {
-    if workers == 0 || workers > MOST_WORKERS {
-        return Err(ServerFault::Workers(workers));
+    if audits {
+        match run_workers(rt, listener, manager, &OpenGate, loops, settings) {
+            Ok(done) => Ok((done.looped, Some(done.audited))),
+            Err(fault) => Err(fault),
+        }
+    } else {
+        match loop_manager(rt, listener, manager, loops, settings) {
+            Ok(told) => Ok((told, None)),
+            Err(fault) => Err(fault),
+        }
     }
-    let room: Room<M, S> = Room::new(rt.alloc(), manager)?;
-    let (desk, share) = Desk::<M, S, L>::new(room, blank);
-    let report = run_workers(
-        rt,
-        rt.alloc(),
-        listener,
-        &desk,
-        &OpenGate,
-        share,
-        workers,
-        connections,
-    )?;
-    let (room, book) = desk.into_room();
-    audited(rt.alloc(), &room, book, report)
 }
 
-// What is told of the room's history, by the workers' report.
-fn audited<M: Manages, S: Start, L: Ledger>(
-    alloc: Global,
-    room: &Room<M, S>,
-    book: Book<L>,
-    report: Report<L>,
-) -> Result<Audited, ServerFault>
-    requires parts { report.share.parts ≡ L.parts }
-    requires total { book.total ≡ length room.now.entries }
-    requires count { report.share.count ≡ vec_len report.receipts + report.dropped }
-    ensures served { (workers : ℕ) → Runs (WasGone M.Manages S.start) workers report
-        → IfOk result (λ told. Serves L M.Manages S.start S.base workers told) }
-    ensures told { IfOk result (λ told. Tells room.now.entries report told) }
-    ensures fault { IfErr result (λ fault. fault ≡ ServerFault.Memory) }
+// Prints how many events there were, and what their audit found, if there was one.
+fn tell<'a, R: AllocGlobal + Print>(
+    rt: &R,
+    calls: u64,
+    audited: Option<Audited>,
+) -> Result<(), ServeFault<'a>>
+    ensures { IfErr result (λ fault. (fault ≡ ServeFault.Memory) ⊎ (fault ≡ ServeFault.Write)) }
 {
-    room.promises();
-    let entries = room.entries();
-    let Report {
-        mut share,
-        receipts,
-        dropped,
-    } = report;
-    let mut book = book;
-    agree(&mut book, &mut share);
-    let mut shares = Vec::new(alloc);
-    if shares.push(share).is_err() {
-        return Err(ServerFault::Memory);
+    let printed = match audited {
+        Some(audited) => {
+            let lines = audited_lines(rt.alloc(), audited)?;
+            print!(rt; "{lines}")
+        }
+        None => println!(rt; "calls {calls}"),
+    };
+    match printed {
+        Ok(()) => Ok(()),
+        Err(_) => Err(ServeFault::Write),
     }
-    let answer = audit(alloc, room, receipts.as_slice(), shares.as_slice());
-    if is_memory(&answer) {
-        return Err(ServerFault::Memory);
-    }
-    Ok(Audited {
-        calls: entries.len() as u64,
-        dropped,
-        is_whole: answer.is_ok(),
-    })
 }
 
-fn is_memory(answer: &Result<(), AuditFault>) -> bool
-    ensures { result ≡ false → IsErrOf answer.now AuditFault.Memory → ⊥ }
+// Unless a server that is down was to end, and the manager is down, or the loops ended since it was; or an audit found a fault.
+fn is_well(ends_when_down: bool, is_down: bool, ended_down: bool, audited: Option<Audited>) -> bool
+    ensures { result ≡ (not (ends_when_down && (is_down || ended_down)) && is_sound audited) }
 {
-    match answer {
-        Err(AuditFault::Memory) => true,
-        _ => false,
+    let is_sound = match audited {
+        Some(audited) => audited.is_whole,
+        None => true,
+    };
+    !(ends_when_down && (is_down || ended_down)) && is_sound
+}
+
+// The same listener, whose accepts don't wait.
+fn unblocked(listening: Listening) -> io::Result<Listener> {
+    match listening {
+        Listening::Tcp(listener) => {
+            listener.set_nonblocking(true)?;
+            Ok(Listener::Tcp(mio::net::TcpListener::from_std(listener)))
+        }
+        Listening::Unix(listener) => {
+            listener.set_nonblocking(true)?;
+            Ok(Listener::Unix(mio::net::UnixListener::from_std(listener)))
+        }
+        Listening::Both(tcp, unix) => {
+            tcp.set_nonblocking(true)?;
+            unix.set_nonblocking(true)?;
+            Ok(Listener::Both(
+                mio::net::TcpListener::from_std(tcp),
+                mio::net::UnixListener::from_std(unix),
+            ))
+        }
+    }
+}
+
+// How many loops are to run.
+fn loops_of<R: Threads>(rt: &R, asked: u64) -> u64
+    ensures { AreLoops asked result }
+{
+    if asked != 0 {
+        return asked;
+    }
+    match available_parallelism(rt) {
+        Ok(cores) => (cores.get() as u64).min(4),
+        Err(_) => 1,
+    }
+}
+
+// Tells that whoever can connect may do anything, where others than this machine can.
+fn warn<R: Eprint>(rt: &R, at: At<'_>) {
+    let address = match at {
+        At::Port { address, .. } | At::Both { address, .. } => address,
+        At::Socket(_) => return,
+    };
+    let is_own = match address.parse::<IpAddr>() {
+        Ok(address) => address.is_loopback(),
+        Err(_) => false,
+    };
+    if !is_own {
+        let _ = eprintln!(rt;
+            "xarm: warning: there is no authentication, and {address} is not a loopback address"
+        );
     }
 }

@@ -1,4 +1,5 @@
 mod broken;
+mod callers;
 mod clients;
 mod crews;
 mod meetings;
@@ -6,4 +7,4 @@ mod pending;
 mod posted;
 mod rooms;
 mod rows;
-mod workers;
+mod told;

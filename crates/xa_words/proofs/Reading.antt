@@ -13,7 +13,7 @@ use Rattle.clap.specs.declared.parser.matches.MatchedArg.{MatchedArg}
 use Rattle.clap.specs.declared.builder.value_parser.ValueParser.TheVariants.{Unsigned}
 use Rattle.clap.proofs.ValueTestLemmas.{accepts-Accepts, Accepts-accepts}
 use Rattle.clap.proofs.WalkLemmas.{find_row, first_value-rows, one_text-rows}
-use Rattle.xa_words.specs.Conflicts.{source_in}
+use Rattle.xa_words.specs.Given.{source_in}
 use Rattle.xa_words.specs.Asks.{IsSet, most_16, most_64, number_in, number_or, text_in}
 
 -- a type of so many bits, whose greatest number is `most`

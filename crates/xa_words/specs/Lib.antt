@@ -2,7 +2,9 @@ pub mod Rows
 pub mod Verbs
 pub mod Line
 pub mod Orders
-pub mod Conflicts
+pub mod Given
+pub mod Serving
 pub mod Asks
 pub mod Terminals
 pub mod Runs
+pub mod Worked

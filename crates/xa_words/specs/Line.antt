@@ -8,8 +8,7 @@ use Rattle.clap.specs.declared.builder.command.Command.{Command}
 use Rattle.clap.specs.declared.builder.command.Command.TheViews.{out-Command as fields_of}
 use Rattle.clap.specs.declared.builder.value_parser.ValueParser.TheVariants.{Unsigned}
 use Rattle.xa_limits.specs.declared.TheConstants.{LEAST_LOG, MOST_LOG}
-use Rattle.xa_service.specs.declared.loop_service.TheConstants.{MOST_LOOPS}
-use Rattle.xa_service.specs.declared.service.TheConstants.{MOST_SERVED, MOST_WORKERS}
+use Rattle.xa_service.specs.declared.service.TheConstants.{MOST_LOOPS, MOST_SERVED}
 use Rattle.xa_talk.specs.declared.tick.TheConstants.{MOST_EVERY}
 use Rattle.xa_words.specs.Verbs.{decides, lists, names_branch, names_direction, names_session, opens_session, verb_text}
 use Rattle.xa_words.specs.declared.verb.Verb.{Verb}
@@ -69,7 +68,10 @@ abbrev pub socket_rule : Rule
 socket_rule = option (codes "socket")
 
 abbrev pub workers_rule : Rule
-workers_rule = number 1 MOST_WORKERS (option (codes "workers"))
+workers_rule = number 1 MOST_LOOPS (option (codes "workers"))
+
+abbrev pub audit_rule : Rule
+audit_rule = flag (codes "audit")
 
 abbrev pub connections_rule : Rule
 connections_rule = number 1 MOST_SERVED (option (codes "connections"))
@@ -116,6 +118,9 @@ text_rule = flag (codes "text")
 abbrev pub strict_rule : Rule
 strict_rule = flag (codes "strict")
 
+abbrev pub dest_rule : Rule
+dest_rule = required (positional (codes "dest"))
+
 abbrev pub direction_rule : Rule
 direction_rule = required (positional (codes "direction"))
 
@@ -149,6 +154,9 @@ command_of name rules = record (new_app name).top { rules = rules }
 abbrev pub check_shape : Shape
 check_shape = command_of (codes "check") (first_path_rule ∷ serve_log_bytes_rule ∷ [])
 
+abbrev pub copy_shape : Shape
+copy_shape = command_of (codes "copy") (first_path_rule ∷ dest_rule ∷ serve_log_bytes_rule ∷ [])
+
 abbrev pub play_shape : Shape
 play_shape = command_of (codes "play") (play_name_rule ∷ log_bytes_rule ∷ [])
 
@@ -158,8 +166,8 @@ scan_shape = command_of (codes "scan") (path_rule ∷ format_rule ∷ [])
 abbrev pub serve_shape : Shape
 serve_shape =
     command_of (codes "serve")
-    (log_rule ∷ name_rule ∷ port_rule ∷ serve_log_bytes_rule ∷ workers_rule ∷ connections_rule ∷ loops_rule ∷ listen_rule
-    ∷ socket_rule ∷ frame_seconds_rule ∷ idle_seconds_rule ∷ branch_seconds_rule ∷ trim_rule ∷ tick_rule
+    (log_rule ∷ name_rule ∷ port_rule ∷ serve_log_bytes_rule ∷ workers_rule ∷ audit_rule ∷ connections_rule ∷ loops_rule
+    ∷ listen_rule ∷ socket_rule ∷ frame_seconds_rule ∷ idle_seconds_rule ∷ branch_seconds_rule ∷ trim_rule ∷ tick_rule
     ∷ exit_when_down_rule ∷ accept_damage_rule
     ∷ [])
 
@@ -204,16 +212,18 @@ with_shapes shapes = record {
 -- those that ask a server nothing, or more than one thing
 abbrev pub other_shapes : List Shape
 other_shapes =
-    check_shape ∷ play_shape ∷ scan_shape ∷ serve_shape ∷ shutdown_shape ∷ talk_shape ∷ tick_shape ∷ []
+    check_shape ∷ copy_shape ∷ play_shape ∷ scan_shape ∷ serve_shape ∷ shutdown_shape ∷ talk_shape ∷ tick_shape ∷ []
 
 -- those that ask a server how things are, and those that have it do something
 abbrev pub question_shapes : List Shape
 question_shapes = verb_shape Status ∷ verb_shape Branches ∷ verb_shape Recover ∷ []
 
+abbrev pub branch_order_shapes : List Shape
+branch_order_shapes =
+    verb_shape Commit ∷ verb_shape Rollback ∷ verb_shape Forget ∷ verb_shape Decide ∷ verb_shape Doom ∷ []
+
 abbrev pub order_shapes : List Shape
-order_shapes =
-    verb_shape Commit ∷ verb_shape Rollback ∷ verb_shape Forget ∷ verb_shape Decide ∷ verb_shape Doom
-    ∷ verb_shape Disconnect ∷ verb_shape Trim ∷ verb_shape Restart ∷ verb_shape RollbackMarked ∷ []
+order_shapes = verb_shape Disconnect ∷ verb_shape Trim ∷ verb_shape Restart ∷ verb_shape RollbackMarked ∷ []
 
 abbrev pub others : App
 others = with_shapes other_shapes
@@ -221,9 +231,12 @@ others = with_shapes other_shapes
 abbrev pub asking : App
 asking = with_shapes (other_shapes ++ question_shapes)
 
+abbrev pub deciding : App
+deciding = with_shapes (other_shapes ++ question_shapes ++ branch_order_shapes)
+
 -- the whole command line: its commands, and its version
 abbrev pub xarm : App
-xarm = with_shapes (other_shapes ++ question_shapes ++ order_shapes)
+xarm = with_shapes (other_shapes ++ question_shapes ++ branch_order_shapes ++ order_shapes)
 
 -- ---- what is built
 

@@ -1,5 +1,5 @@
 -- The arguments of a command, as `clap` found them.
-use Rattle.std.specs.Prelude.{ℕ, List, if◌then◌else◌, unwrap_or}
+use Rattle.std.specs.Prelude.{◌≡◌, ℕ, Bool, true, false, List, Option, Some, None, codes, if◌then◌else◌, unwrap_or}
 use Rattle.std.specs.Option.{option_map_or}
 use Rattle.std.specs.Str.Parse.{digits_value, without_leading_plus}
 use Rattle.clap.specs.ValueTests.{is_unsigned_in}
@@ -24,3 +24,13 @@ most_64 = 18446744073709551615
 -- the number of an argument, or the one that stands for none
 abbrev pub number_in : List Row → Text → ℕ → ℕ → ℕ
 number_in rows id most absent = option_map_or (number_or most absent) (one_of id rows) absent
+
+-- a flag is set
+pub record IsSet (text : Option Text) (flag : Bool) : Type 0 where
+  pub absent : text ≡ None → flag ≡ false
+  pub set : text ≡ Some (codes "true") → flag ≡ true
+  pub unset : text ≡ Some (codes "false") → flag ≡ false
+
+-- no path is given, and this port is, which is 0 where none is
+abbrev pub IsPort : List Row → ℕ → Type 0
+IsPort rows port = (first_of (codes "socket") rows ≡ None) × (port ≡ number_in rows (codes "port") most_16 0)

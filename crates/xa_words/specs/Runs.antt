@@ -30,9 +30,9 @@ use Rattle.xa_words.specs.Asks.{AsksOf}
 use Rattle.xa_words.specs.Line.{xarm}
 use Rattle.xa_words.specs.Terminals.{are_both}
 use Rattle.xa_words.specs.declared.asked.Asked.{Asked}
-use Rattle.xa_words.specs.declared.asked.Asked.TheVariants.{Play, Scan, Check, Serve, Loop, Talk, Tick, Shutdown, Operate, Script, Unconfirmed, Malformed, Conflict, Nowhere}
+use Rattle.xa_words.specs.declared.asked.Asked.TheVariants.{Play, Scan, Check, Copy, Serve, Talk, Tick, Shutdown, Operate, Script, Unconfirmed, Malformed, Conflict, Nowhere}
 use Rattle.xa_words.specs.declared.ran.Ran.{Ran}
-use Rattle.xa_words.specs.declared.ran.Ran.TheVariants.{Ended, Serves, Loops}
+use Rattle.xa_words.specs.declared.ran.Ran.TheVariants.{Ended, Serves}
 use Rattle.xa_words.specs.declared.terminals.Terminals.{Terminals}
 
 -- the status of an end: 0 where all is done, else 1
@@ -85,6 +85,7 @@ module _ {I D C : Type 0} (terminals : Terminals) (T : Type 0) (remaining : I �
   HasDone (Check path log_bytes) (Ended code) =
       (end : Result Bool CheckingFault) × Checked honest seen opened refused path.now log_bytes end
       × (exit_status code ≡ checked_status end)
+  HasDone (Copy path to log_bytes) (Ended code) = (exit_status code ≡ 0) ⊎ (exit_status code ≡ 1)
   HasDone (Talk reach seconds style strict) (Ended code) =
       (end : Result (Unit {0}) TalkFault) × (typed : Bool) × (typed ≡ are_both terminals)
       × HasTalked (record { style = style; is_strict = strict; is_typed = typed }) remaining sent left end
@@ -101,12 +102,10 @@ module _ {I D C : Type 0} (terminals : Terminals) (T : Type 0) (remaining : I �
   HasDone (Unconfirmed reach seconds format name task about) (Ended code) =
       HasAsked reach format name.now task (exit_status code)
   HasDone (Malformed what) (Ended code) = exit_status code ≡ 2
-  HasDone (Conflict option) (Ended code) = exit_status code ≡ 2
+  HasDone Conflict (Ended code) = exit_status code ≡ 2
   HasDone Nowhere (Ended code) = exit_status code ≡ 2
   HasDone (Serve service accepts) (Serves served) = served ≡ service
   HasDone (Serve service accepts) (Ended code) = (accepts ≡ true) × (exit_status code ≡ 1)
-  HasDone (Loop service accepts) (Loops served) = served ≡ service
-  HasDone (Loop service accepts) (Ended code) = (accepts ≡ true) × (exit_status code ≡ 1)
   HasDone _ _ = ⊥
 
   -- The words were refused for one of these reasons, or for want of memory.

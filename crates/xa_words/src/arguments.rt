@@ -1,7 +1,7 @@
 //! The arguments of the commands. The help names limits in texts of its own, and `.ci/commands` compares these with
 //! the constants: a text that is made of a number would have to live as long as the words, since `clap` lends both alike.
-ghost use Rattle.xa_words.specs.Line.{HasRule, accept_damage_rule, branch_seconds_rule, connections_rule, every_rule};
-ghost use Rattle.xa_words.specs.Line.{exit_when_down_rule};
+ghost use Rattle.xa_words.specs.Line.{HasRule, accept_damage_rule, audit_rule, branch_seconds_rule, connections_rule, every_rule};
+ghost use Rattle.xa_words.specs.Line.{dest_rule, exit_when_down_rule};
 ghost use Rattle.xa_words.specs.Line.{frame_seconds_rule, idle_seconds_rule, listen_rule, log_bytes_rule};
 ghost use Rattle.xa_words.specs.Line.{first_path_rule, log_rule, loops_rule, name_rule, names_rule, path_rule, play_name_rule};
 ghost use Rattle.xa_words.specs.Line.{host_rule, strict_rule, text_rule};
@@ -11,7 +11,7 @@ use clap::builder::ValueParser;
 use clap::{Arg, ArgAction};
 use std::alloc::Global;
 use xa_limits::{LEAST_LOG, MOST_LOG};
-use xa_service::{MOST_LOOPS, MOST_SERVED, MOST_WORKERS};
+use xa_service::{MOST_LOOPS, MOST_SERVED};
 use xa_talk::MOST_EVERY;
 
 /// The greatest number that a word may spell: `clap` reads numbers of 63 bits.
@@ -66,6 +66,28 @@ pub fn first_path<'a>(alloc: Global) -> Arg<'a>
         .help(
             "The log's first file; the second one is PATH.2. Both are opened read-only, and refused while a server has them open",
         )
+        .required(true)
+        .action(ArgAction::Set)
+}
+
+pub fn copy_path<'a>(alloc: Global) -> Arg<'a>
+    ensures { HasRule first_path_rule result }
+{
+    Arg::new(alloc, "path")
+        .value_name("PATH")
+        .help(
+            "The log's first file; the second one is PATH.2. Both are only read, and may be in use",
+        )
+        .required(true)
+        .action(ArgAction::Set)
+}
+
+pub fn dest<'a>(alloc: Global) -> Arg<'a>
+    ensures { HasRule dest_rule result }
+{
+    Arg::new(alloc, "dest")
+        .value_name("DEST")
+        .help("The copy's first file; the second one is DEST.2. Neither may be there")
         .required(true)
         .action(ArgAction::Set)
 }
@@ -141,7 +163,7 @@ pub fn loops<'a>(alloc: Global) -> Arg<'a>
     Arg::new(alloc, "loops")
         .long("loops")
         .value_name("N")
-        .help("The number of event-loop threads: 1 to 16. If not given, one per core, at most 4")
+        .help("The number of event-loop threads: 1 to 64. If not given, one per core, at most 4")
         .value_parser(ValueParser::unsigned(1, MOST_LOOPS))
         .action(ArgAction::Set)
 }
@@ -153,10 +175,19 @@ pub fn workers<'a>(alloc: Global) -> Arg<'a>
         .long("workers")
         .value_name("N")
         .help(
-            "Serves so many connections at a time by worker threads with an audit, instead of event loops: 1 to 64. Of the options after --connections only --accept-damage goes with it",
+            "The number of event-loop threads, with --audit: 1 to 64. --trim and --tick are then 0 if not given",
         )
-        .value_parser(ValueParser::unsigned(1, MOST_WORKERS))
+        .value_parser(ValueParser::unsigned(1, MOST_LOOPS))
         .action(ArgAction::Set)
+}
+
+pub fn audit<'a>(alloc: Global) -> Arg<'a>
+    ensures { HasRule audit_rule result }
+{
+    Arg::new(alloc, "audit")
+        .long("audit")
+        .help("Keeps the whole history in memory, and audits at the end what clients were answered")
+        .action(ArgAction::SetTrue)
 }
 
 pub fn connections<'a>(alloc: Global) -> Arg<'a>
@@ -206,7 +237,7 @@ pub fn idle_seconds<'a>(alloc: Global) -> Arg<'a>
         .long("idle-seconds")
         .value_name("S")
         .help(
-            "Closes a connection that has been quiet for so many seconds, if its session has no active or suspended association: 0 (never) to 86400",
+            "Closes a connection that has been quiet for so many seconds, unless its session has an active or suspended association with a branch that isn't marked: 0 (never) to 86400",
         )
         .value_parser(ValueParser::unsigned(0, MOST_IDLE_SECONDS))
         .action(ArgAction::Set)

@@ -1,9 +1,8 @@
-use crate::loop_option::LoopOption;
 use crate::malformed::Malformed;
 use xa_commands::Reach;
 use xa_operate::{Format, Task};
 use xa_script::Style;
-use xa_service::{LoopService, Service};
+use xa_service::Service;
 
 /// What a command line asks for.
 #[derive(Debug, Drop)]
@@ -23,6 +22,14 @@ pub enum Asked<'a> {
         /// How many bytes each of the log's two files may have.
         log_bytes: u64,
     },
+    Copy {
+        /// Of the log's first file.
+        path: &'a str,
+        /// Of the copy's first file.
+        to: &'a str,
+        /// How many bytes each of the log's two files may have.
+        log_bytes: u64,
+    },
     Talk {
         reach: Reach<'a>,
         /// How many seconds an answer may be waited for: 0 for no end.
@@ -39,14 +46,9 @@ pub enum Asked<'a> {
     Shutdown {
         reach: Reach<'a>,
     },
-    /// By workers, with an audit.
     Serve {
         service: Service<'a>,
         /// Whether what stands of a damaged log is to be opened.
-        accepts_damage: bool,
-    },
-    Loop {
-        service: LoopService<'a>,
         accepts_damage: bool,
     },
     /// A server is to be asked a task.
@@ -77,8 +79,8 @@ pub enum Asked<'a> {
     },
     /// A word isn't as it has to be.
     Malformed(Malformed),
-    /// A server with workers was given an option that acts by loops alone.
-    Conflict(LoopOption),
+    /// A server's loops are counted by `--workers` and by `--loops`.
+    Conflict,
     /// Neither a port nor a path was given, for a command that needs one.
     Nowhere,
 }

@@ -9,7 +9,6 @@ ghost use Rattle.xa_commands.specs.declared.ticking.Watch.{Watch};
 ghost use Rattle.xa_talk.specs.declared.dial.Connection.{Connection};
 
 use crate::asked::Asked;
-use crate::loop_option::LoopOption;
 use crate::malformed::Malformed;
 use crate::ran::Ran;
 use crate::terminals::Terminals;
@@ -24,9 +23,10 @@ use std::rt::{Clock, Env};
 use std::{env, io};
 use xa_codes::Direction;
 use xa_commands::{
-    Server, Stream, accept_damage, check, checked, confirm, ended, ended_at, operate, operated,
-    play, scan, show_script, shutdown, talk, tick, words_fault,
+    Server, Stream, accept_damage, check, checked, confirm, copy, ended, ended_at, operate,
+    operated, play, scan, show_script, shutdown, talk, tick, words_fault,
 };
+use xa_copy::Sources;
 use xa_disk::Opens;
 use xa_operate::{OperateFault, Task, operate_status};
 use xa_play::PlayFault;
@@ -38,7 +38,15 @@ use xa_talk::Manner;
 /// do what can't be taken back; where standard error is one, too, the lines of a talk are asked for.
 pub fn run<
     'a,
-    R: AllocGlobal + Input + Print + Eprint + Opens + Files + Clock + Net<Stream = TcpStream>,
+    R: AllocGlobal
+        + Input
+        + Print
+        + Eprint
+        + Opens
+        + Sources
+        + Files
+        + Clock
+        + Net<Stream = TcpStream>,
 >(rt: &R, words: &'a io::Result<Vec<String>>, terminals: Terminals) -> Ran<'a>
     ensures run { IfOk words.now (λ words. HasRun {C = Connection Stream Stream} terminals (Watch R) R.Reader.remaining
         R.Disk.honest R.Disk.seen R.opened R.refused (λ c. ⟦<Stream as Write>⟧.contents c.writer)
@@ -58,7 +66,15 @@ pub fn run<
 // Does what is asked for, but that it serves.
 fn done<
     'a,
-    R: AllocGlobal + Input + Print + Eprint + Opens + Files + Clock + Net<Stream = TcpStream>,
+    R: AllocGlobal
+        + Input
+        + Print
+        + Eprint
+        + Opens
+        + Sources
+        + Files
+        + Clock
+        + Net<Stream = TcpStream>,
 >(rt: &R, asked: Asked<'a>, terminals: Terminals) -> Ran<'a>
     requires { NamesWell asked }
     ensures { HasDone {C = Connection Stream Stream} terminals (Watch R) R.Reader.remaining R.Disk.honest R.Disk.seen
@@ -69,19 +85,17 @@ fn done<
         Asked::Play { name, log_bytes } => ended(rt, &play(rt, name, log_bytes)),
         Asked::Scan { path, format } => ended(rt, &scan(rt, path, format)),
         Asked::Check { path, log_bytes } => checked(rt, &check(rt, path, log_bytes)),
+        Asked::Copy {
+            path,
+            to,
+            log_bytes,
+        } => ended(rt, &copy(rt, path, to, log_bytes)),
         Asked::Serve {
             service,
             accepts_damage,
         } => match accepted(rt, accepts_damage, service.path, service.log_bytes) {
             Some(status) => status,
             None => return Ran::Serves(service),
-        },
-        Asked::Loop {
-            service,
-            accepts_damage,
-        } => match accepted(rt, accepts_damage, service.path, service.log_bytes) {
-            Some(status) => status,
-            None => return Ran::Loops(service),
         },
         Asked::Talk {
             reach,
@@ -139,7 +153,7 @@ fn done<
             }
         }
         Asked::Malformed(malformed) => told(rt, &malformed),
-        Asked::Conflict(option) => conflicting(rt, option),
+        Asked::Conflict => conflicting(rt),
         Asked::Nowhere => nowhere(rt),
     })
 }
@@ -211,12 +225,12 @@ fn shown<R: Eprint>(rt: &R, end: &Result<(), OperateFault>) -> ExitCode
     ExitCode::from(operate_status(end))
 }
 
-// A server with workers has no use for an option that it was given.
-fn conflicting<R: Eprint>(rt: &R, option: LoopOption) -> ExitCode
+// A server's loops were counted twice.
+fn conflicting<R: Eprint>(rt: &R) -> ExitCode
     ensures { exit_status result ≡ 2 }
 {
-    let _ = eprintln!(rt;
-        "error: the argument '--workers <N>' cannot be used with '{option}'\n\nFor more information, try '--help'."
+    let _ = rt.eprintln(
+        "error: the argument '--workers <N>' cannot be used with '--loops <N>'\n\nFor more information, try '--help'.",
     );
     ExitCode::from(2)
 }

@@ -2,7 +2,8 @@
 //!
 //! - `line`: `command_line`, the commands as `clap` reads them, by their `arguments` and `operator_arguments`
 //! - `words`: `read_words`, what words ask for; `asked`: `Asked`, that
-//! - `loop_option`: `LoopOption`, what acts by loops alone; `conflict`: which of them is given to a server with workers
+//! - `given`: which arguments the words themselves give
+//! - `laws`: `worked_services`, worked rows of what a server is asked for
 //! - `verb`: `Verb`, the commands that ask a running server one thing; `operator`: what their words ask for; `malformed`:
 //!   `Malformed`, which of them isn't as it has to be
 //! - `command`: `given_words`, those of the command line; `run`, which does what they ask for, but that it serves;
@@ -13,9 +14,9 @@
 mod arguments;
 mod asked;
 mod command;
-mod conflict;
+mod given;
+mod laws;
 mod line;
-mod loop_option;
 mod malformed;
 mod operator;
 mod operator_arguments;
@@ -26,8 +27,8 @@ mod words;
 
 pub use asked::Asked;
 pub use command::{given_words, run};
+pub use laws::worked_services;
 pub use line::command_line;
-pub use loop_option::LoopOption;
 pub use malformed::Malformed;
 pub use ran::Ran;
 pub use terminals::Terminals;

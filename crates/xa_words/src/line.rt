@@ -2,14 +2,15 @@
 ghost use Rattle.std.specs.Prelude.{IfOk};
 ghost use Rattle.clap.specs.Simple.{App};
 ghost use Rattle.clap.specs.Walk.{Rule};
-ghost use Rattle.xa_words.specs.Line.{HasRule, HasShape, format_rule, IsApp, asking, bare, check_shape, others};
+ghost use Rattle.xa_words.specs.Line.{HasRule, HasShape, format_rule, IsApp, asking, bare, check_shape, copy_shape, deciding, others};
 ghost use Rattle.xa_words.specs.Line.{verb_shape, with_given, play_shape, scan_shape, serve_shape};
 ghost use Rattle.xa_words.specs.Line.{shutdown_shape, talk_shape, tick_shape, xarm};
 
 use crate::arguments::{
-    accept_damage, branch_seconds, connections, every, exit_when_down, first_path, frame_seconds,
-    host, idle_seconds, listen, log, log_bytes, loops, name, names, path, play_name, port,
-    serve_log_bytes, serve_socket, socket, strict, text, tick, trim, workers,
+    accept_damage, audit, branch_seconds, connections, copy_path, dest, every, exit_when_down,
+    first_path, frame_seconds, host, idle_seconds, listen, log, log_bytes, loops, name, names,
+    path, play_name, port, serve_log_bytes, serve_socket, socket, strict, text, tick, trim,
+    workers,
 };
 use crate::operator_arguments::{
     direction, format, open_name, print_script, seconds, session, status_format, talk_seconds, xid,
@@ -25,6 +26,7 @@ pub fn command_line<'a>(alloc: Global) -> Result<Command<'a>, AllocError>
 {
     let line = other_line(alloc)?;
     let line = with_questions(alloc, line)?;
+    let line = with_branch_orders(alloc, line)?;
     with_orders(alloc, line)
 }
 
@@ -34,6 +36,7 @@ fn other_line<'a>(alloc: Global) -> Result<Command<'a>, AllocError>
 {
     bare_line(alloc)
         .subcommand(check_command(alloc)?)?
+        .subcommand(copy_command(alloc)?)?
         .subcommand(play_command(alloc)?)?
         .subcommand(scan_command(alloc)?)?
         .subcommand(serve_command(alloc)?)?
@@ -52,17 +55,24 @@ fn with_questions<'a>(alloc: Global, line: Command<'a>) -> Result<Command<'a>, A
         .subcommand(verb_command(alloc, Verb::Recover)?)
 }
 
-// The same with those that have it do something.
-fn with_orders<'a>(alloc: Global, line: Command<'a>) -> Result<Command<'a>, AllocError>
+// The same with those that have it do something to a branch.
+fn with_branch_orders<'a>(alloc: Global, line: Command<'a>) -> Result<Command<'a>, AllocError>
     requires { IsApp asking line }
-    ensures { IfOk result (IsApp xarm) }
+    ensures { IfOk result (IsApp deciding) }
 {
     line.subcommand(verb_command(alloc, Verb::Commit)?)?
         .subcommand(verb_command(alloc, Verb::Rollback)?)?
         .subcommand(verb_command(alloc, Verb::Forget)?)?
         .subcommand(verb_command(alloc, Verb::Decide)?)?
-        .subcommand(verb_command(alloc, Verb::Doom)?)?
-        .subcommand(verb_command(alloc, Verb::Disconnect)?)?
+        .subcommand(verb_command(alloc, Verb::Doom)?)
+}
+
+// The same with the other ones that have it do something.
+fn with_orders<'a>(alloc: Global, line: Command<'a>) -> Result<Command<'a>, AllocError>
+    requires { IsApp deciding line }
+    ensures { IfOk result (IsApp xarm) }
+{
+    line.subcommand(verb_command(alloc, Verb::Disconnect)?)?
         .subcommand(verb_command(alloc, Verb::Trim)?)?
         .subcommand(verb_command(alloc, Verb::Restart)?)?
         .subcommand(verb_command(alloc, Verb::RollbackMarked)?)
@@ -139,6 +149,20 @@ fn check_command<'a>(alloc: Global) -> Result<Command<'a>, AllocError>
         .arg(serve_log_bytes(alloc))
 }
 
+fn copy_command<'a>(alloc: Global) -> Result<Command<'a>, AllocError>
+    ensures { IfOk result (HasShape copy_shape) }
+{
+    Command::new(alloc, "copy")
+        .about("Copies a log whose server may run to two new files")
+        .after_help(
+            "Example: xarm copy bank.log backup/bank.log\nThe server isn't asked, and goes on. What it had answered when the \
+             copy began is in the copy.",
+        )
+        .arg(copy_path(alloc))?
+        .arg(dest(alloc))?
+        .arg(serve_log_bytes(alloc))
+}
+
 fn play_command<'a>(alloc: Global) -> Result<Command<'a>, AllocError>
     ensures { IfOk result (HasShape play_shape) }
 {
@@ -171,8 +195,8 @@ fn shutdown_command<'a>(alloc: Global) -> Result<Command<'a>, AllocError>
             "Ends a server once it has answered what was asked, and waits until it has closed the connection",
         )
         .after_help(
-            "Example: xarm shutdown --port 4187\nStatus 0: it has closed the connection. 1: it takes no shutdown, as one with \
-             --workers, or can't be reached.",
+            "Example: xarm shutdown --port 4187\nStatus 0: it has closed the connection. 1: it takes no shutdown, as an \
+             older one, or can't be reached.",
         )
         .arg(port(alloc))?
         .arg(host(alloc))?
@@ -225,6 +249,7 @@ fn serve_command<'a>(alloc: Global) -> Result<Command<'a>, AllocError>
         .arg(port(alloc))?
         .arg(serve_log_bytes(alloc))?
         .arg(workers(alloc))?
+        .arg(audit(alloc))?
         .arg(connections(alloc))?
         .arg(loops(alloc))?
         .arg(listen(alloc))?

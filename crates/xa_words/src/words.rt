@@ -1,12 +1,13 @@
 //! What the words of a command line ask for.
-ghost use Rattle.std.specs.Prelude.{◌≡◌, ◌≢◌, Bool, IfOk, IsSomeAnd, None, Some, codes, map, option_map, string_bytes};
+ghost use Rattle.std.specs.Prelude.{◌≡◌, IfOk, IsSomeAnd, Some, codes, map, option_map, string_bytes};
 ghost use Rattle.clap.specs.{Faults.fault_of, Kinds.FailsBy, Matches.found_of, Simple.subcommand_of, Simple.subcommand_rows_of};
 ghost use Rattle.clap.specs.Walk.{first_of, one_of, rows_of};
-ghost use Rattle.xa_words.specs.Asks.{AsksBy, AsksOf, IsAtIn, IsCommand, IsOther, IsReachIn, IsSet, most_16, most_64, number_in, text_in};
-ghost use Rattle.xa_words.specs.{Conflicts.conflict_in, Line.xarm, declared.asked.Asked.TheVariants.Loop};
+ghost use Rattle.xa_words.specs.Asks.{AsksBy, AsksOf, IsCommand, IsOther, IsReachIn, IsSet, most_16, most_64, number_in, text_in};
+ghost use Rattle.xa_words.specs.Line.{xarm};
+ghost use Rattle.xa_words.specs.Serving.{IsAtIn, IsServiceIn, gives_workers, own_number_in, workers_in};
 
 use crate::asked::Asked;
-use crate::conflict::conflict_of;
+use crate::given::is_given;
 use crate::line::command_line;
 use crate::malformed::Malformed;
 use crate::operator::{operator_of, read_format};
@@ -16,7 +17,7 @@ use std::alloc::Global;
 use xa_commands::Reach;
 use xa_limits::MOST_LOG;
 use xa_script::Style;
-use xa_service::{At, LoopService, MOST_SERVED, Service};
+use xa_service::{At, MOST_SERVED, Service};
 
 /// What the words of a command line ask for, the program's name first.
 pub fn read_words<'a>(alloc: Global, words: &'a [String]) -> Result<Asked<'a>, Error>
@@ -62,6 +63,11 @@ fn read_other<'a>(command: &str, matches: &ArgMatches<'a>) -> Asked<'a>
             path: text_of(matches, "path", ""),
             log_bytes: number_of(matches, "log-bytes", MOST_LOG),
         },
+        "copy" => Asked::Copy {
+            path: text_of(matches, "path", ""),
+            to: text_of(matches, "dest", ""),
+            log_bytes: number_of(matches, "log-bytes", MOST_LOG),
+        },
         "scan" => scan_of(matches),
         "serve" => serve_of(matches),
         "shutdown" => shutdown_of(matches),
@@ -96,64 +102,61 @@ fn serve_of<'a>(matches: &ArgMatches<'a>) -> Asked<'a>
     ensures { AsksBy (codes "serve") (rows_of (found_of matches.now)) result }
 {
     let workers = number_of(matches, "workers", 0);
-    if workers == 0 {
-        return match at_of(matches) {
-            Some(at) => Asked::Loop {
-                service: loops_of(matches, at),
-                accepts_damage: flag_of(matches, "accept-damage"),
-            },
-            None => Asked::Nowhere,
-        };
+    if workers != 0 && is_given(matches, "loops") {
+        return Asked::Conflict;
     }
-    match conflict_of(matches) {
-        Some(option) => Asked::Conflict(option),
-        None => workers_of(matches, workers),
-    }
-}
-
-// By workers, with none of the options that act by loops alone.
-fn workers_of<'a>(matches: &ArgMatches<'a>, workers: u64) -> Asked<'a>
-    requires workers { workers ≡ number_in (rows_of (found_of matches.now)) (codes "workers") most_64 0 }
-    requires some { workers ≢ 0 }
-    requires alone { conflict_in (rows_of (found_of matches.now)) ≡ None }
-    ensures { AsksBy (codes "serve") (rows_of (found_of matches.now)) result }
-{
-    let port = port_of(matches);
-    if port == 0 {
-        return Asked::Nowhere;
-    }
-    Asked::Serve {
-        service: Service {
-            path: text_of(matches, "log", ""),
-            name: text_of(matches, "name", ""),
-            port,
-            log_bytes: number_of(matches, "log-bytes", MOST_LOG),
-            workers,
-            connections: number_of(matches, "connections", MOST_SERVED),
+    match at_of(matches) {
+        Some(at) => Asked::Serve {
+            service: service_of(matches, at, workers),
+            accepts_damage: flag_of(matches, "accept-damage"),
         },
-        accepts_damage: flag_of(matches, "accept-damage"),
+        None => Asked::Nowhere,
     }
 }
 
-fn loops_of<'a>(matches: &ArgMatches<'a>, at: At<'a>) -> LoopService<'a>
-    ensures { (accepts : Bool) → IsSet (one_of (codes "accept-damage") (rows_of (found_of matches.now))) accepts
-        → IsAtIn (rows_of (found_of matches.now)) (Some at.entry)
-        → number_in (rows_of (found_of matches.now)) (codes "workers") most_64 0 ≡ 0
-        → AsksBy (codes "serve") (rows_of (found_of matches.now)) (Loop result accepts) }
+// What is to be served at this place, by the number of workers, 0 where none is given: with workers as many loops, and an
+// audit.
+fn service_of<'a>(matches: &ArgMatches<'a>, at: At<'a>, workers: u64) -> Service<'a>
+    requires at { IsAtIn (rows_of (found_of matches.now)) (Some at) }
+    requires workers { workers ≡ workers_in (rows_of (found_of matches.now)) }
+    ensures { IsServiceIn (rows_of (found_of matches.now)) result }
 {
-    LoopService {
+    let has_workers = workers != 0;
+    let is_audited = flag_of(matches, "audit");
+    Service {
         path: text_of(matches, "log", ""),
         name: text_of(matches, "name", ""),
         at,
         log_bytes: number_of(matches, "log-bytes", MOST_LOG),
-        loops: number_of(matches, "loops", 0),
-        connections: number_of(matches, "connections", 0),
+        loops: if has_workers {
+            workers
+        } else {
+            number_of(matches, "loops", 0)
+        },
+        connections: number_of(
+            matches,
+            "connections",
+            if has_workers { MOST_SERVED } else { 0 },
+        ),
         frame_seconds: number_of(matches, "frame-seconds", 30),
         idle_seconds: number_of(matches, "idle-seconds", 0),
         branch_seconds: number_of(matches, "branch-seconds", 0),
-        trim_bytes: number_of(matches, "trim", 67_108_864),
-        tick_seconds: number_of(matches, "tick", 1),
+        trim_bytes: own_number_of(matches, has_workers, "trim", 67_108_864),
+        tick_seconds: own_number_of(matches, has_workers, "tick", 1),
         ends_when_down: flag_of(matches, "exit-when-down"),
+        audits: is_audited || has_workers,
+    }
+}
+
+// By which number a server calls its manager of its own accord: with workers 0, unless the words give it.
+fn own_number_of(matches: &ArgMatches<'_>, has_workers: bool, id: &str, absent: u64) -> u64
+    requires { has_workers ≡ gives_workers (rows_of (found_of matches.now)) }
+    ensures { result ≡ own_number_in (rows_of (found_of matches.now)) id.now absent }
+{
+    if has_workers && !is_given(matches, id) {
+        0
+    } else {
+        number_of(matches, id, absent)
     }
 }
 

@@ -4,7 +4,7 @@ use Rattle.xa_handles.specs.Mail.{Mailed, ask_weight, slot_weight, told_weight}
 use Rattle.xa_model.specs.State.{State}
 use Rattle.xa_history.specs.Believed.Book.{receipt_of}
 use Rattle.xa_history.specs.declared.entry.Entry.{Entry}
-use Rattle.xa_history.specs.declared.manages.Manages.{Ghosts}
+use Rattle.xa_history.specs.Believed.Manages.{Behaviour}
 use Rattle.xa_history.specs.declared.receipt.Receipt as entry
 use Rattle.xa_sequencer.specs.Believed.Stands.{Numbered, Stands}
 use Rattle.xa_tokens.specs.declared.ask.Ask.{Ask}
@@ -23,7 +23,7 @@ abbrev pub shown : Receipt → entry.Receipt
 shown r = record { place = r.reply.place; event = r.ask.event; reply = r.reply }
 
 -- The sequencer stands for a history whose entries are these: what was asked was carried out, and nothing else was.
-pub record HasBook {M : Type 0} (m : Ghosts M) (start : State → Type 0) (base : ℕ × ℕ) (c : Numbered M)
+pub record HasBook {M : Type 0} (m : Behaviour M) (start : State → Type 0) (base : ℕ × ℕ) (c : Numbered M)
     (receipts : List Receipt) : Type 0 where
   pub entries : List Entry
   pub stands : Stands m start base c entries

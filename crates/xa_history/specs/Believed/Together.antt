@@ -25,7 +25,7 @@ use Rattle.xa_model.specs.declared.outcome.Appending.{Appending}
 use Rattle.xa_model.specs.declared.outcome.Appending.TheVariants.{Lost}
 use Rattle.xa_model.specs.declared.outcome.Outcome.{Outcome}
 use Rattle.xa_model.specs.declared.outcome.Outcome.TheVariants.{Appended, Joined}
-use Rattle.xa_history.specs.Believed.Manages.{Stays}
+use Rattle.xa_history.specs.Believed.Manages.{Behaviour, Stays}
 
 -- the call at this place among those that were asked
 abbrev pub event_at : List Asked → ℕ → Event
@@ -56,32 +56,29 @@ abbrev pub AreUnplaced : List (ℕ × Reply) → Type 0
 AreUnplaced replies = AllByRecursion (λ r. r.1.place ≡ 0) replies
 
 -- no call was answered: it stands for whichever state it stood for, and no device call failed
-pub record Rests {M : Type 0} (stands : M → State → Type 0) (failures : M → ℕ × ℕ) (old new : M) : Type 0 where
-  pub stays : Stays stands old new
-  pub counted : RiseBy 0 (failures old) (failures new)
+pub record AnswersNone {M : Type 0} (m : Behaviour M) (old new : M) : Type 0 where
+  pub stays : Stays m.stands old new
+  pub counted : RiseBy 0 (m.failures old) (m.failures new)
 
 -- Calls were answered together, one after another in the order of their replies, as a group whose records became
 -- this: whichever state it stood for, it stands for the one to which their entries lead. The device was called once,
 -- for the first of them, and no more failures are reported than were counted.
-pub record ActsTogether {M : Type 0} (stands : M → State → Type 0)
-    (has_called : Event → Outcome → M → M → Type 0) (crashes_together : List Event → M → M → Type 0)
-    (failures : M → ℕ × ℕ) (old : M) (calls : List Asked) (r : ℕ × Reply) (rs : List (ℕ × Reply))
-    (appending : Appending) (new : M) : Type 0 where
+pub record ActsTogether {M : Type 0} (m : Behaviour M) (old : M) (calls : List Asked) (r : ℕ × Reply)
+    (rs : List (ℕ × Reply)) (appending : Appending) (new : M) : Type 0 where
   pub told : AllByRecursion (IsToldOf calls) (r ∷ rs)
   pub unplaced : AreUnplaced (r ∷ rs)
-  pub leads : (s : State) → stands old s → (t : State) × Leads s (told_entries calls appending r rs) t × stands new t
-  pub called : (s : State) → stands old s → has_called (event_at calls r.0) (Appended appending) old new
+  pub leads : (s : State) → m.stands old s
+      → (t : State) × Leads s (told_entries calls appending r rs) t × m.stands new t
+  pub called : (s : State) → m.stands old s → m.has_called (event_at calls r.0) (Appended appending) old new
   -- what a crash at any moment of it leaves
-  pub crash : crashes_together (events_of calls (r ∷ rs)) old new
-  pub counted : (s : State) → stands old s → RiseBy (failures_in (Appended appending)) (failures old) (failures new)
+  pub crash : m.crashes_together (events_of calls (r ∷ rs)) old new
+  pub counted : (s : State) → m.stands old s
+      → RiseBy (failures_in (Appended appending)) (m.failures old) (m.failures new)
 
 -- those that were replied are such a group; or there are none
-abbrev pub AnswersTogether : {M : Type 0} → (M → State → Type 0) → (Event → Outcome → M → M → Type 0)
-    → (List Event → M → M → Type 0) → (M → ℕ × ℕ) → M → List Asked → List (ℕ × Reply) → M → Type 0
-AnswersTogether stands has_called crashes_together failures old calls [] new = Rests stands failures old new
-AnswersTogether stands has_called crashes_together failures old calls (r ∷ rs) new =
-    (appending : Appending)
-    × ActsTogether stands has_called crashes_together failures old calls r rs appending new
+abbrev pub AnswersTogether : {M : Type 0} → Behaviour M → M → List Asked → List (ℕ × Reply) → M → Type 0
+AnswersTogether m old calls [] new = AnswersNone m old new
+AnswersTogether m old calls (r ∷ rs) new = (appending : Appending) × ActsTogether m old calls r rs appending new
 
 -- What a crash leaves at any moment of a group, by a manager over a log
 

@@ -23,12 +23,15 @@ use Rattle.xa_model.specs.declared.event.Event.{Event}
 use Rattle.xa_model.specs.declared.outcome.Outcome.{Outcome}
 use Rattle.xa_model.specs.declared.outcome.Outcome.TheVariants.{Quiet}
 use Rattle.xa_history.specs.Believed.Together.{CrashesTogether, lost_entries}
-use Rattle.xa_history.specs.declared.manages.Manages.{Ghosts}
+use Rattle.xa_history.specs.Believed.Manages.{Behaviour}
 
 -- a manager with the group that it may have pending
 pub record GroupManager (M : Type 0) : Type 0 where
   pub manager : M
   pub pending : Option PendingGroup
+
+abbrev pub with_group : {M : Type 0} → M → Option PendingGroup → GroupManager M
+with_group m pending = record { manager = m; pending = pending }
 
 -- with none pending
 abbrev pub alone : {M : Type 0} → M → GroupManager M
@@ -109,7 +112,7 @@ failures_with disks m None = counted_by disks.failures (log_of m)
 failures_with disks m (Some f) = counted_before disks.failures f (log_of m)
 
 -- all of it
-abbrev pub manages_of : {D : Type 0} → disk.Ghosts D → Ghosts (GroupManager (Manager D))
+abbrev pub manages_of : {D : Type 0} → disk.Ghosts D → Behaviour (GroupManager (Manager D))
 manages_of disks = record {
   stands = λ g s. StandsWith disks g.manager g.pending s;
   trusts = Trusts disks;

@@ -2,7 +2,7 @@
 use Rattle.std.specs.Prelude.{ℕ, ◌≡◌, ◌-◌, ◌^◌, List, ◌++◌, length}
 use Rattle.xa_model.specs.State.{State}
 use Rattle.xa_history.specs.declared.entry.Entry.{Entry}
-use Rattle.xa_history.specs.declared.manages.Manages.{Ghosts}
+use Rattle.xa_history.specs.Believed.Manages.{Behaviour}
 use Rattle.xa_history.specs.Believed.Promises.{Promises}
 use Rattle.xa_history.specs.Believed.Upholds.{Upholds}
 
@@ -19,29 +19,29 @@ most_numbers = 2 ^ 64 - 1
 -- of them. From each starting state they are a legal history to one that the manager stands for, they report no more
 -- failures than were counted since then, and they are numbered from 1. Numbers are left for the hang-up of each
 -- connected session, as in a room places are.
-pub record Stands {M : Type 0} (m : Ghosts M) (start : State → Type 0) (base : ℕ × ℕ) (c : Numbered M)
+pub record Stands {M : Type 0} (m : Behaviour M) (start : State → Type 0) (base : ℕ × ℕ) (c : Numbered M)
     (entries : List Entry) : Type 0 where
   pub upholds : Upholds m start base c.now entries most_numbers
   pub count_is : c.count ≡ length entries
 
 -- it stands for some history
-abbrev pub HasHistory : {M : Type 0} → Ghosts M → (State → Type 0) → ℕ × ℕ → Numbered M → Type 0
+abbrev pub HasHistory : {M : Type 0} → Behaviour M → (State → Type 0) → ℕ × ℕ → Numbered M → Type 0
 HasHistory m start base c = (entries : List Entry) × Stands m start base c entries
 
 -- whichever history it stood for, it stands for that with these entries after it
-abbrev pub GoesOn : {M : Type 0} → Ghosts M → (State → Type 0) → ℕ × ℕ → Numbered M → List Entry → Numbered M → Type 0
+abbrev pub GoesOn : {M : Type 0} → Behaviour M → (State → Type 0) → ℕ × ℕ → Numbered M → List Entry → Numbered M → Type 0
 GoesOn m start base old more new =
     (entries : List Entry) → Stands m start base old entries → Stands m start base new (entries ++ more)
 
 -- each history that it stands for keeps what a room's book promises
-abbrev pub AllPromise : {M : Type 0} → Ghosts M → (State → Type 0) → ℕ × ℕ → Numbered M → Type 0
+abbrev pub AllPromise : {M : Type 0} → Behaviour M → (State → Type 0) → ℕ × ℕ → Numbered M → Type 0
 AllPromise m start base c =
     (entries : List Entry) → Stands m start base c entries → Promises m start c.now entries
 
 -- ---- law
 
 -- what goes on twice goes on with the entries of both
-abbrev pub GoesOnTwice : {M : Type 0} → Ghosts M → (State → Type 0) → ℕ × ℕ → Type 0
+abbrev pub GoesOnTwice : {M : Type 0} → Behaviour M → (State → Type 0) → ℕ × ℕ → Type 0
 GoesOnTwice {M} m start base =
     (a b c : Numbered M) (first second : List Entry) → GoesOn m start base a first b → GoesOn m start base b second c
     → GoesOn m start base a (first ++ second) c

@@ -10,10 +10,9 @@ use Rattle.xa_model.specs.declared.outcome.Appending.{Appending}
 use Rattle.xa_model.specs.declared.outcome.Outcome.{Outcome}
 use Rattle.xa_model.specs.declared.outcome.Outcome.TheVariants.{Appended, Joined}
 use Rattle.xa_history.specs.Believed.Book.{entry_of, placed, plain_entries}
-use Rattle.xa_history.specs.Believed.Manages.{Stays}
+use Rattle.xa_history.specs.Believed.Manages.{Behaviour, Stays}
 use Rattle.xa_history.specs.Believed.Together.{IsToldOf, event_at, events_of}
 use Rattle.xa_history.specs.declared.entry.Entry.{Entry}
-use Rattle.xa_history.specs.declared.manages.Manages.{Ghosts}
 use Rattle.xa_sequencer.specs.Believed.Stands.{GoesOn, Numbered}
 
 -- the entry of a call with its reply, which has its place
@@ -36,7 +35,7 @@ placed_from k (r ∷ rs) = (r.0, placed (k + 1) r.1) ∷ placed_from (k + 1) rs
 
 -- The calls that were replied are further entries, in the order of their replies, which have the next numbers: a group
 -- whose records became this.
-pub record AddsTogether {M : Type 0} (m : Ghosts M) (start : State → Type 0) (base : ℕ × ℕ) (old : Numbered M)
+pub record AddsTogether {M : Type 0} (m : Behaviour M) (start : State → Type 0) (base : ℕ × ℕ) (old : Numbered M)
     (calls : List Asked) (r : ℕ × Reply) (rs : List (ℕ × Reply)) (appending : Appending) (new : Numbered M)
     : Type 0 where
   pub told : AllByRecursion (IsToldOf calls) (r ∷ rs)
@@ -51,14 +50,14 @@ pub record AddsTogether {M : Type 0} (m : Ghosts M) (start : State → Type 0) (
       → RiseBy (failures_in (Appended appending)) (m.failures old.now) (m.failures new.now)
 
 -- no call was answered, and what stands behind the manager stays
-pub record Rests {M : Type 0} (m : Ghosts M) (start : State → Type 0) (base : ℕ × ℕ) (old new : Numbered M)
+pub record Rests {M : Type 0} (m : Behaviour M) (start : State → Type 0) (base : ℕ × ℕ) (old new : Numbered M)
     : Type 0 where
   pub count : new.count ≡ old.count
   pub goes_on : GoesOn m start base old [] new
   pub stays : Stays m.stands old.now new.now
 
 -- calls were asked together, with these replies to some of them
-abbrev pub CalledTogether : {M : Type 0} → Ghosts M → (State → Type 0) → ℕ × ℕ → Numbered M → List Asked
+abbrev pub CalledTogether : {M : Type 0} → Behaviour M → (State → Type 0) → ℕ × ℕ → Numbered M → List Asked
     → List (ℕ × Reply) → Numbered M → Type 0
 CalledTogether m start base old calls [] new = Rests m start base old new
 CalledTogether m start base old calls (r ∷ rs) new =

@@ -19,10 +19,10 @@ use Rattle.xa_model.specs.declared.event.Event.TheVariants.{Call}
 use Rattle.xa_reactor.specs.Believed.Tending.{HasTended}
 use Rattle.xa_history.specs.Believed.Book.{receipt_of}
 use Rattle.xa_history.specs.declared.entry.Entry.{Entry}
-use Rattle.xa_history.specs.declared.manages.Manages.{Ghosts}
+use Rattle.xa_history.specs.Believed.Manages.{Behaviour}
 use Rattle.xa_history.specs.Believed.Upholds.{IsLegal, IsCounted}
 use Rattle.xa_history.specs.Believed.Promises.{Promises}
-use Rattle.xa_sequencer.specs.Believed.GroupManager.{alone, manages_of}
+use Rattle.xa_sequencer.specs.Believed.GroupManager.{GroupManager, alone, manages_of}
 use Rattle.xa_server.specs.declared.engine.Looped.{Looped}
 use Rattle.xa_server.specs.Believed.Serves.{KeepsServed}
 use Rattle.xa_server.specs.Believed.Watching.{is_down_after}
@@ -31,17 +31,17 @@ use Rattle.xa_tokens.specs.Believed.Receipts.{AreSame}
 use Rattle.xa_tokens.specs.declared.receipt.Receipt.{Receipt}
 
 -- What an event of the sequencer that the loops share does to the account of the loop that asked.
-abbrev pub Connected : {M : Type 0} → Ghosts M → (State → Type 0) → ℕ × ℕ → Account → Result ℕ ConnectFault → Account → Type 0
+abbrev pub Connected : {M : Type 0} → Behaviour M → (State → Type 0) → ℕ × ℕ → Account → Result ℕ ConnectFault → Account → Type 0
 Connected m start base old result new = ConnectedBy m start base old result new
 
 -- Of how the manager is doing, which is no event, the loop is told nothing; the reply has some seconds of the clock.
-abbrev pub Called : {M : Type 0} → Ghosts M → (State → Type 0) → ℕ × ℕ → ℕ → Account → Question → Reply → Account → Type 0
+abbrev pub Called : {M : Type 0} → Behaviour M → (State → Type 0) → ℕ × ℕ → ℕ → Account → Question → Reply → Account → Type 0
 Called m start base session old (question.Call request) reply new = CalledBy m start base session old request reply new
 Called m start base session old question.Status reply new =
     (new ≡ old) × (status : Status) × (seconds : ℕ) × (reply ≡ doing (record status { seconds = seconds }))
     × IsTold m start base status
 
-abbrev pub Left : {M : Type 0} → Ghosts M → (State → Type 0) → ℕ × ℕ → ℕ → Account → Account → Type 0
+abbrev pub Left : {M : Type 0} → Behaviour M → (State → Type 0) → ℕ × ℕ → ℕ → Account → Account → Type 0
 Left m start base session old new = (was : Bool) × LeftBy m start base session old was new
 
 -- a call of a session was posted: it is asked for, and nothing is told of it yet
@@ -50,12 +50,12 @@ Posted session old new = (request : Request) × Posts old (Call session request)
 
 -- A loop by its account: each session that it connected it hung up, once, and answered only in between, each call by one
 -- entry that it was told, or none where memory was wanted; it was told of nothing else. In the end it owes nothing.
-abbrev pub HasLooped : {M : Type 0} → Ghosts M → (State → Type 0) → ℕ × ℕ → Account → Account → Type 0
+abbrev pub HasLooped : {M : Type 0} → Behaviour M → (State → Type 0) → ℕ × ℕ → Account → Account → Type 0
 HasLooped m start base old new =
     HasTended {D = Account} Posted (Connected m start base) (Called m start base) (Left m start base) (λ a. Owes a 0) old new
 
 -- each of them, one by one
-abbrev pub AllLoop : {M : Type 0} → Ghosts M → (State → Type 0) → ℕ × ℕ → List Account → List Account → Type 0
+abbrev pub AllLoop : {M : Type 0} → Behaviour M → (State → Type 0) → ℕ × ℕ → List Account → List Account → Type 0
 AllLoop m start base [] [] = Unit {0}
 AllLoop m start base [] (b ∷ ended) = ⊥
 AllLoop m start base (a ∷ rest) [] = ⊥
@@ -71,7 +71,7 @@ abbrev pub IsFresh : Account → Type 0
 IsFresh a = (a.asked ≡ []) × (a.told ≡ []) × (a.given_up ≡ [])
 
 -- so many loops, which had asked nothing when they began
-pub record RunsLoops {M : Type 0} (m : Ghosts M) (start : State → Type 0) (base : ℕ × ℕ) (loops : ℕ)
+pub record RunsLoops {M : Type 0} (m : Behaviour M) (start : State → Type 0) (base : ℕ × ℕ) (loops : ℕ)
     (ended : List Account) : Type 0 where
   pub begun : List Account
   pub count : length begun ≡ loops
@@ -81,7 +81,7 @@ pub record RunsLoops {M : Type 0} (m : Ghosts M) (start : State → Type 0) (bas
 -- From each starting state the history is a legal one, with what that promises, and tells of no more failures than were
 -- counted. Its entries are what the loops were told, each entry by one of them, once, and no other. Whether the manager is
 -- down in the end is what their replies say.
-pub record ServesByLoops {M : Type 0} (m : Ghosts M) (start : State → Type 0) (base : ℕ × ℕ) (loops : ℕ)
+pub record ServesByLoops {M : Type 0} (m : Behaviour M) (start : State → Type 0) (base : ℕ × ℕ) (loops : ℕ)
     (told : Looped) : Type 0 where
   pub now : M
   pub entries : List Entry
@@ -95,6 +95,11 @@ pub record ServesByLoops {M : Type 0} (m : Ghosts M) (start : State → Type 0) 
   pub counted : IsCounted m start base now entries
   pub calls_are : told.calls ≡ length entries
   pub down_is : told.is_down ≡ is_down_after false (map receipt_of entries)
+
+-- the same, and this is the manager in the end
+abbrev pub ServesTo : {M : Type 0} → Behaviour (GroupManager M) → (State → Type 0) → ℕ × ℕ → ℕ → Looped → M → Type 0
+ServesTo m start base loops told manager =
+    (serves : ServesByLoops m start base loops told) × (serves.now.manager ≡ manager)
 
 -- ---- law
 

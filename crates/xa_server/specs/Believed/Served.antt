@@ -1,5 +1,5 @@
 -- What a server that ended did, and what is known where it failed.
-use Rattle.std.specs.Prelude.{◌≡◌, ◌⊎◌, ◌<◌, ◌≤◌, ◌++◌, ◌&&◌, ◌||◌, ℕ, zero, suc, Bool, true, false, not, if◌then◌else◌, List, [], IsSomeAnd, Some, codes}
+use Rattle.std.specs.Prelude.{◌≡◌, ◌⊎◌, ◌<◌, ◌≤◌, ◌++◌, ◌&&◌, ◌||◌, ℕ, zero, suc, Bool, true, false, not, if◌then◌else◌, is_some, List, [], IsSomeAnd, Option, None, Some, codes}
 use Rattle.std.specs.declared.net.TcpListener.{TcpListener}
 use Rattle.xa_disk.specs.declared.disk.Disk as disk
 use Rattle.xa_disk.specs.declared.file_fault.FileFault.{FileFault}
@@ -21,7 +21,6 @@ use Rattle.xa_model.specs.Invariants.Loggable.{IsRecoverable}
 use Rattle.xa_model.specs.State.{State}
 use Rattle.xa_model.specs.Step.{step}
 use Rattle.xa_model.specs.Turn.{Reopened}
-use Rattle.xa_history.specs.declared.manages.Manages as manages
 use Rattle.xa_reactor.specs.declared.common.Settings.{Settings}
 use Rattle.xa_sequencer.specs.Believed.GroupManager.{alone, manages_of}
 use Rattle.xa_server.specs.declared.listening.Listening.{Listening}
@@ -30,15 +29,14 @@ use Rattle.xa_server.specs.declared.audited.Audited.{Audited}
 use Rattle.xa_server.specs.declared.engine.Looped.{Looped}
 use Rattle.xa_server.specs.declared.listens.Listens as listens
 use Rattle.xa_server.specs.Believed.Loops.{ServesByLoops}
-use Rattle.xa_server.specs.Believed.Serves.{Serves}
+use Rattle.xa_server.specs.Believed.Audits.{ServesAudited}
 use Rattle.xa_server.specs.declared.serve_fault.ServeFault.{ServeFault}
 use Rattle.xa_server.specs.declared.serve_fault.ServeFault.TheVariants as fault
+use Rattle.xa_server.specs.declared.workers.Worked.{Worked}
 use Rattle.xa_service.specs.declared.at.At.{At}
 use Rattle.xa_service.specs.declared.at.At.TheVariants as at
-use Rattle.xa_service.specs.declared.loop_service.LoopService.{LoopService}
-use Rattle.xa_service.specs.declared.loop_service.TheConstants.{MOST_LOOPS}
 use Rattle.xa_service.specs.declared.service.Service.{Service}
-use Rattle.xa_service.specs.declared.service.TheConstants.{MOST_WORKERS}
+use Rattle.xa_service.specs.declared.service.TheConstants.{MOST_LOOPS}
 
 -- The manager is what these two disks were opened to: one that begins with what their records come to; a new one, where
 -- both were empty; and one that stands for the opening of each state that they stood for. The first holds of any disks,
@@ -88,13 +86,6 @@ abbrev pub place_of : Service → Place
 place_of service = record {
   path = service.path.now;
   name = service.name.now;
-  at = OnPort (codes "127.0.0.1") service.port;
-}
-
-abbrev pub loop_place_of : LoopService → Place
-loop_place_of service = record {
-  path = service.path.now;
-  name = service.name.now;
   at = where_of service.at;
 }
 
@@ -121,24 +112,13 @@ pub record IsReady {D R : Type 0} (disks : disk.Ghosts D) (opened : D → List �
   pub listening : IsListening net listener place.at
   pub has_opened : HasOpened disks first second place.name log_bytes manager
 
--- All was ready, and the manager's sessions were served by so many workers, from each state that it stood for. The
--- audit of their history found this.
-pub record HasServed {D R : Type 0} (L : Type 0) (disks : disk.Ghosts D) (m : manages.Ghosts (Manager D))
-    (opened : D → List ℕ → Type 0) (net : listens.Ghosts R) (service : Service) (is_whole : Bool) : Type 0 where
-  pub listener : Listening
-  pub manager : Manager D
-  pub ready : IsReady disks opened net service.log_bytes (place_of service) listener manager
-  pub told : Audited
-  pub serves : Serves L m (m.stands manager) (m.failures manager) service.workers told
-  pub found : is_whole ≡ told.is_whole
-
 -- how many loops are to run: as many as were asked for, or 1 to 4 where none were
 abbrev pub AreLoops : ℕ → ℕ → Type 0
 AreLoops zero loops = (0 < loops) × (loops ≤ 4)
 AreLoops (suc n) loops = loops ≡ suc n
 
 -- what is asked of its loops
-abbrev pub settings_of : LoopService → Settings
+abbrev pub settings_of : Service → Settings
 settings_of service = record {
   connections = service.connections;
   frame_seconds = service.frame_seconds;
@@ -150,21 +130,38 @@ settings_of service = record {
   tick_seconds = service.tick_seconds;
 }
 
--- All was ready, and the manager's sessions were served by loops, from each state that it stood for, as was asked. All is
--- well, unless a server that is down was to end, and the manager is down, or the loops ended since it was.
-pub record HasLooped {D R : Type 0} (disks : disk.Ghosts D) (opened : D → List ℕ → Type 0) (net : listens.Ghosts R)
-    (service : LoopService) (is_well : Bool) : Type 0 where
+-- The manager's sessions were served by loops, from each state that it stood for: without an audit, or with one, which told
+-- this.
+abbrev pub ServesAs : {D : Type 0} → disk.Ghosts D → Manager D → ℕ → Looped → Option Audited → Type 0
+ServesAs disks manager loops told None =
+    ServesByLoops (manages_of disks) ((manages_of disks).stands (alone manager)) ((manages_of disks).failures (alone manager))
+    loops told
+ServesAs disks manager loops told (Some audited) =
+    (done : Worked) × (done.looped ≡ told) × (done.audited ≡ audited)
+    × ServesAudited (manages_of disks) ((manages_of disks).stands (alone manager))
+    ((manages_of disks).failures (alone manager)) loops done
+
+-- unless an audit found a fault
+abbrev pub is_sound : Option Audited → Bool
+is_sound None = true
+is_sound (Some audited) = audited.is_whole
+
+-- All was ready, and the manager's sessions were served by loops, as was asked. All is well, unless an audit found a fault, or a
+-- server that is down was to end, and the manager is down, or the loops ended since it was.
+pub record HasServed {D R : Type 0} (disks : disk.Ghosts D) (opened : D → List ℕ → Type 0) (net : listens.Ghosts R)
+    (service : Service) (is_well : Bool) : Type 0 where
   pub listener : Listening
   pub manager : Manager D
-  pub ready : IsReady disks opened net service.log_bytes (loop_place_of service) listener manager
+  pub ready : IsReady disks opened net service.log_bytes (place_of service) listener manager
   pub loops : ℕ
   pub loops_are : AreLoops service.loops loops
   pub told : Looped
-  pub serves : ServesByLoops (manages_of disks) ((manages_of disks).stands (alone manager))
-      ((manages_of disks).failures (alone manager)) loops told
+  pub audited : Option Audited
+  pub audits : is_some audited ≡ service.audits
+  pub serves : ServesAs disks manager loops told audited
   pub whole : told.is_whole ≡ true
   pub settings : told.settings ≡ settings_of service
-  pub well : is_well ≡ not (service.ends_when_down && (told.is_down || told.ended_down))
+  pub well : is_well ≡ (not (service.ends_when_down && (told.is_down || told.ended_down)) && is_sound audited)
 
 -- ---- where it failed
 
@@ -256,12 +253,7 @@ HasFailedBy disks opened refused net log_bytes place late fault.Wait =
 abbrev pub never : ServeFault → Type 0
 never why = ⊥
 
--- workers: there are no such
-abbrev pub NoWorkers : ℕ → ServeFault → Type 0
-NoWorkers workers fault.Start = (workers ≡ 0) ⊎ (MOST_WORKERS < workers)
-NoWorkers workers _ = ⊥
-
--- loops: there are none such, or the system gave nothing to wait for connections by
+-- there are no such loops, or the system gave nothing to wait for connections by
 abbrev pub NoLoops : ℕ → ServeFault → Type 0
 NoLoops loops fault.Start = MOST_LOOPS < loops
 NoLoops loops fault.Wait = Unit {0}
@@ -270,9 +262,4 @@ NoLoops loops _ = ⊥
 abbrev pub HasFailed : {D R : Type 0} → disk.Ghosts D → (D → List ℕ → Type 0) → (List ℕ → FileFault → Type 0)
     → listens.Ghosts R → Service → ServeFault → Type 0
 HasFailed disks opened refused net service why =
-    HasFailedBy disks opened refused net service.log_bytes (place_of service) (NoWorkers service.workers) why
-
-abbrev pub LoopsHaveFailed : {D R : Type 0} → disk.Ghosts D → (D → List ℕ → Type 0) → (List ℕ → FileFault → Type 0)
-    → listens.Ghosts R → LoopService → ServeFault → Type 0
-LoopsHaveFailed disks opened refused net service why =
-    HasFailedBy disks opened refused net service.log_bytes (loop_place_of service) (NoLoops service.loops) why
+    HasFailedBy disks opened refused net service.log_bytes (place_of service) (NoLoops service.loops) why

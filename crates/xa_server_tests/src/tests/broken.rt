@@ -1,14 +1,15 @@
-use crate::desks::{Visit, at_new_desk};
-use crate::tests::clients::{OPEN, OPENED, opened_at};
+use crate::tests::callers::{Asks, Visit, is_visited};
+use crate::tests::clients::OPEN;
 use crate::tests::rows::none_wrong;
 use std::alloc::Global;
 use std::io;
 use std::io::{Read, Write};
-use std::sync::ledger::Ledger;
+use std::rt::Clock;
+use std::sync::Wait;
+use std::thread::Threads;
 use xa_desk::{Served, serve, serve_upto};
-use xa_history::{Entry, Manages, Start};
+use xa_history::Receipt;
 use xa_model::Event;
-use xa_room::{Desk, Room, Share};
 
 // Connections to a room that break.
 
@@ -64,100 +65,69 @@ impl Write for Full {
     }
 }
 
-/// How a connection breaks: its input is cut, or a read or a write fails before that byte; and how many frames it
-/// may have.
-#[derive(Clone, Copy)]
-struct Break {
+/// How a first connection breaks: its input is cut, or a read or a write fails before that byte; how many frames it may
+/// have; and what is wanted of it: its end, how many bytes of the replies were written, how many frames were answered, and how
+/// many bytes were not read.
+#[derive(Clone, Copy, Drop)]
+struct Connection {
     cut: usize,
     read: usize,
     write: usize,
     most: u32,
-}
-
-/// It doesn't.
-const WHOLE: Break = Break {
-    cut: usize::MAX,
-    read: usize::MAX,
-    write: usize::MAX,
-    most: u32::MAX,
-};
-
-/// What is wanted of it: its end, how many bytes of the replies were written, how many frames were answered, and how
-/// many bytes were not read.
-#[derive(Clone, Copy)]
-struct Wanted {
     end: Served,
     written: usize,
     answered: usize,
     left: usize,
 }
 
-/// Three opens, and their replies after the connect.
+/// It doesn't break.
+const WHOLE: Connection = Connection {
+    cut: usize::MAX,
+    read: usize::MAX,
+    write: usize::MAX,
+    most: u32::MAX,
+    end: Served::Ended,
+    written: FRAMES * REPLY,
+    answered: FRAMES,
+    left: 0,
+};
+
+/// Three opens, and their replies after the connect, each of so many bytes.
 const FRAMES: usize = 3;
 
-fn opens(alloc: Global) -> Option<Vec<u8>> {
-    let mut bytes = Vec::new(alloc);
-    for _ in 0..FRAMES {
-        bytes.extend_from_slice(&OPEN).ok()?;
-    }
-    Some(bytes)
-}
+const REPLY: usize = 19;
 
-fn replies(alloc: Global) -> Option<Vec<u8>> {
-    let mut bytes = Vec::new(alloc);
-    for place in 2..=4u8 {
-        bytes.extend_from_slice(&opened_at(place)).ok()?;
-    }
-    Some(bytes)
-}
+const OPENS: [u8; 45] = [
+    0, 0, 0, 11, 1, 1, 0, 0, 0, 0, 4, 0x78, 0x61, 0x72, 0x6d, //
+    0, 0, 0, 11, 1, 1, 0, 0, 0, 0, 4, 0x78, 0x61, 0x72, 0x6d, //
+    0, 0, 0, 11, 1, 1, 0, 0, 0, 0, 4, 0x78, 0x61, 0x72, 0x6d,
+];
 
-fn is_hangup(entry: &Entry) -> bool {
-    matches!(&entry.event, Event::Hangup(1))
+const REPLIES: [u8; 57] = [
+    0, 0, 0, 15, 1, 0, 0, 0, 0, 0, 0, 0, 0, 0, 0, 0, 0, 2, 0, //
+    0, 0, 0, 15, 1, 0, 0, 0, 0, 0, 0, 0, 0, 0, 0, 0, 0, 3, 0, //
+    0, 0, 0, 15, 1, 0, 0, 0, 0, 0, 0, 0, 0, 0, 0, 0, 0, 4, 0,
+];
+
+fn is_hangup(receipt: &Receipt) -> bool {
+    matches!(&receipt.event, Event::Hangup(1))
 }
 
 /// A connect, `calls` calls, and one hang-up, the last of all.
-fn are_recorded(entries: &[Entry], calls: usize) -> bool {
-    let hung_up = entries.iter().filter(|entry| is_hangup(entry)).count();
-    let last = entries.last().map_or(false, is_hangup);
-    last && hung_up == 1 && entries.len() - 1 == calls.saturating_add(1)
+fn are_recorded(kept: &[Receipt], calls: usize) -> bool {
+    let hung_up = kept.iter().filter(|receipt| is_hangup(receipt)).count();
+    let last = kept.last().map_or(false, is_hangup);
+    last && hung_up == 1 && kept.len() - 1 == calls.saturating_add(1)
 }
 
 fn front(bytes: &[u8], length: usize) -> &[u8] {
     bytes.get(..length).unwrap_or(bytes)
 }
 
-fn connected<M: Manages, S: Start>(room: &mut Room<M, S>) -> Option<u64> {
-    let (session, _receipt) = room.connect();
-    session.ok()
-}
-
-fn end_of<M: Manages, S: Start>(
-    alloc: Global,
-    room: &mut Room<M, S>,
-    reader: &mut Faulty<'_>,
-    writer: &mut Full,
-    session: u64,
-    most: u32,
-) -> Served {
-    if most == u32::MAX {
-        serve(alloc, room, reader, writer, session)
-    } else {
-        serve_upto(alloc, room, reader, writer, session, most)
-    }
-}
-
-// Whether a session that sends these bytes, and to which these replies are due, ends as wanted.
-fn ends<M: Manages, S: Start>(
-    alloc: Global,
-    room: &mut Room<M, S>,
-    session: u64,
-    bytes: &[u8],
-    replies: &[u8],
-    how: Break,
-    wanted: Wanted,
-) -> bool {
+// Whether a session that sends the opens ends as wanted.
+fn ends<D: Asks>(alloc: Global, caller: &mut D, session: u64, how: &Connection) -> bool {
     let mut reader = Faulty {
-        bytes: front(bytes, how.cut),
+        bytes: front(&OPENS, how.cut),
         given: 0,
         fails_at: how.read,
     };
@@ -165,153 +135,115 @@ fn ends<M: Manages, S: Start>(
         taken: Vec::new(alloc),
         fails_at: how.write,
     };
-    let end = end_of(alloc, room, &mut reader, &mut writer, session, how.most);
-    end == wanted.end
-        && writer.taken.as_slice() == front(replies, wanted.written)
-        && reader.bytes.len() == wanted.left
-        && are_recorded(room.entries(), wanted.answered)
+    let end = if how.most == u32::MAX {
+        serve(alloc, caller, &mut reader, &mut writer, session)
+    } else {
+        serve_upto(alloc, caller, &mut reader, &mut writer, session, how.most)
+    };
+    end == how.end
+        && writer.taken.as_slice() == front(&REPLIES, how.written)
+        && reader.bytes.len() == how.left
 }
 
-fn is_served<M: Manages, S: Start>(
-    alloc: Global,
-    room: &mut Room<M, S>,
-    how: Break,
-    wanted: Wanted,
-) -> Option<bool> {
-    let session = connected(room)?;
-    let bytes = opens(alloc)?;
-    let replies = replies(alloc)?;
-    Some(ends(alloc, room, session, &bytes, &replies, how, wanted))
-}
+impl Visit for Connection {
+    fn visit<D: Asks>(&self, alloc: Global, caller: &mut D) -> bool {
+        match caller.connect() {
+            Some(session) => ends(alloc, caller, session, self),
+            None => false,
+        }
+    }
 
-/// A first connection, how it breaks, and what is wanted of it.
-#[derive(Drop)]
-struct Connection {
-    how: Break,
-    wanted: Wanted,
-}
-
-impl<R: AllocGlobal> Visit<R> for Connection {
-    type Found = bool;
-
-    fn visit<M: Manages + Drop, S: Start, L: Ledger>(
-        self,
-        rt: &R,
-        desk: Desk<M, S, L>,
-        _share: Share<L>,
-    ) -> Option<bool> {
-        let (mut room, _book) = desk.into_room();
-        is_served(rt.alloc(), &mut room, self.how, self.wanted)
+    fn judge(&self, _alloc: Global, kept: &[Receipt], lost: u64, _told: Vec<Receipt>) -> bool {
+        lost == 0 && are_recorded(kept, self.answered)
     }
 }
 
-/// A first connection that breaks like this ends like this.
-fn is_right<R: AllocGlobal>(rt: &R, connection: Connection) -> bool {
-    at_new_desk(rt, connection) == Some(true)
-}
-
 /// The first of `places` places at which a connection that breaks there doesn't end like that.
-fn wrong_place<R: AllocGlobal, F: Fn(usize) -> Connection>(
+fn wrong_place<R: AllocGlobal + Clock + Threads + Wait + Sync, F: Fn(usize) -> Connection>(
     rt: &R,
     places: usize,
     broken: F,
 ) -> Option<usize>
     requires { F.IsAlwaysCallable broken }
 {
-    (0..places).find(|n| !is_right(rt, broken(*n)))
+    (0..places).find(|n| !is_visited(rt, 1, &broken(*n)))
 }
 
 /// The input is cut after `n` bytes.
 fn cut(n: usize) -> Connection {
-    let end = if n % OPEN.len() == 0 {
-        Served::Ended
-    } else {
-        Served::ReadFault
-    };
     let answered = n / OPEN.len();
     Connection {
-        how: Break { cut: n, ..WHOLE },
-        wanted: Wanted {
-            end,
-            written: answered.saturating_mul(OPENED),
-            answered,
-            left: 0,
+        cut: n,
+        end: if n % OPEN.len() == 0 {
+            Served::Ended
+        } else {
+            Served::ReadFault
         },
+        written: answered.saturating_mul(REPLY),
+        answered,
+        ..WHOLE
     }
 }
 
 #[test]
 fn inputs_that_are_cut(rt: HostRuntime) {
-    none_wrong(&rt, wrong_place(&rt, FRAMES * OPEN.len() + 1, |n| cut(n)));
+    none_wrong(&rt, wrong_place(&rt, OPENS.len() + 1, |n| cut(n)));
 }
 
 /// A read fails once, before this byte or the end.
 fn unread(n: usize) -> Connection {
     let answered = n / OPEN.len();
     Connection {
-        how: Break { read: n, ..WHOLE },
-        wanted: Wanted {
-            end: Served::ReadFault,
-            written: answered.saturating_mul(OPENED),
-            answered,
-            left: (FRAMES * OPEN.len()).saturating_sub(n),
-        },
+        read: n,
+        end: Served::ReadFault,
+        written: answered.saturating_mul(REPLY),
+        answered,
+        left: OPENS.len().saturating_sub(n),
+        ..WHOLE
     }
 }
 
 #[test]
 fn reads_that_fail_once(rt: HostRuntime) {
-    none_wrong(
-        &rt,
-        wrong_place(&rt, FRAMES * OPEN.len() + 1, |n| unread(n)),
-    );
+    none_wrong(&rt, wrong_place(&rt, OPENS.len() + 1, |n| unread(n)));
 }
 
 /// A write fails once, before this byte.
 fn unwritten(n: usize) -> Connection {
-    let answered = n / OPENED + 1;
+    let answered = n / REPLY + 1;
     Connection {
-        how: Break { write: n, ..WHOLE },
-        wanted: Wanted {
-            end: Served::WriteFault,
-            written: n,
-            answered,
-            left: FRAMES.saturating_sub(answered) * OPEN.len(),
-        },
+        write: n,
+        end: Served::WriteFault,
+        written: n,
+        answered,
+        left: FRAMES.saturating_sub(answered) * OPEN.len(),
+        ..WHOLE
     }
 }
 
 #[test]
 fn writes_that_fail_once(rt: HostRuntime) {
-    none_wrong(&rt, wrong_place(&rt, FRAMES * OPENED, |n| unwritten(n)));
+    none_wrong(&rt, wrong_place(&rt, REPLIES.len(), |n| unwritten(n)));
 }
 
-/// A connection may have `most` frames.
-fn bounded(most: u32) -> Connection {
-    let answered = FRAMES.min(most as usize);
-    let end = if most as usize > FRAMES {
-        Served::Ended
-    } else {
-        Served::ReadFault
-    };
+/// A connection may have `most` frames. After the last one nothing is read, nor is it seen that the input ended.
+fn bounded(most: usize) -> Connection {
+    let answered = FRAMES.min(most);
     Connection {
-        how: Break { most, ..WHOLE },
-        wanted: Wanted {
-            end,
-            written: answered.saturating_mul(OPENED),
-            answered,
-            left: (FRAMES - answered) * OPEN.len(),
+        most: u32::try_from(most).unwrap_or(u32::MAX),
+        end: if most > FRAMES {
+            Served::Ended
+        } else {
+            Served::ReadFault
         },
+        written: answered.saturating_mul(REPLY),
+        answered,
+        left: (FRAMES - answered) * OPEN.len(),
+        ..WHOLE
     }
 }
 
-/// After the last frame that it may have nothing is read, nor is it seen that the input ended.
 #[test]
 fn a_bound_of_frames(rt: HostRuntime) {
-    assert!(rt;
-        is_right(&rt, bounded(0))
-            && is_right(&rt, bounded(2))
-            && is_right(&rt, bounded(3))
-            && is_right(&rt, bounded(4))
-    );
+    none_wrong(&rt, wrong_place(&rt, FRAMES + 2, |n| bounded(n)));
 }

@@ -1,213 +1,102 @@
-ghost use Rattle.std.specs.Prelude.{◌≡◌, IfSome};
-ghost use Rattle.xa_frame.specs.Limits.{IsRequest};
-ghost use Rattle.xa_model.specs.State.{State};
+use crate::tests::callers::{Asks, Visit, is_visited};
+use crate::tests::posted::call_of;
+use std::alloc::{AllocError, Global};
+use xa_codes::XA_OK;
+use xa_frame::{Body, Reply};
+use xa_history::Receipt;
+use xa_room::audit;
 
-use crate::desks::{PARTS, desk_over, open_request, opened};
-use std::alloc::Global;
-use std::marker::Brand;
-use std::rt::Clock;
-use std::sync::Wait;
-use std::sync::ledger::{Blank, Ledger};
-use std::thread::{Threads, map_vec};
-use xa_codes::{Bytes, TMNOFLAGS, TMONEPHASE, TMSUCCESS, XA_OK};
-use xa_desk::Door;
-use xa_disk::MemDisk;
-use xa_fields::Key;
-use xa_frame::{Body, Reply, Request};
-use xa_history::{Manages, Receipt, Start};
-use xa_manager::Manager;
-use xa_room::{Desk, Room, Share, audit};
-use xa_workers::{Gate, OpenGate, Post, Report, split_all};
-use xa_xid::Xid;
-
-/// The rounds of a caller, and the calls of each.
+/// The rounds of a caller, and what each asks of a branch: one writes a key, and when it is committed the other reads it back.
 const ROUNDS: u8 = 5;
 
-const CALLS: u8 = 9;
+const ROUND: [(&str, u8); 9] = [
+    ("start TMNOFLAGS", 0),
+    ("put", 0),
+    ("end TMSUCCESS", 0),
+    ("prepare TMNOFLAGS", 0),
+    ("commit TMNOFLAGS", 0),
+    ("start TMNOFLAGS", 1),
+    ("get", 1),
+    ("end TMSUCCESS", 1),
+    ("commit TMONEPHASE", 1),
+];
 
 /// What is recorded of a caller: a connect, an Open, its rounds, and a hang-up.
 const EVENTS: usize = 48;
 
-// The calls of one round: a branch writes the key, and when it is committed another reads it back.
-fn round_request(alloc: Global, key: u8, round: u8, index: u8) -> Option<Request>
-    ensures { IfSome result IsRequest }
-{
-    let branch = if index < 5 { 0 } else { 1 };
-    let xid = Xid::new(1, &[key], &[round, branch]).ok()?;
-    Some(match index {
-        0 | 5 => Request::Start {
-            flags: TMNOFLAGS,
-            xid,
-        },
-        1 => Request::Put {
-            key: Key::new(&[key])?,
-            value: Bytes::from_slice(alloc, &[round]).ok()?,
-        },
-        2 | 7 => Request::End {
-            flags: TMSUCCESS,
-            xid,
-        },
-        3 => Request::Prepare {
-            flags: TMNOFLAGS,
-            xid,
-        },
-        4 => Request::Commit {
-            flags: TMNOFLAGS,
-            xid,
-        },
-        6 => Request::Get {
-            key: Key::new(&[key])?,
-        },
-        _ => Request::Commit {
-            flags: TMONEPHASE,
-            xid,
-        },
-    })
-}
-
-fn has_value(reply: &Reply, wanted: u8) -> bool {
-    match &reply.body {
-        Body::Value(value) => value.as_slice() == [wanted].as_slice(),
-        _ => false,
+// A session's call of a round, on a key of its own.
+fn line_of(
+    alloc: Global,
+    session: u64,
+    round: u8,
+    verb: &str,
+    branch: u8,
+) -> Result<String, AllocError> {
+    match verb {
+        "put" => format!(in alloc; "{session} put 0{session} 0{round}"),
+        "get" => format!(in alloc; "{session} get 0{session}"),
+        _ => format!(in alloc; "{session} {verb} 1:0{session}:0{round}0{branch}"),
     }
 }
 
-// One round of calls. All answer 0, and the get reads what was committed.
-fn is_right_round<M: Manages, S: Start, L: Ledger, G: Gate, R: Clock + Wait>(
+// What is answered to a line.
+fn told<D: Asks>(alloc: Global, caller: &mut D, line: &str) -> Option<Reply> {
+    let (session, request) = call_of(alloc, line)?;
+    Some(caller.call(session, request))
+}
+
+// Whether a call of a round is answered by 0, and the get by what was committed.
+fn is_right<D: Asks>(
     alloc: Global,
-    post: &mut Post<'_, M, S, L, G, R>,
+    caller: &mut D,
     session: u64,
-    key: u8,
     round: u8,
-) -> bool {
-    for index in 0..CALLS {
-        let Some(request) = round_request(alloc, key, round, index) else {
-            return false;
-        };
-        let reply = post.call(session, request);
-        if reply.code != XA_OK || (index == 6 && !has_value(&reply, round)) {
+    call: (&str, u8),
+) -> Option<bool> {
+    let line = line_of(alloc, session, round, call.0, call.1).ok()?;
+    let reply = told(alloc, caller, &line)?;
+    let is_read = match &reply.body {
+        Body::Value(value) => value.as_slice() == [round].as_slice(),
+        _ => call.0 != "get",
+    };
+    Some(is_read && reply.code == XA_OK)
+}
+
+fn is_right_round<D: Asks>(alloc: Global, caller: &mut D, session: u64, round: u8) -> bool {
+    for call in &ROUND {
+        if is_right(alloc, caller, session, round, *call) != Some(true) {
             return false;
         }
     }
     true
 }
 
-// A session of all rounds, on a key of its own.
-fn has_session<M: Manages, S: Start, L: Ledger, G: Gate, R: Clock + Wait>(
-    alloc: Global,
-    post: &mut Post<'_, M, S, L, G, R>,
-) -> Option<bool> {
-    let session = post.connect().ok()?;
-    let key = u8::try_from(session).ok()?;
-    let open = open_request(alloc)?;
-    let mut is_right = post.call(session, open).code == XA_OK;
+// A session of all rounds.
+fn has_session<D: Asks>(alloc: Global, caller: &mut D) -> Option<bool> {
+    let session = caller.connect()?;
+    let open = format!(in alloc; "{session} open TMNOFLAGS xarm").ok()?;
+    let mut is_right = told(alloc, caller, &open)?.code == XA_OK;
     for round in 0..ROUNDS {
-        is_right = is_right && is_right_round(alloc, post, session, key, round);
+        is_right = is_right && is_right_round(alloc, caller, session, round);
     }
-    post.hangup(session);
+    caller.hangup(session);
     Some(is_right)
 }
 
-// Whether the places rise, and no receipt is missing.
-fn is_whole<L: Ledger>(report: &Report<L>) -> bool {
-    let mut last = 0;
-    for receipt in &report.receipts {
-        if receipt.place <= last || receipt.reply.place != receipt.place {
-            return false;
-        }
-        last = receipt.place;
+/// Eight callers at once, and an audit of what they were told.
+struct Crew;
+
+impl Visit for Crew {
+    fn visit<D: Asks>(&self, alloc: Global, caller: &mut D) -> bool {
+        has_session(alloc, caller) == Some(true)
     }
-    report.dropped == 0 && report.receipts.len() == EVENTS
-}
 
-/// What one of the callers did.
-#[derive(Drop)]
-struct Done<L: Ledger> {
-    report: Report<L>,
-    is_right: bool,
-}
-
-fn caller<M: Manages, S: Start, L: Ledger, R: Clock + Wait>(
-    rt: &R,
-    alloc: Global,
-    desk: &Desk<M, S, L>,
-    share: Share<L>,
-) -> Done<L> {
-    let mut post = Post::new(alloc, rt, desk, &OpenGate, share);
-    let was_right = has_session(alloc, &mut post) == Some(true);
-    let report = post.into_report();
-    let is_right = was_right && is_whole(&report);
-    Done { report, is_right }
-}
-
-// Adds a caller's receipts and share, if it was right.
-fn gathers<L: Ledger>(
-    receipts: &mut Vec<Receipt>,
-    shares: &mut Vec<Share<L>>,
-    done: Done<L>,
-) -> bool {
-    let Done { report, is_right } = done;
-    let Report {
-        share,
-        receipts: mut more,
-        dropped: _,
-    } = report;
-    let is_added = shares.push(share).is_ok();
-    is_right && is_added && receipts.append(&mut more).is_ok()
-}
-
-fn gathers_all<L: Ledger>(
-    receipts: &mut Vec<Receipt>,
-    shares: &mut Vec<Share<L>>,
-    dones: Vec<Done<L>>,
-) -> bool {
-    for done in dones {
-        if !gathers(receipts, shares, done) {
-            return false;
-        }
+    fn judge(&self, alloc: Global, kept: &[Receipt], lost: u64, told: Vec<Receipt>) -> bool {
+        kept.len() == 8 * EVENTS && audit(alloc, kept, lost, &told, 0).is_ok()
     }
-    true
-}
-
-// Whether all callers were right, and an audit of all receipts and shares finds no fault.
-fn are_sound<M: Manages, S: Start, L: Ledger>(
-    alloc: Global,
-    room: &Room<M, S>,
-    dones: Vec<Done<L>>,
-) -> bool {
-    let mut receipts = Vec::new(alloc);
-    let mut shares = Vec::new(alloc);
-    gathers_all(&mut receipts, &mut shares, dones)
-        && audit(alloc, room, receipts.as_slice(), shares.as_slice()).is_ok()
-}
-
-// As many callers at once as the ledger has parts.
-fn audited<
-    M: Manages + Send + Drop,
-    S: Start + Send + Sync,
-    L: Ledger + Send + Sync,
-    R: Clock + Threads + Wait + Sync,
->(rt: &R, alloc: Global, manager: M, blank: Blank) -> Option<bool>
-    requires start { (s : State) → S.start s → M.stands manager s }
-    requires base { M.failures manager ≡ S.base }
-    requires name { blank.name ≡ L.name }
-    requires parts { (blank.parts ≡ L.parts) × (blank.parts ≡ 8) }
-{
-    let (desk, share) = desk_over::<M, S, L>(alloc, manager, blank)?;
-    let shares = split_all(alloc, share, PARTS).ok()?;
-    let dones = map_vec(rt, shares, &|share| caller(rt, alloc, &desk, share)).ok()?;
-    let (room, _book) = desk.into_room();
-    Some(are_sound(alloc, &room, dones) && room.entries().len() == 8 * EVENTS)
 }
 
 #[test]
 fn desk_audit(rt: HostRuntime) {
-    let manager = opened(rt.alloc()).expect(&rt, "a manager");
-    let found = audited::<Manager<MemDisk>, Brand, Brand, HostRuntime>(
-        &rt,
-        rt.alloc(),
-        manager,
-        Blank::new(PARTS),
-    );
-    assert!(rt; found == Some(true));
+    assert!(rt; is_visited(&rt, 8, &Crew));
 }

@@ -10,7 +10,7 @@ use xa_codes::XA_OK;
 use xa_disk::MemDisk;
 use xa_history::Start;
 use xa_manager::{Asked, Manager};
-use xa_sequencer::{GroupCommits, Sequencer};
+use xa_sequencer::{Manages, Sequencer};
 
 /// Before the group.
 const BEFORE: [&str; 5] = [
@@ -40,7 +40,7 @@ const WAITS: [&str; 3] = [
 ];
 
 // Whether a line is answered by 0, with the number after the one before; or, if it has to wait, is given back.
-fn is_told<M: GroupCommits, S: Start>(
+fn is_told<M: Manages, S: Start>(
     alloc: Global,
     sequencer: &mut Sequencer<M, S>,
     line: &str,
@@ -54,7 +54,7 @@ fn is_told<M: GroupCommits, S: Start>(
     })
 }
 
-fn are_told<M: GroupCommits, S: Start>(
+pub fn are_told<M: Manages, S: Start>(
     alloc: Global,
     sequencer: &mut Sequencer<M, S>,
     lines: &[&str],
@@ -67,10 +67,7 @@ fn are_told<M: GroupCommits, S: Start>(
     Some(are_right)
 }
 
-fn begins<M: GroupCommits, S: Start>(
-    alloc: Global,
-    sequencer: &mut Sequencer<M, S>,
-) -> Option<bool> {
+fn begins<M: Manages, S: Start>(alloc: Global, sequencer: &mut Sequencer<M, S>) -> Option<bool> {
     let (session, request) = call_of(alloc, PREPARE)?;
     let mut group = Vec::new(alloc);
     group.push(Asked { session, request }).ok()?;
@@ -81,10 +78,7 @@ fn begins<M: GroupCommits, S: Start>(
 }
 
 // Whether the group's call is answered by 0, with this number.
-fn finishes<M: GroupCommits, S: Start>(
-    sequencer: &mut Sequencer<M, S>,
-    number: u64,
-) -> Option<bool> {
+fn finishes<M: Manages, S: Start>(sequencer: &mut Sequencer<M, S>, number: u64) -> Option<bool> {
     if sequencer.is_settled() {
         return None;
     }
@@ -96,7 +90,7 @@ fn finishes<M: GroupCommits, S: Start>(
 }
 
 // Whether, with a group pending, a session connects and hangs up again, while the one that asks for its call waits.
-fn come_and_go<M: GroupCommits, S: Start>(sequencer: &mut Sequencer<M, S>) -> bool {
+fn come_and_go<M: Manages, S: Start>(sequencer: &mut Sequencer<M, S>) -> bool {
     sequencer.connect().ok() == Some(3)
         && sequencer.hangup(3) == Some(true)
         && sequencer.hangup(3) == Some(false)
@@ -104,7 +98,7 @@ fn come_and_go<M: GroupCommits, S: Start>(sequencer: &mut Sequencer<M, S>) -> bo
         && sequencer.status().sessions == 2
 }
 
-fn works_meanwhile<M: GroupCommits + Drop, S: Start>(alloc: Global, manager: M) -> Option<bool>
+fn works_meanwhile<M: Manages + Drop, S: Start>(alloc: Global, manager: M) -> Option<bool>
     requires start { (s : State) → S.start s → M.manages.stands (alone manager) s }
     requires base { M.manages.failures (alone manager) ≡ S.base }
 {

@@ -15,7 +15,7 @@ use xa_handles::{Content, Handle, Held, SharedSequencer, Tally};
 use xa_history::Start;
 use xa_manager::Manager;
 use xa_script::{Line, read_line};
-use xa_sequencer::{GroupCommits, Sequencer};
+use xa_sequencer::{Manages, Sequencer};
 use xa_tokens::{Book, Opened};
 
 pub fn call_of(alloc: Global, line: &str) -> Option<(u64, Request)>
@@ -28,7 +28,7 @@ pub fn call_of(alloc: Global, line: &str) -> Option<(u64, Request)>
 }
 
 // Whether each line is answered by 0.
-fn calls<M: GroupCommits, S: Start, B: Book, R: Clock + Wait>(
+fn calls<M: Manages, S: Start, B: Book, R: Clock + Wait>(
     alloc: Global,
     handle: &mut Handle<'_, M, S, B, R>,
     lines: &[&str],
@@ -43,7 +43,7 @@ fn calls<M: GroupCommits, S: Start, B: Book, R: Clock + Wait>(
     Some(are_right)
 }
 
-fn posts<M: GroupCommits, S: Start, B: Book, R: Clock + Wait>(
+fn posts<M: Manages, S: Start, B: Book, R: Clock + Wait>(
     alloc: Global,
     handle: &mut Handle<'_, M, S, B, R>,
     place: usize,
@@ -56,7 +56,7 @@ fn posts<M: GroupCommits, S: Start, B: Book, R: Clock + Wait>(
 }
 
 // The number of the next answer, if it is 0 to this line, at this place, and to no other session.
-fn takes<M: GroupCommits, S: Start, B: Book, R: Clock + Wait>(
+fn takes<M: Manages, S: Start, B: Book, R: Clock + Wait>(
     alloc: Global,
     handle: &mut Handle<'_, M, S, B, R>,
     held: &mut Held<'_, M, S, B>,
@@ -79,7 +79,7 @@ fn takes<M: GroupCommits, S: Start, B: Book, R: Clock + Wait>(
 }
 
 // The number of the next call that comes back as it was, which its handle then answers itself.
-fn takes_back<'a, M: GroupCommits, S: Start, B: Book, R: Clock + Wait>(
+fn takes_back<'a, M: Manages, S: Start, B: Book, R: Clock + Wait>(
     handle: &mut Handle<'a, M, S, B, R>,
     held: Held<'a, M, S, B>,
 ) -> Option<u64> {
@@ -96,7 +96,7 @@ fn takes_back<'a, M: GroupCommits, S: Start, B: Book, R: Clock + Wait>(
 }
 
 // Whether each call that the handle posted has come back to it, and was answered.
-fn has_all<M: GroupCommits, S: Start, B: Book, R: Clock + Wait>(
+fn has_all<M: Manages, S: Start, B: Book, R: Clock + Wait>(
     handle: &Handle<'_, M, S, B, R>,
     held: &mut Held<'_, M, S, B>,
 ) -> bool {
@@ -117,7 +117,7 @@ const MEANWHILE: [&str; 8] = [
 
 // Two prepares that two handles post are answered together, by the one that has the lock. The first handle takes its answer
 // when it has asked for more of its own than there was in all after the group, and nobody asks for it again.
-fn share<M: GroupCommits, S: Start, B: Book, R: Clock + Wait>(
+fn share<M: Manages, S: Start, B: Book, R: Clock + Wait>(
     alloc: Global,
     first: &mut Handle<'_, M, S, B, R>,
     second: &mut Handle<'_, M, S, B, R>,
@@ -135,7 +135,7 @@ fn share<M: GroupCommits, S: Start, B: Book, R: Clock + Wait>(
 }
 
 // So is a call that is posted alone, with this number.
-fn answers_alone<M: GroupCommits, S: Start, B: Book, R: Clock + Wait>(
+fn answers_alone<M: Manages, S: Start, B: Book, R: Clock + Wait>(
     alloc: Global,
     handle: &mut Handle<'_, M, S, B, R>,
     line: &str,
@@ -149,7 +149,7 @@ fn answers_alone<M: GroupCommits, S: Start, B: Book, R: Clock + Wait>(
 }
 
 // One that logs nothing is left to its handle.
-fn leaves<M: GroupCommits, S: Start, B: Book, R: Clock + Wait>(
+fn leaves<M: Manages, S: Start, B: Book, R: Clock + Wait>(
     alloc: Global,
     handle: &mut Handle<'_, M, S, B, R>,
     line: &str,
@@ -163,12 +163,12 @@ fn leaves<M: GroupCommits, S: Start, B: Book, R: Clock + Wait>(
     Some(is_right && has_all(handle, &mut held))
 }
 
-fn answers<M: GroupCommits, S: Start, B: Book, R: Clock + Wait>(
+fn answers<M: Manages, S: Start, B: Book, R: Clock + Wait>(
     alloc: Global,
     first: &mut Handle<'_, M, S, B, R>,
     second: &mut Handle<'_, M, S, B, R>,
 ) -> Option<bool> {
-    let are_connected = first.connect().ok()? == 1 && second.connect().ok()? == 2;
+    let are_connected = first.connect() == (Ok(1), 1) && second.connect() == (Ok(2), 2);
     let is_ready = calls(
         alloc,
         first,
@@ -195,7 +195,7 @@ fn answers<M: GroupCommits, S: Start, B: Book, R: Clock + Wait>(
     Some(are_connected && is_ready && is_other_ready && is_shared && is_alone && is_left)
 }
 
-fn shares_both<M: GroupCommits + Drop, S: Start, B: Book, R: Clock + Wait>(
+fn shares_both<M: Manages + Drop, S: Start, B: Book, R: Clock + Wait>(
     rt: &R,
     alloc: Global,
     manager: M,

@@ -1,73 +1,65 @@
-ghost use Rattle.std.specs.Prelude.{IfSome};
-ghost use Rattle.xa_frame.specs.Limits.{IsRequest};
+ghost use Rattle.std.specs.Prelude.{◌≡◌};
+ghost use Rattle.xa_model.specs.State.{State};
+ghost use Rattle.xa_sequencer.specs.Believed.GroupManager.{alone};
 
-use crate::desks::{Visit, at_new_desk, found_by, open_request};
+use crate::desks::opened;
+use crate::tests::callers::{Asks, Visit, is_visited};
+use crate::tests::pending::are_told;
+use crate::tests::posted::call_of;
+use crate::tests::rows::none_wrong;
+use crate::tests::told::Told;
 use std::alloc::Global;
-use std::sync::Wait;
-use std::sync::ledger::Ledger;
-use xa_codes::{Code, Detail, XA_OK, XAER_PROTO};
-use xa_desk::Door;
-use xa_fields::Key;
-use xa_frame::{Body, Reply, Request};
-use xa_history::{Manages, Receipt, Start};
+use std::marker::Brand;
+use xa_codes::{XA_OK, XAER_PROTO};
+use xa_disk::MemDisk;
+use xa_frame::{Reply, Request};
+use xa_history::{Receipt, Start, placed};
+use xa_manager::{Asked, Manager, connect_reply};
 use xa_model::Event;
-use xa_room::{AuditFault, Desk, Room, Share, agree};
+use xa_room::{AuditFault, Room, audit};
+use xa_rows::first_wrong;
+use xa_script::{Line, read_line};
+use xa_sequencer::{Manages, Sequencer};
 
-// Adds a receipt, if there is one.
-fn keeps(receipts: &mut Vec<Receipt>, receipt: Option<Receipt>) -> bool {
-    match receipt {
-        Some(receipt) => receipts.push(receipt).is_ok(),
-        None => false,
-    }
-}
-
-// A connect of one more session.
-fn connects<M: Manages, S: Start, L: Ledger, R: Wait>(
-    rt: &R,
-    desk: &Desk<M, S, L>,
-    share: Share<L>,
-    receipts: &mut Vec<Receipt>,
-) -> Option<(u64, Share<L>)> {
-    let (session, receipt, share) = desk.connect(rt, share);
-    if keeps(receipts, receipt) {
-        Some((session.ok()?, share))
-    } else {
-        None
-    }
-}
-
-// And its Open.
-fn opens<M: Manages, S: Start, L: Ledger, R: Wait>(
-    rt: &R,
-    alloc: Global,
-    desk: &Desk<M, S, L>,
-    share: Share<L>,
-    receipts: &mut Vec<Receipt>,
-) -> Option<Share<L>> {
-    let (session, share) = connects(rt, desk, share, receipts)?;
-    let request = open_request(alloc)?;
-    let (reply, receipt, share) = desk.call(rt, share, session, request);
-    let is_kept = keeps(receipts, receipt);
-    if is_kept && reply.code == XA_OK && reply.place == receipts.len() as u64 {
-        Some(share)
-    } else {
-        None
-    }
-}
-
-// Four receipts, each with its place.
-fn are_numbered(receipts: &[Receipt]) -> bool {
-    let mut last = 0;
-    for receipt in receipts {
-        if receipt.place <= last
-            || receipt.place - last != 1
-            || receipt.reply.place != receipt.place
-        {
-            return false;
+// Asks what a line of a script says.
+fn say<D: Asks>(alloc: Global, caller: &mut D, line: &str) -> Option<()> {
+    match read_line(alloc, line.as_bytes()).ok()? {
+        Line::Connect => {
+            let _session = caller.connect()?;
         }
-        last = receipt.place;
+        Line::Hangup(session) => caller.hangup(session),
+        Line::Call(session, request) => {
+            let _reply = caller.call(session, request);
+        }
+        _ => return None,
     }
-    last == 4
+    Some(())
+}
+
+fn say_all<D: Asks>(alloc: Global, caller: &mut D, lines: &[&str]) -> bool {
+    lines.iter().all(|line| say(alloc, caller, line).is_some())
+}
+
+const OPENS: [&str; 4] = [
+    "connect",
+    "1 open TMNOFLAGS xarm",
+    "connect",
+    "2 open TMNOFLAGS xarm",
+];
+
+/// What is told in place of four receipts.
+#[derive(Clone, Copy)]
+enum Change {
+    Nothing,
+    /// The last one is missing.
+    Missing,
+    /// The third has another code.
+    Code,
+    /// The first comes again after them, or in place of the last.
+    Again,
+    Instead,
+    /// The second has this place.
+    Place(u64),
 }
 
 // The receipt of the first connect.
@@ -75,222 +67,257 @@ fn first_receipt() -> Receipt {
     Receipt {
         place: 1,
         event: Event::Connect,
-        reply: Reply {
-            code: XA_OK,
-            detail: Detail::Nothing,
-            place: 1,
-            body: Body::Number(1),
-        },
+        reply: placed(connect_reply(Ok(1)), 1),
     }
 }
 
-// Gives the third receipt a code.
-fn set_code(receipts: &mut [Receipt], code: Code) -> Option<()> {
-    receipts.get_mut(2)?.reply.code = code;
+fn make(change: Change, told: &mut Vec<Receipt>) -> Option<()> {
+    match change {
+        Change::Nothing => {}
+        Change::Missing => {
+            let _last = told.pop()?;
+        }
+        Change::Code => told.get_mut(2)?.reply.code = XAER_PROTO,
+        Change::Again => told.push(first_receipt()).ok()?,
+        Change::Instead => *told.get_mut(3)? = first_receipt(),
+        Change::Place(place) => told.get_mut(1)?.place = place,
+    }
     Some(())
 }
 
-// What an audit finds of the receipts without a share.
-fn uncounted<M: Manages, S: Start, L: Ledger>(
-    alloc: Global,
-    room: &Room<M, S>,
-    receipts: &[Receipt],
-) -> Result<(), AuditFault> {
-    let nobody: Vec<Share<L>> = Vec::new(alloc);
-    found_by(alloc, room, receipts, nobody.as_slice())
-}
-
-// What audits find of the receipts and the share, of the receipts without the share, with another code in the third,
-// and with the first one again after them; and of the receipts and the share again, since the room is as it was.
-fn audits<M: Manages, S: Start, L: Ledger>(
-    alloc: Global,
-    room: &Room<M, S>,
-    receipts: &mut Vec<Receipt>,
-    shares: &[Share<L>],
-) -> Option<[Result<(), AuditFault>; 5]> {
-    let sound = found_by(alloc, room, receipts.as_slice(), shares);
-    let uncounted = uncounted::<M, S, L>(alloc, room, receipts.as_slice());
-    set_code(receipts, XAER_PROTO)?;
-    let changed = found_by(alloc, room, receipts.as_slice(), shares);
-    set_code(receipts, XA_OK)?;
-    receipts.push(first_receipt()).ok()?;
-    let repeated = found_by(alloc, room, receipts.as_slice(), shares);
-    let _again = receipts.pop();
-    let still_sound = found_by(alloc, room, receipts.as_slice(), shares);
-    Some([sound, uncounted, changed, repeated, still_sound])
-}
-
-fn are_faults(found: [Result<(), AuditFault>; 5]) -> bool {
-    found
-        == [
-            Ok(()),
-            Err(AuditFault::Count),
-            Err(AuditFault::Differs(2)),
-            Err(AuditFault::Repeats(4)),
-            Ok(()),
-        ]
-}
-
-// Two sessions connect and open.
-fn opens_both<M: Manages, S: Start, L: Ledger, R: Wait>(
-    rt: &R,
-    alloc: Global,
-    desk: &Desk<M, S, L>,
-    share: Share<L>,
-    receipts: &mut Vec<Receipt>,
-) -> Option<Share<L>> {
-    let share = opens(rt, alloc, desk, share, receipts)?;
-    opens(rt, alloc, desk, share, receipts)
-}
-
-// And then the room alone is audited.
-fn is_audited_alone<M: Manages, S: Start, L: Ledger>(
-    alloc: Global,
-    room: &Room<M, S>,
-    share: Share<L>,
-    receipts: &mut Vec<Receipt>,
-) -> Option<bool> {
-    let is_right = share.count() == 4 && are_numbered(receipts.as_slice());
-    let shares = [share];
-    match audits(alloc, room, receipts, &shares) {
-        Some(found) => Some(is_right && are_faults(found)),
-        None => None,
-    }
-}
-
-/// Two sessions connect and open, and then the room alone is audited.
+/// What is told, how many receipts were dropped and lost, and what an audit finds then.
 #[derive(Drop)]
-pub struct Audited;
+struct Audited(Change, u64, u64, Result<(), AuditFault>);
 
-impl<R: AllocGlobal + Wait> Visit<R> for Audited {
-    type Found = bool;
-
-    fn visit<M: Manages + Drop, S: Start, L: Ledger>(
-        self,
-        rt: &R,
-        desk: Desk<M, S, L>,
-        share: Share<L>,
-    ) -> Option<bool> {
-        let alloc = rt.alloc();
-        let mut receipts = Vec::new(alloc);
-        let share = opens_both(rt, alloc, &desk, share, &mut receipts)?;
-        let (room, _book) = desk.into_room();
-        is_audited_alone(alloc, &room, share, &mut receipts)
+impl Visit for Audited {
+    fn visit<D: Asks>(&self, alloc: Global, caller: &mut D) -> bool {
+        say_all(alloc, caller, &OPENS)
     }
+
+    fn judge(&self, alloc: Global, kept: &[Receipt], _lost: u64, told: Vec<Receipt>) -> bool {
+        let Audited(change, dropped, lost, wanted) = self;
+        let mut told = told;
+        make(*change, &mut told).is_some() && audit(alloc, kept, *lost, &told, *dropped) == *wanted
+    }
+}
+
+const COUNT: Result<(), AuditFault> = Err(AuditFault::Count);
+
+// The second's place isn't one of four.
+fn outside(place: u64) -> Audited {
+    let fault = AuditFault::Place {
+        receipt: 1,
+        place,
+        last: 4,
+    };
+    Audited(Change::Place(place), 0, 0, Err(fault))
 }
 
 #[test]
 fn an_audit_finds_each_fault(rt: HostRuntime) {
-    assert!(rt; at_new_desk(&rt, Audited) == Some(true));
+    let rows = [
+        Audited(Change::Nothing, 0, 0, Ok(())),
+        Audited(Change::Missing, 1, 0, Ok(())),
+        Audited(Change::Nothing, 1, 0, COUNT),
+        Audited(Change::Missing, 0, 0, COUNT),
+        Audited(Change::Nothing, 0, 1, COUNT),
+        Audited(Change::Again, 0, 0, COUNT),
+        Audited(Change::Code, 0, 0, Err(AuditFault::Differs(2))),
+        Audited(Change::Instead, 0, 0, Err(AuditFault::Repeats(3))),
+        outside(0),
+        outside(5),
+    ];
+    none_wrong(&rt, first_wrong(&rows, |row| is_visited(&rt, 1, row)));
 }
 
-fn is_at(receipt: Option<Receipt>, place: u64) -> bool {
-    match receipt {
-        Some(receipt) => receipt.place == place && receipt.reply.place == place,
-        None => false,
-    }
-}
+/// A get outside a branch, which is refused, and two hang-ups, of which the second is of nobody.
+const EVENTS: [&str; 5] = [
+    "connect",
+    "1 open TMNOFLAGS xarm",
+    "1 get 6b",
+    "1 hangup",
+    "1 hangup",
+];
 
-fn connects_first<M: Manages, S: Start>(room: &mut Room<M, S>) -> Option<u64> {
-    let (session, receipt) = room.connect();
-    if is_at(receipt, 1) {
-        session.ok()
-    } else {
-        None
-    }
-}
-
-fn opens_second<M: Manages, S: Start>(
-    alloc: Global,
-    room: &mut Room<M, S>,
-    session: u64,
-) -> Option<bool> {
-    let request = open_request(alloc)?;
-    let (reply, receipt) = room.call(session, request);
-    Some(is_at(receipt, 2) && reply.code == XA_OK)
-}
-
-fn is_refused_third<M: Manages, S: Start>(
-    alloc: Global,
-    room: &mut Room<M, S>,
-    session: u64,
-) -> Option<bool> {
-    let request = Request::Get {
-        key: Key::new(b"k")?,
-    };
-    let reply = Door::call(room, session, request_of(request)?);
-    Some(reply.code == XAER_PROTO && reply.place == 3)
-}
-
-// A connect, an Open, a get outside a branch, and two hang-ups, of which the second is of nobody.
-fn is_kept<M: Manages, S: Start>(alloc: Global, room: &mut Room<M, S>) -> Option<bool> {
-    let session = connects_first(room)?;
-    Some(
-        opens_second(alloc, room, session) == Some(true)
-            && is_refused_third(alloc, room, session) == Some(true)
-            && is_at(room.hangup(session), 4)
-            && room.hangup(session).is_none()
-            && room.entries().len() == 4,
-    )
-}
-
-fn request_of(request: Request) -> Option<Request>
-    ensures { IfSome result IsRequest }
-{
-    match &request {
-        Request::Get { key } if key.as_slice().len() == 1 => {}
-        _ => return None,
-    }
-    Some(request)
-}
-
-#[derive(Drop)]
 struct Kept;
 
-impl<R: AllocGlobal> Visit<R> for Kept {
-    type Found = bool;
+// Whether the third is a refused call, and the last the hang-up.
+fn are_events(kept: &[Receipt]) -> bool {
+    match (kept.get(2), kept.get(3)) {
+        (Some(get), Some(last)) => {
+            get.reply.code == XAER_PROTO && matches!(&last.event, Event::Hangup(1))
+        }
+        _ => false,
+    }
+}
 
-    fn visit<M: Manages + Drop, S: Start, L: Ledger>(
-        self,
-        rt: &R,
-        desk: Desk<M, S, L>,
-        _share: Share<L>,
-    ) -> Option<bool> {
-        let (mut room, _book) = desk.into_room();
-        is_kept(rt.alloc(), &mut room)
+impl Visit for Kept {
+    fn visit<D: Asks>(&self, alloc: Global, caller: &mut D) -> bool {
+        say_all(alloc, caller, &EVENTS)
+    }
+
+    fn judge(&self, alloc: Global, kept: &[Receipt], lost: u64, told: Vec<Receipt>) -> bool {
+        kept.len() == 4 && are_events(kept) && audit(alloc, kept, lost, &told, 0).is_ok()
     }
 }
 
 #[test]
 fn a_room_keeps_each_event(rt: HostRuntime) {
-    assert!(rt; at_new_desk(&rt, Kept) == Some(true));
+    assert!(rt; is_visited(&rt, 1, &Kept));
 }
 
-/// A share in two, an event by each, and the two merged: the desk's book agrees.
-#[derive(Drop)]
-struct Agreed;
+/// What a room answers as its manager does.
+const SOME: [&str; 16] = [
+    "connect",
+    "1 open TMNOFLAGS xarm",
+    "1 start TMNOFLAGS 1:aa:",
+    "1 put 6b 76",
+    "connect",
+    "2 start TMNOFLAGS 1:bb:",
+    "2 open TMNOFLAGS xarm",
+    "1 get 6b",
+    "1 end TMSUCCESS 1:aa:",
+    "1 prepare TMNOFLAGS 1:aa:",
+    "2 recover TMSTARTRSCAN|TMENDRSCAN 9",
+    "2 branches 9",
+    "1 commit TMNOFLAGS 1:aa:",
+    "1 commit TMNOFLAGS 1:aa:",
+    "1 hangup",
+    "2 restart",
+];
 
-impl<R: Wait> Visit<R> for Agreed {
-    type Found = bool;
+struct Alike;
 
-    fn visit<M: Manages + Drop, S: Start, L: Ledger>(
-        self,
-        rt: &R,
-        desk: Desk<M, S, L>,
-        share: Share<L>,
-    ) -> Option<bool> {
-        let (one, other) = share.split(1);
-        let (session, first, one) = desk.connect(rt, one);
-        let (hung_up, other) = desk.hangup(rt, other, session.ok()?);
-        let counts = (one.count(), other.count());
-        let mut share = desk.merge(rt, one, other);
-        let (_room, mut book) = desk.into_room();
-        agree(&mut book, &mut share);
-        Some(counts == (1, 1) && share.count() == 2 && is_at(first, 1) && is_at(hung_up, 2))
+// What a manager alone tells whoever asks what the line says.
+fn tells(alloc: Global, manager: &mut Manager<MemDisk>, told: &mut Told, line: &str) -> Option<()> {
+    let place = (told.receipts.len() as u64).saturating_add(1);
+    match read_line(alloc, line.as_bytes()).ok()? {
+        Line::Connect => {
+            let reply = connect_reply(manager.connect());
+            told.keep(Event::Connect, &placed(reply, place));
+        }
+        Line::Hangup(session) => {
+            manager.hangup(session);
+            told.keep(Event::Hangup(session), &placed(Reply::plain(XA_OK), place));
+        }
+        Line::Call(session, request) => {
+            request.hold();
+            let copy = told.copied(&request);
+            let reply = manager.call(session, request);
+            told.keep_call(session, copy, &placed(reply, place));
+        }
+        _ => return None,
+    }
+    Some(())
+}
+
+fn told_alone(alloc: Global, lines: &[&str]) -> Option<Told> {
+    let mut manager = opened(alloc)?;
+    let mut told = Told::new(alloc);
+    for line in lines {
+        tells(alloc, &mut manager, &mut told, line)?;
+    }
+    Some(told)
+}
+
+impl Visit for Alike {
+    fn visit<D: Asks>(&self, alloc: Global, caller: &mut D) -> bool {
+        say_all(alloc, caller, &SOME)
+    }
+
+    fn judge(&self, alloc: Global, kept: &[Receipt], lost: u64, _told: Vec<Receipt>) -> bool {
+        match told_alone(alloc, &SOME) {
+            Some(told) => told.is_whole && audit(alloc, kept, lost, &told.receipts, 0).is_ok(),
+            None => false,
+        }
     }
 }
 
 #[test]
-fn shares_count_what_a_desk_records(rt: HostRuntime) {
-    assert!(rt; at_new_desk(&rt, Agreed) == Some(true));
+fn a_room_answers_as_its_manager_does(rt: HostRuntime) {
+    assert!(rt; is_visited(&rt, 1, &Alike));
+}
+
+/// Two branches that are prepared.
+const PREPARED: [&str; 10] = [
+    "1 open TMNOFLAGS xarm",
+    "1 start TMNOFLAGS 1:aa:",
+    "1 put 6b 76",
+    "1 end TMSUCCESS 1:aa:",
+    "1 prepare TMNOFLAGS 1:aa:",
+    "2 open TMNOFLAGS xarm",
+    "2 start TMNOFLAGS 1:bb:",
+    "2 put 6c 76",
+    "2 end TMSUCCESS 1:bb:",
+    "2 prepare TMNOFLAGS 1:bb:",
+];
+
+/// The calls of a group.
+const COMMITS: [&str; 2] = ["1 commit TMNOFLAGS 1:aa:", "2 commit TMNOFLAGS 1:bb:"];
+
+fn begins<M: Manages, S: Start>(alloc: Global, sequencer: &mut Sequencer<M, S>) -> Option<()> {
+    let (session, request) = call_of(alloc, COMMITS[0])?;
+    let (other, asked) = call_of(alloc, COMMITS[1])?;
+    let mut group = Vec::with_capacity(alloc, 2).ok()?;
+    group.push(Asked { session, request }).ok()?;
+    group
+        .push(Asked {
+            session: other,
+            request: asked,
+        })
+        .ok()?;
+    if !sequencer.is_settled() {
+        return None;
+    }
+    sequencer.begin_group(group).ok()
+}
+
+// Whether a receipt is that of a commit of the group, which was answered by 0.
+fn is_commit(receipt: &Receipt, calls: &[Asked], told: &(usize, Reply)) -> bool {
+    let is_of = match (&receipt.event, calls.get(told.0)) {
+        (Event::Call(session, Request::Commit { .. }), Some(call)) => *session == call.session,
+        _ => false,
+    };
+    is_of
+        && receipt.place == told.1.place
+        && receipt.reply.place == told.1.place
+        && receipt.reply.code == XA_OK
+        && told.1.code == XA_OK
+}
+
+// Whether the last receipts are those of the calls of the group, in the order of their replies.
+fn are_commits(kept: &[Receipt], calls: &[Asked], replies: &[(usize, Reply)]) -> bool {
+    let before = PREPARED.len() + 2;
+    let (_, last) = kept.split_at(before.min(kept.len()));
+    last.len() == 2
+        && replies.len() == 2
+        && last
+            .iter()
+            .zip(replies)
+            .all(|(receipt, told)| is_commit(receipt, calls, told))
+}
+
+fn keeps_a_group<M: Manages + Drop, S: Start>(alloc: Global, manager: M) -> Option<bool>
+    requires start { (s : State) → S.start s → M.manages.stands (alone manager) s }
+    requires base { M.manages.failures (alone manager) ≡ S.base }
+{
+    let room: Room<M, S> = Room::new(alloc, manager);
+    let mut sequencer: Sequencer<Room<M, S>, S> = Sequencer::new(room);
+    let are_connected = sequencer.connect() == Ok(1) && sequencer.connect() == Ok(2);
+    let are_prepared = are_told(alloc, &mut sequencer, &PREPARED, false)?;
+    begins(alloc, &mut sequencer)?;
+    if sequencer.is_settled() {
+        return None;
+    }
+    let (replies, calls) = sequencer.finish_group(sequencer.syncer().sync());
+    let room = sequencer.into_manager();
+    let are_kept = are_commits(room.receipts(), &calls, &replies) && room.lost() == 0;
+    Some(are_connected && are_prepared && are_kept)
+}
+
+#[test]
+fn a_room_keeps_a_group(rt: HostRuntime) {
+    let manager = opened(rt.alloc()).expect(&rt, "a manager");
+    let found = keeps_a_group::<Manager<MemDisk>, Brand>(rt.alloc(), manager);
+    assert!(rt; found == Some(true));
 }

@@ -5,7 +5,7 @@ use Rattle.xa_room.proofs.auditing.judge.Goals as goal
 pub loop-i-preserved : goal.loop-i-preserved
 loop-i-preserved c =
     let inv = c.loop-i.invariant.so_far in
-    let r = c.index-receipts-i in
+    let r = c.index-told-i in
     let good = c.in-None.ensures.none refl inv.0 inv.1 in
     record {
       size = c.in-None.ensures.len;
@@ -13,12 +13,12 @@ loop-i-preserved c =
         r.result.place ∷ inv.0,
         good.0,
         λ answer js. inv.2 answer
-            (judges_good c.args.entries.now inv.0 c.args.receipts.now c.loop-i.i r.result answer c.loop-i-test.true r.is good.1 js),
+            (judges_good c.args.kept.now inv.0 c.args.told.now c.loop-i.i r.result answer c.loop-i-test.true r.is good.1 js),
       );
     }
 
 pub returns-in-Some : goal.returns-in-Some
 returns-in-Some c =
     let inv = c.loop-i.invariant.so_far in
-    let r = c.index-receipts-i in
-    inr (inv.2 _ (judges_bad c.args.entries.now inv.0 c.args.receipts.now c.loop-i.i r.result c.in-Some.fault c.loop-i-test.true r.is (c.in-Some.ensures.some inv.0 inv.1)))
+    let r = c.index-told-i in
+    inr (inv.2 _ (judges_bad c.args.kept.now inv.0 c.args.told.now c.loop-i.i r.result c.in-Some.fault c.loop-i-test.true r.is (c.in-Some.ensures.some inv.0 inv.1)))

@@ -7,6 +7,6 @@ use Rattle.xa_room.proofs.auditing.judge.Given as goal
 
 abbrev pub invariant-loop-i : goal.invariant-loop-i
 invariant-loop-i l = record {
-  size : length l.met.items ≡ length l.entries;
-  so_far : (met : List ℕ) × HasMet l.met.items met × ((answer : Result (Unit {0}) AuditFault) → Judges l.entries met l.i (drop l.i l.receipts) answer → Judges l.entries [] 0 l.receipts answer);
+  size : length l.met.items ≡ length l.kept;
+  so_far : (met : List ℕ) × HasMet l.met.items met × ((answer : Result (Unit {0}) AuditFault) → Judges l.kept met l.i (drop l.i l.told) answer → Judges l.kept [] 0 l.told answer);
 }

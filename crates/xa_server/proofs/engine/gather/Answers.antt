@@ -1,6 +1,8 @@
-use Rattle.std.proofs.Common.{◌≡◌, ◌∙◌, ap, subst, sym}
+use Rattle.std.proofs.Common.{◌≡◌, ◌∙◌, [], ap, arith, map, rules, subst, sym}
+use Rattle.std.specs.Prelude.{sum_by}
 use Rattle.xa_reactor.specs.Believed.Down.{last_of}
 use Rattle.xa_reactor.specs.declared.seen.Seen.{Seen}
+use Rattle.xa_server.specs.Believed.Loops.{told_by}
 use Rattle.xa_server.specs.Believed.Watching.{IsSeenLast}
 use Rattle.xa_server.proofs.Gathering.{gathers_more, gathers_one}
 use Rattle.xa_server.proofs.Watching.{both_last}
@@ -60,3 +62,8 @@ loop-door-preserved g c =
           seen_more c.loop-door.share other.result.0 c.merge.new.share c.loop-door.seen other.result.1 c.with-seen.result c.merge.ensures
           c.with-seen.ensures c.loop-door.invariant.seen other.ensures.seen;
     }
+
+pub returns-clause-told : goal.returns-clause-told
+returns-clause-told g c = λ weigh.
+    let none : c.loop-door.ended.items ≡ [] = search rules in
+    omega (arith, c.loop-door.invariant.gathers.told weigh, ap (λ ended. sum_by weigh (told_by (map (λ e. e.door.handle.asker) ended))) none)

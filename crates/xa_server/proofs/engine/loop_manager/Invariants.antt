@@ -3,7 +3,7 @@ use Rattle.xa_server.proofs.engine.loop_manager.Given as goal
 
 -- every state that the manager stands for, and what its devices have counted
 abbrev pub ghosts-loop_by-S-Start : goal.ghosts-loop_by-S-Start
-ghosts-loop_by-S-Start g a = record { start = g.M.GroupCommits.manages.stands (alone a.manager); base = g.M.GroupCommits.manages.failures (alone a.manager) }
+ghosts-loop_by-S-Start g a = record { start = g.M.Manages.manages.stands (alone a.manager); base = g.M.Manages.manages.failures (alone a.manager) }
 
 -- the table that was opened
 abbrev pub ghosts-loop_by-B-Book : goal.ghosts-loop_by-B-Book

@@ -1,9 +1,6 @@
 use Rattle.std.proofs.Common.{rules}
-use Rattle.xa_words.specs.Runs.{NamesWell}
 use Rattle.xa_words.proofs.Naming.{asks_well}
 use Rattle.xa_words.proofs.command.run.Goals as goal
 
 pub done-requires : goal.done-requires
-done-requires g c =
-    let well : NamesWell c.in-Ok-read_words.asked = asks_well _ c.in-Ok-read_words.asked c.in-Ok-read_words.ensures.asks in
-    search (rules, well)
+done-requires g c = (search (rules), asks_well _ c.in-Ok-read_words.asked c.in-Ok-read_words.ensures.asks)

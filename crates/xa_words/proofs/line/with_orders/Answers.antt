@@ -1,16 +1,11 @@
-use Rattle.xa_words.specs.Line.{asking, verb_shape}
-use Rattle.xa_words.specs.declared.verb.Verb.TheVariants.{Commit, Rollback, Forget, Decide, Doom, Disconnect, Trim, Restart, RollbackMarked}
+use Rattle.xa_words.specs.Line.{deciding, verb_shape}
+use Rattle.xa_words.specs.declared.verb.Verb.TheVariants.{Disconnect, Trim, Restart, RollbackMarked}
 use Rattle.xa_words.proofs.Building.{adds_command, last_command}
 use Rattle.xa_words.proofs.line.with_orders.Goals as goal
 
 pub returns : goal.returns
 returns c =
-    let one = adds_command c.args.line c.in_ok-verb_command.field-0 c.in_ok-subcommand.field-0 asking (verb_shape Commit) c.requires c.in_ok-verb_command.ensures c.in_ok-subcommand.ensures in
-    let two = adds_command c.in_ok-subcommand.field-0 c.in_ok-verb_command-2.field-0 c.in_ok-subcommand-2.field-0 _ (verb_shape Rollback) one c.in_ok-verb_command-2.ensures c.in_ok-subcommand-2.ensures in
-    let three = adds_command c.in_ok-subcommand-2.field-0 c.in_ok-verb_command-3.field-0 c.in_ok-subcommand-3.field-0 _ (verb_shape Forget) two c.in_ok-verb_command-3.ensures c.in_ok-subcommand-3.ensures in
-    let four = adds_command c.in_ok-subcommand-3.field-0 c.in_ok-verb_command-4.field-0 c.in_ok-subcommand-4.field-0 _ (verb_shape Decide) three c.in_ok-verb_command-4.ensures c.in_ok-subcommand-4.ensures in
-    let five = adds_command c.in_ok-subcommand-4.field-0 c.in_ok-verb_command-5.field-0 c.in_ok-subcommand-5.field-0 _ (verb_shape Doom) four c.in_ok-verb_command-5.ensures c.in_ok-subcommand-5.ensures in
-    let six = adds_command c.in_ok-subcommand-5.field-0 c.in_ok-verb_command-6.field-0 c.in_ok-subcommand-6.field-0 _ (verb_shape Disconnect) five c.in_ok-verb_command-6.ensures c.in_ok-subcommand-6.ensures in
-    let seven = adds_command c.in_ok-subcommand-6.field-0 c.in_ok-verb_command-7.field-0 c.in_ok-subcommand-7.field-0 _ (verb_shape Trim) six c.in_ok-verb_command-7.ensures c.in_ok-subcommand-7.ensures in
-    let eight = adds_command c.in_ok-subcommand-7.field-0 c.in_ok-verb_command-8.field-0 c.in_ok-subcommand-8.field-0 _ (verb_shape Restart) seven c.in_ok-verb_command-8.ensures c.in_ok-subcommand-8.ensures in
-    last_command c.in_ok-subcommand-8.field-0 c.in_ok-verb_command-9.field-0 c.subcommand-9.result _ (verb_shape RollbackMarked) eight c.in_ok-verb_command-9.ensures c.subcommand-9.ensures
+    let one = adds_command c.args.line c.in_ok-verb_command.field-0 c.in_ok-subcommand.field-0 deciding (verb_shape Disconnect) c.requires c.in_ok-verb_command.ensures c.in_ok-subcommand.ensures in
+    let two = adds_command c.in_ok-subcommand.field-0 c.in_ok-verb_command-2.field-0 c.in_ok-subcommand-2.field-0 _ (verb_shape Trim) one c.in_ok-verb_command-2.ensures c.in_ok-subcommand-2.ensures in
+    let three = adds_command c.in_ok-subcommand-2.field-0 c.in_ok-verb_command-3.field-0 c.in_ok-subcommand-3.field-0 _ (verb_shape Restart) two c.in_ok-verb_command-3.ensures c.in_ok-subcommand-3.ensures in
+    last_command c.in_ok-subcommand-3.field-0 c.in_ok-verb_command-4.field-0 c.subcommand-4.result _ (verb_shape RollbackMarked) three c.in_ok-verb_command-4.ensures c.subcommand-4.ensures

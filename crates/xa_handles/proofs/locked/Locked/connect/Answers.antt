@@ -12,12 +12,12 @@ use Rattle.xa_handles.proofs.locked.Locked.connect.Goals as goal
 pub returns-then-is_memory-clause-connected : goal.returns-then-is_memory-clause-connected
 returns-then-is_memory-clause-connected g c =
     let found = ap (λ (r : Reply). is_memory r.detail) (sym c.connect_reply-reply.ensures.value) ∙ sym c.if-is_memory.ensures in
-    connect_none g.M.GroupCommits.manages g.S.Start.start g.S.Start.base c.self.inside.sequencer c.connect-session.new.self c.connect-session.result c.args.asker.now
+    connect_none g.M.Manages.manages g.S.Start.start g.S.Start.base c.self.inside.sequencer c.connect-session.new.self c.connect-session.result c.args.asker.now
     c.promises.ensures.history found c.connect-session.ensures.connected
 
 pub invariant_of-self-2 : goal.invariant_of-self-2
 invariant_of-self-2 g c =
-    let m = g.M.GroupCommits.manages in
+    let m = g.M.Manages.manages in
     let found = ap (λ (r : Reply). is_memory r.detail) (sym c.connect_reply-reply.ensures.value) ∙ sym c.if-is_memory.ensures in
     let did = c.connect-session.ensures in
     let counts = connect_counts m g.S.Start.start g.S.Start.base c.self.inside.sequencer c.connect-session.new.self c.connect-session.result found did.connected in
@@ -31,7 +31,7 @@ invariant_of-self-2 g c =
 
 pub returns-clause-connected : goal.returns-clause-connected
 returns-clause-connected g c =
-    let m = g.M.GroupCommits.manages in
+    let m = g.M.Manages.manages in
     let found = ap (λ (r : Reply). is_memory r.detail) (sym c.connect_reply-reply.ensures.value) ∙ sym c.if-is_memory.ensures in
     let did = c.connect-session.ensures in
     let counts = connect_counts m g.S.Start.start g.S.Start.base c.self.inside.sequencer c.connect-session.new.self c.connect-session.result found did.connected in

@@ -21,7 +21,7 @@ answer_all-requires-clause-letters g c =
 
 pub answer_all-requires-clause-answers : goal.answer_all-requires-clause-answers
 answer_all-requires-clause-answers g c =
-    let m = g.M.GroupCommits.manages in
+    let m = g.M.Manages.manages in
     let ends = c.finish_group-replies.ensures in
     let replies = c.finish_group-replies.result.0.items in
     let calls = c.finish_group-replies.result.1.items in
@@ -30,7 +30,7 @@ answer_all-requires-clause-answers g c =
 
 pub invariant_of-self : goal.invariant_of-self
 invariant_of-self g c =
-    let m = g.M.GroupCommits.manages in
+    let m = g.M.Manages.manages in
     let ends = c.finish_group-replies.ensures in
     let replies = c.finish_group-replies.result.0.items in
     let calls = c.finish_group-replies.result.1.items in
@@ -50,5 +50,5 @@ returns-clause-told g c =
       letters = c.answer_all.new.letters.items;
       trays = c.self.inside.trays;
     })) c.self.view_is
-    (tells g.M.GroupCommits.manages g.S.Start.start g.S.Start.base c.self.inside.sequencer c.finish_group-replies.new.self c.deref.result.now c.finish_group-replies.result.0.items c.self.inside.keeper
+    (tells g.M.Manages.manages g.S.Start.start g.S.Start.base c.self.inside.sequencer c.finish_group-replies.new.self c.deref.result.now c.finish_group-replies.result.0.items c.self.inside.keeper
     c.answer_all.new.keeper c.self.inside.letters.items c.answer_all.new.letters.items c.self.inside.trays c.answer_all.ensures)

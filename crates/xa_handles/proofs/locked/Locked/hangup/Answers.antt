@@ -11,12 +11,12 @@ use Rattle.xa_handles.proofs.locked.Locked.hangup.Goals as goal
 pub returns-then-not-was_connected-clause-left : goal.returns-then-not-was_connected-clause-left
 returns-then-not-was_connected-clause-left g c =
     let did = c.in-Some.ensures in
-    hangup_none g.M.GroupCommits.manages g.S.Start.start g.S.Start.base c.self.inside.sequencer c.hangup.new.self c.args.session c.args.asker.now
+    hangup_none g.M.Manages.manages g.S.Start.start g.S.Start.base c.self.inside.sequencer c.hangup.new.self c.args.session c.args.asker.now
     c.promises.ensures.history (sym c.if-not-was_connected.true ∙ did.was) did.left
 
 pub invariant_of-self-2 : goal.invariant_of-self-2
 invariant_of-self-2 g c =
-    let m = g.M.GroupCommits.manages in
+    let m = g.M.Manages.manages in
     let was = sym c.if-not-was_connected.false ∙ c.in-Some.ensures.was in
     let left = c.in-Some.ensures.left in
     let counts = hangup_counts m g.S.Start.start g.S.Start.base c.self.inside.sequencer c.hangup.new.self c.args.session was left in
@@ -30,7 +30,7 @@ invariant_of-self-2 g c =
 
 pub returns-clause-left : goal.returns-clause-left
 returns-clause-left g c =
-    let m = g.M.GroupCommits.manages in
+    let m = g.M.Manages.manages in
     let was = sym c.if-not-was_connected.false ∙ c.in-Some.ensures.was in
     let left = c.in-Some.ensures.left in
     let counts = hangup_counts m g.S.Start.start g.S.Start.base c.self.inside.sequencer c.hangup.new.self c.args.session was left in

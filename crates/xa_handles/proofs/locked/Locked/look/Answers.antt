@@ -7,6 +7,6 @@ use Rattle.xa_handles.proofs.locked.Locked.look.Goals as goal
 
 pub returns-clause-holds : goal.returns-clause-holds
 returns-clause-holds g c =
-    subst (λ (s : Standing (GroupManager g.row.M.Denot)). HoldsAt g.M.GroupCommits.manages g.S.Start.start g.S.Start.base s.at c.args.share) c.self.view_is
-    (holds_at g.M.GroupCommits.manages g.S.Start.start g.S.Start.base c.self.inside.sequencer c.self.inside.keeper c.args.share
+    subst (λ (s : Standing (GroupManager g.row.M.Denot)). HoldsAt g.M.Manages.manages g.S.Start.start g.S.Start.base s.at c.args.share) c.self.view_is
+    (holds_at g.M.Manages.manages g.S.Start.start g.S.Start.base c.self.inside.sequencer c.self.inside.keeper c.args.share
     c.self.invariant.0 c.promises.ensures.promises c.look.ensures.within)

@@ -10,7 +10,7 @@ use Rattle.xa_server.proofs.post.Post.answer_left.Goals as goal
 
 pub loop-ask-init : goal.loop-ask-init
 loop-ask-init g c = record {
-  some = tells_none (Called g.M.GroupCommits.manages g.S.Start.start g.S.Start.base) _ _;
+  some = tells_none (Called g.M.Manages.manages g.S.Start.start g.S.Start.base) _ _;
   same = λ none. refl;
   none = AllWithin-none IsAnswered _ 0;
   settled = λ owes. owes;
@@ -20,13 +20,13 @@ pub answer-requires : goal.answer-requires
 answer-requires g c =
     let lt : c.loop-ask.ask-index < length c.loop-ask.asks = omega arith in
     All-get_or IsWithin c.loop-ask.asks c.loop-ask.ask-index _ lt
-    (left_within (Called g.M.GroupCommits.manages g.S.Start.start g.S.Start.base) c.args.asks.now c.loop-ask.asks _ _ c.loop-ask.invariant.some c.requires)
+    (left_within (Called g.M.Manages.manages g.S.Start.start g.S.Start.base) c.args.asks.now c.loop-ask.asks _ _ c.loop-ask.invariant.some c.requires)
 
 pub loop-ask-preserved : goal.loop-ask-preserved
 loop-ask-preserved g c =
     let lt : c.loop-ask.ask-index < length c.loop-ask.asks = omega arith in
     record {
-      some = tells_more (Called g.M.GroupCommits.manages g.S.Start.start g.S.Start.base) c.args.asks.now c.loop-ask.asks _ _ _ c.loop-ask.ask-index _ c.answer.new.ask
+      some = tells_more (Called g.M.Manages.manages g.S.Start.start g.S.Start.base) c.args.asks.now c.loop-ask.asks _ _ _ c.loop-ask.ask-index _ c.answer.new.ask
           c.loop-ask.invariant.some lt c.answer.ensures.told;
       same = λ none. absurd (omega (arith, ap (λ (xs : List Ask). length xs) none));
       none = AllWithin-more_set c.loop-ask.asks c.loop-ask.ask-index c.answer.new.ask lt IsAnswered c.loop-ask.invariant.none c.answer.ensures.gone;

@@ -7,7 +7,7 @@ use Rattle.xa_server.proofs.post.Post.answer_left.Given as goal
 
 abbrev pub invariant-loop-ask : goal.invariant-loop-ask
 invariant-loop-ask g l = record {
-  some : TellsSome (Called g.M.GroupCommits.manages g.S.Start.start g.S.Start.base) l.initial.self.handle.asker l.fn.asks l.asks l.self.handle.asker;
+  some : TellsSome (Called g.M.Manages.manages g.S.Start.start g.S.Start.base) l.initial.self.handle.asker l.fn.asks l.asks l.self.handle.asker;
   same : l.fn.asks ≡ [] → l.self ≡ l.initial.self;
   none : AllWithin IsAnswered l.asks 0 l.ask-index;
   settled : Owes l.initial.self.handle.asker 0 → Owes l.self.handle.asker 0;

@@ -13,7 +13,7 @@ invariant_of-self-2 g c =
     let x = c.args.self.now in
     record {
       kept =
-          seen_then g.M.GroupCommits.manages g.S.Start.start g.S.Start.base _ x.handle.asker c.in-Some.request c.in-Ok.reply
+          seen_then g.M.Manages.manages g.S.Start.start g.S.Start.base _ x.handle.asker c.in-Some.request c.in-Ok.reply
           c.call_now.new.self.asker x.seen c.see.new.seen c.is_restart-is_restart.result c.in-Ok.ensures.called x.kept
           c.is_restart-is_restart.ensures c.see.ensures;
     }

@@ -16,7 +16,7 @@ use Rattle.xa_tokens.specs.Believed.Account.{Account}
 
 pub invariant_of-self : goal.invariant_of-self
 invariant_of-self g c =
-    let m = g.M.GroupCommits.manages in
+    let m = g.M.Manages.manages in
     let start = g.S.Start.start in
     let base = g.S.Start.base in
     let parts = c.into_parts-content in
@@ -55,7 +55,7 @@ invariant_of-self g c =
 
 pub returns-clause-told : goal.returns-clause-told
 returns-clause-told g c =
-    let m = g.M.GroupCommits.manages in
+    let m = g.M.Manages.manages in
     let start = g.S.Start.start in
     let base = g.S.Start.base in
     let parts = c.into_parts-content in

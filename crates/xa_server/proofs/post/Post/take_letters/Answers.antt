@@ -9,12 +9,12 @@ take_letter-requires g c = owes_some c.loop.self.handle.asker c.owed.result c.ow
 
 pub returns-in_err-held-clause-back : goal.returns-in_err-held-clause-back
 returns-in_err-held-clause-back g c =
-    takes_twice g.M.GroupCommits.manages g.S.Start.start g.S.Start.base c.args.asks.now c.loop.asks c.take_letter.new.asks _ _ _
+    takes_twice g.M.Manages.manages g.S.Start.start g.S.Start.base c.args.asks.now c.loop.asks c.take_letter.new.asks _ _ _
     c.loop.invariant.back c.take_letter.ensures
 
 pub loop-preserved : goal.loop-preserved
 loop-preserved g c = record {
-  back = takes_twice g.M.GroupCommits.manages g.S.Start.start g.S.Start.base c.args.asks.now c.loop.asks c.take_letter.new.asks _ _ _
+  back = takes_twice g.M.Manages.manages g.S.Start.start g.S.Start.base c.args.asks.now c.loop.asks c.take_letter.new.asks _ _ _
       c.loop.invariant.back c.take_letter.ensures;
   same = λ none. absurd (omega (arith, ap (λ (xs : List Ask). length xs) none));
 }

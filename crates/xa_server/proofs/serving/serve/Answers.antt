@@ -1,0 +1,53 @@
+use Rattle.std.proofs.Common.{ap, rules, Err}
+use Rattle.std.proofs.lemmas.Result.{err_from_is_err_and}
+use Rattle.xa_server.specs.Believed.Served.{NoLoops, place_of}
+use Rattle.xa_server.proofs.Failing.{failed_early, loops_failed, tell_failed}
+use Rattle.xa_server.proofs.serving.serve.Goals as goal
+
+pub returns-in_err-listening-clause-failed : goal.returns-in_err-listening-clause-failed
+returns-in_err-listening-clause-failed g c =
+    let told = err_from_is_err_and c.from_residual.result c.from_residual.ensures.1 in
+    rw (told.1, told.2)
+    (failed_early g.R.Disk.Disk g.R.Opens.opened g.R.Opens.refused g.R.Listens c.args.service.now.log_bytes (place_of c.args.service.now)
+    (NoLoops c.args.service.now.loops) c.in_err-listening.field-0.0 c.in_err-listening.ensures.failed)
+
+pub returns-in_err-told-clause-failed : goal.returns-in_err-told-clause-failed
+returns-in_err-told-clause-failed g c =
+    let told = err_from_is_err_and c.from_residual-in_err-told.result c.from_residual-in_err-told.ensures.1 in
+    rw (told.1, told.2)
+    (loops_failed g.R.Disk.Disk g.R.Opens.opened g.R.Opens.refused g.R.Listens c.args.service.now.log_bytes (place_of c.args.service.now)
+    c.args.service.now.loops c.loops_of-loops.result c.in_err-told.field-0.0
+    (c.in_ok-listening.listening, c.in_ok-listening.manager, c.in_ok-listening.ensures.ready) c.loops_of-loops.ensures
+    c.in_err-told.ensures.fault (λ same. c.in_err-told.ensures.loops.0 (ap Err same)))
+
+pub returns-in_default-clause-failed : goal.returns-in_default-clause-failed
+returns-in_default-clause-failed g c =
+    ((c.in_ok-listening.listening, c.in_ok-listening.manager, c.in_ok-listening.ensures.ready), tt)
+
+pub returns-then-not-told-clause-failed : goal.returns-then-not-told-clause-failed
+returns-then-not-told-clause-failed g c =
+    ((c.in_ok-listening.listening, c.in_ok-listening.manager, c.in_ok-listening.ensures.ready), tt)
+
+pub returns-clause-served : goal.returns-clause-served
+returns-clause-served g c = record {
+  listener = c.in_ok-listening.listening;
+  manager = c.in_ok-listening.manager;
+  ready = c.in_ok-listening.ensures.ready;
+  loops = c.loops_of-loops.result;
+  loops_are = c.loops_of-loops.ensures;
+  told = c.in_ok-told.told;
+  audited = c.in_ok-told.audited;
+  audits = c.in_ok-told.ensures.audits;
+  serves = c.in_ok-told.ensures.served;
+  whole = search rules;
+  settings = c.in_ok-told.ensures.settings;
+  well = search rules;
+}
+
+pub returns-in_err-tell-clause-failed : goal.returns-in_err-tell-clause-failed
+returns-in_err-tell-clause-failed g c =
+    let told = err_from_is_err_and c.from_residual-in_err-tell.result c.from_residual-in_err-tell.ensures.1 in
+    rw (told.1, told.2)
+    (tell_failed g.R.Disk.Disk g.R.Opens.opened g.R.Opens.refused g.R.Listens c.args.service.now.log_bytes (place_of c.args.service.now)
+    (NoLoops c.args.service.now.loops) c.in_err-tell.field-0.0
+    (c.in_ok-listening.listening, c.in_ok-listening.manager, c.in_ok-listening.ensures.ready) c.in_err-tell.ensures)

@@ -1,0 +1,31 @@
+-- The worked rows, computed.
+use Rattle.std.proofs.Common.{true, false, Some, refl, codes}
+use Rattle.clap.specs.Walk.{walked}
+use Rattle.xa_words.specs.Rows.{IsSet}
+use Rattle.xa_words.specs.Worked.{ByItself, CountedTwice, WithAudit, WithWorkers, WorkersAndMore}
+
+unset : IsSet (Some (codes "false")) false
+unset = record { absent = λ e. refl; set = λ e. absurd (cc e); unset = λ e. refl }
+
+set : IsSet (Some (codes "true")) true
+set = record { absent = λ e. absurd (cc e); set = λ e. refl; unset = λ e. absurd (cc e) }
+
+pub by_itself : ByItself
+unfolding walked
+by_itself = (refl, refl, (false, unset, refl))
+
+pub with_audit : WithAudit
+unfolding walked
+with_audit = (refl, refl, (true, set, refl))
+
+pub with_workers : WithWorkers
+unfolding walked
+with_workers = (refl, refl, (false, unset, refl))
+
+pub workers_and_more : WorkersAndMore
+unfolding walked
+workers_and_more = (refl, refl, (false, unset, refl))
+
+pub counted_twice : CountedTwice
+unfolding walked
+counted_twice = refl

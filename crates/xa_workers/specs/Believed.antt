@@ -1,2 +1,0 @@
--- what must be believed (docs/BELIEVE.md)
-pub mod Reports

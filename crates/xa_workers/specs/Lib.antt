@@ -1,2 +1,0 @@
-pub mod Believed
-pub mod Connections
