@@ -19,10 +19,10 @@ ENDING = "xarm: PEER: shutdown\nxarm: shutdown\n"
 
 
 class Server:
-    """A server in a new folder, with so many file handles, or with the library of .ci/files.c before its calls on files; by a port, or by a
-    socket."""
+    """A server in a new folder, with so many file handles, on these cores, or with the library of .ci/files.c before its calls on files; by a
+    port, or by a socket."""
 
-    def __init__(self, *words, handles=None, env=None, tells=(), library=None, by_socket=False, stderr=None):
+    def __init__(self, *words, handles=None, env=None, tells=(), library=None, by_socket=False, stderr=None, cores=None):
         self.room = tempfile.TemporaryDirectory(prefix="served-", dir=ROOM)
         self.port = os.path.join(self.room.name, "s") if by_socket else free_port()
         self.told = open(os.path.join(self.room.name, "told"), "w+b")
@@ -32,6 +32,8 @@ class Server:
             serve = ["bash", "-c", f'ulimit -S -n {handles} && exec "$@"', "bash", *serve]
         how = {**os.environ, **(env or {}), **({"LD_PRELOAD": library, "FAULTS": "faults"} if library else {})}
         pipes = {"stdout": subprocess.PIPE, "stderr": stderr or self.told, "pass_fds": tells}
+        if cores:
+            serve = ["taskset", "-c", ",".join(map(str, cores)), *serve]
         self.ran = subprocess.Popen(serve, cwd=self.room.name, env=how, **pipes)
 
     def __enter__(self):

@@ -94,6 +94,16 @@ def ended(loops, library):
             yield f"{title}: {name}: all are closed", list(rests([one, other])), [b""] * 2
 
 
+def audited(library):
+    """With --exit-when-down and an audit."""
+    with Server("--loops", "2", "--exit-when-down", "--audit", library=library) as server:
+        _, other = two_loops(server, "2")
+        found = lost_commit(server, other, "1:aa:", "fdatasync 1 5")
+        status, printed, _ = server.end_and_print()
+        found = found, status, bool(re.fullmatch(r"calls \d+\naudit ok\n", printed)), causes(server)
+        yield "down, --exit-when-down --audit: what was answered is audited", found, ([DEVICE], 1, True, [LOST])
+
+
 def helped(library):
     """With --exit-when-down, where a Restart comes in one round with the commit whose record is lost, while the loop waits for a sync."""
     with Server("--loops", "1", "--exit-when-down", library=library) as server:

@@ -46,7 +46,7 @@ CALLS = {
     "branches": (66, 4, "cursor"),
     "status": (67,),
 }
-# The frame that asks a server with loops to end, and has no reply.
+# The frame that asks a server to end, and has no reply.
 SHUTDOWN = bytes([0, 0, 0, 2, 1, 69])
 # An option of servers whose events are counted: the loops tell the manager no time.
 TIMELESS = "--tick", "0"
@@ -109,7 +109,7 @@ def but_orders(told):
 
 
 def timeless(*words):
-    """That option, where it is none of these, and where no workers serve, which tell no time."""
+    """That option, where it is none of these, and not what they mean anyway."""
     return () if "--tick" in words or "--workers" in words else TIMELESS
 
 

@@ -35,7 +35,7 @@ class Server:
 
     def __init__(self, program, room, words, uses_port=True, environment=None, handles=(), waits=True):
         self.room, self.words = room, words
-        self.uses_port, self.is_ready = uses_port or "--workers" in words, waits
+        self.uses_port, self.is_ready = uses_port, waits
         for _ in range(10):
             self.address = ("127.0.0.1", free_port()) if self.uses_port else os.path.join(room, "s")
             where = ["--port", str(self.address[1])] if self.uses_port else ["--socket", self.address]

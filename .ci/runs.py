@@ -73,12 +73,14 @@ def count_events(run, history, printed, *audit):
         raise Mistake(f"the server printed {printed} and not calls {counts[0]} to {counts[-1]}, {audit}")
 
 
-def load_and_compare(run, words, clients, again=0, audit=(), environment=None, play=(), waits=True, **how):
-    """A run where nothing is killed."""
+def load_and_compare(run, words, clients, again=0, audit=None, environment=None, play=(), waits=True, **how):
+    """A run where nothing is killed. Unless it is said, its server has an audit, or none."""
+    if audit is None and run.rng.random() < 0.5:
+        words, audit = (*words, "--audit"), ("audit ok",)
     run.serve(*words, "--connections", str(clients + again), waits=waits, **(environment or {}))
     run.keep_busy(clients, again=again, **how)
     printed = run.finish()
-    count_events(run, run.compare(words=play), printed, *audit)
+    count_events(run, run.compare(words=play), printed, *(audit or ()))
 
 
 def fresh(run):
@@ -107,9 +109,9 @@ def crowd(run):
 
 
 def workers(run):
-    """Workers, whose history is audited."""
-    clients = run.rng.choice((4, 8, 16))
-    load_and_compare(run, ("--workers", str(clients)), clients, audit=("audit ok",))
+    """Loops whose history is audited, of few clients and of many."""
+    clients = run.rng.choice((4, 8, 16, 64))
+    load_and_compare(run, ("--workers", str(run.rng.choice((4, 16)))), clients, audit=("audit ok",))
 
 
 def trims(run):

@@ -1,14 +1,17 @@
 """Of .ci/loops: the longest that somebody waits, where the machine isn't to blame: beside loops that look for more requests before a sync,
-beside one that makes a sync, and for handles."""
+beside one that makes a sync, and for handles; and that no client starves on few cores."""
+import collections
 import os
+import re
 import resource
 import select
+import shutil
 import statistics
 import subprocess
 import sys
 import time
 
-from clients import OK, OPEN, PATIENCE, Server, asks, begin, is_answered, replies, status, took, until
+from clients import OK, OPEN, PATIENCE, PROGRAM, Server, asks, begin, is_answered, replies, status, took, until
 from frames import shown
 
 LOAD = """
@@ -41,10 +44,20 @@ class Loaded(Server):
         return self
 
     def __exit__(self, *_):
+        self.end_load()
+        super().__exit__()
+
+    def end_load(self):
         for it in self.load:
             it.kill()
             it.wait()
-        super().__exit__()
+
+    def committed(self):
+        """How many branches each client has committed, by a copy of the log."""
+        copy = os.path.join(self.room.name, "copy")
+        shutil.copyfile(os.path.join(self.room.name, "l"), copy)
+        scanned = subprocess.run([PROGRAM, "scan", copy], capture_output=True, text=True, check=False).stdout
+        return collections.Counter(re.findall(r"^\d+ committed (\d+):", scanned, re.M))
 
 
 def longest_connect(server, count, pause):
@@ -91,6 +104,23 @@ def syncs(library):
             seconds += server.processor_seconds() - before
     yield "waits: who waits for another loop's sync is woken at its end", statistics.median(late) < 0.02, True
     yield "waits: who waits for another loop's sync sleeps", seconds < 0.9, True
+
+
+# How many branches a client commits at most for one of another, where all ask as often as they can: how they share a machine is up to that.
+SHARE = 20
+
+
+def cores():
+    """That no client starves, and who connects is served soon, where there are fewer cores than loops, as many, and more."""
+    free = sorted(os.sched_getaffinity(0))
+    for count in (1, 2, 4):
+        for loops in ("1", "4"):
+            with Loaded(6, "--loops", loops, cores=free[:count]) as server:
+                yield f"waits: the longest connect beside {loops} loops on {count} cores", longest_connect(server, 20, 0.01) < SOON, True
+                server.end_load()
+                found = server.committed()
+                is_fair = len(found) == 6 and max(found.values()) < SHARE * min(found.values())
+                yield f"waits: no client of {loops} loops on {count} cores starves", (is_fair, "" if is_fair else found), (True, "")
 
 
 # For how long the sync is slow beside which others are answered, in seconds.

@@ -13,7 +13,7 @@ _xarm() {
     esac
     if [ -z "$path" ]; then
         words=$(sed -n 's/^  \([a-z][a-z-]*\)  .*/\1/p; s/^  \(-.,\)\{0,1\} *\(--[a-z-]*\).*/\2/p' <<< "$help")
-        [[ $word == -* ]] || path=$(sed -n 's/^  <\([A-Z]*\)>.*/\1/p' <<< "$help")
+        [[ $word == -* ]] || path=$(sed -n 's/^  <\([A-Z]*\)>.*/\1/p' <<< "$help" | head -n 1)
     fi
     if [ "$path" = PATH ]; then
         compopt -o filenames 2> /dev/null

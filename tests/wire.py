@@ -74,9 +74,9 @@ def long(front, count):
     return front + "a5" * count
 
 
-# What asks a server with loops to end, and any how it is doing: neither is a request.
+# What asks a server to end, and any how it is doing: neither is a request.
 SHUTDOWN = "01 45"
-# What a server with loops is asked itself, each at its limits, with its answers: a hello; the end of a session that no connection has; and
+# What a server is asked itself, each at its limits, with its answers: a hello; the end of a session that no connection has; and
 # the sessions of a branch that isn't known.
 HELLO = "01 00000000 00 0000000000000000 08 00000001 0000000000000007"
 CONTROLS = [

@@ -684,7 +684,7 @@ class Connection:
         return self._done("status")
 
     def hello(self) -> Hello:
-        """What the server speaks. XAER_INVAL with detail Frame: it is an older one, or has workers, and can do nothing beside."""
+        """What the server speaks. XAER_INVAL with detail Frame: it is an older one, and can do nothing beside."""
         return self._done("hello", _REVISION.to_bytes(4, "big") + bytes(8))
 
     def disconnect(self, session: int) -> None:

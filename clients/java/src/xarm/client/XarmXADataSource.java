@@ -40,7 +40,7 @@ public final class XarmXADataSource implements Serializable, Referenceable {
      * Connects, and sends Open.
      *
      * @throws XarmException XAER_RMFAIL: nothing listens there; the server has another name (Open was answered XAER_INVAL); it didn't
-     *     answer in time, as one with {@code --workers} of which each has a connection; or Java is too old for a Unix socket
+     *     answer in time; or Java is too old for a Unix socket
      */
     public XarmXAConnection getXAConnection() throws XarmException {
         Session session = session();

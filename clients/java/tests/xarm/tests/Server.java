@@ -61,7 +61,7 @@ final class Server implements AutoCloseable {
 
     void start() throws IOException {
         List<String> words = new ArrayList<>(List.of(program, "serve", "--log", log.toString(), "--name", name));
-        words.addAll(options.contains("--workers") ? List.of() : List.of("--tick", "0")); // workers tell no time
+        words.addAll(options.contains("--workers") ? List.of() : List.of("--tick", "0")); // with workers it is 0
         words.addAll(options.contains("--socket") ? List.of() : List.of("--port", Integer.toString(port)));
         words.addAll(options);
         process = new ProcessBuilder(words)

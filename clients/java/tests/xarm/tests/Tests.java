@@ -67,9 +67,9 @@ public final class Tests {
         return server("bank");
     }
 
-    /** By workers, which keep its history. */
+    /** One that keeps its history. */
     Server server(String name) throws Exception {
-        return server(name, "--workers", "16");
+        return server(name, "--workers", "4");
     }
 
     Server server(String name, String... options) throws Exception {
