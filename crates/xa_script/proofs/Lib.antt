@@ -5,3 +5,6 @@ pub mod Digits
 pub mod Readers
 pub mod Keys
 pub mod Quotes
+pub mod Asked
+pub mod Spelled
+pub mod Calls

@@ -125,7 +125,7 @@ spelled_within (b ∷ bytes) rest =
     ap (words_from Quoted) (append_assoc (spelled_byte b) (spelled bytes) rest) ∙ byte_within b (spelled bytes ++ rest)
     ∙ ap (onto (spelled_byte b)) (spelled_within bytes rest) ∙ onto_both (spelled_byte b) (spelled bytes) (words_from Quoted rest)
 
--- a text in quotes, by what stands behind it
+-- a text in quotes, by what stands after it
 text_within : (bytes rest : List ℕ) → words (quoted bytes ++ rest) ≡ onto (34 ∷ []) (onto (spelled bytes) (words_from Quoted (34 ∷ rest)))
 text_within bytes rest =
     onto_one 34 (words_from Quoted ((spelled bytes ++ 34 ∷ []) ++ rest))

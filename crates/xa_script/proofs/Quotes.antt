@@ -8,10 +8,10 @@ use Rattle.xa_script.specs.Texts.{in_front, is_marked, is_plain, quoted, spelled
 use Rattle.xa_script.specs.declared.text.Stage.TheVariants.{Between, Hexadecimal}
 use Rattle.xa_xid.specs.Spelling.{hex_digit}
 
-digit_read : (n : ℕ) → n < 16 → digit_of (hex_digit n) ≡ Some n
+pub digit_read : (n : ℕ) → n < 16 → digit_of (hex_digit n) ≡ Some n
 digit_read n h = grind (arith, nat_tests)
 
-byte_read : (b : ℕ) → b < 256 → byte_of (hex_digit (b / 16)) (hex_digit (b % 16)) ≡ Some b
+pub byte_read : (b : ℕ) → b < 256 → byte_of (hex_digit (b / 16)) (hex_digit (b % 16)) ≡ Some b
 byte_read b h =
     let high = digit_read (b / 16) (omega arith) in
     let low = digit_read (b % 16) (omega arith) in

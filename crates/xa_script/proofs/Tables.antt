@@ -13,7 +13,7 @@ not_true : (b : Bool) → (b ≡ true → ⊥) → b ≡ false
 not_true true h = absurd (h refl)
 not_true false h = refl
 
-differs : (x y : List ℕ) → x ≢ y → bytes_eq x y ≡ false
+pub differs : (x y : List ℕ) → x ≢ y → bytes_eq x y ≡ false
 differs x y h = not_true (bytes_eq x y) (λ e. h ((bytes_eq-Decides x y).0 e))
 
 pub find_absent : {X : Type 0} (word : List ℕ) (entries : List (List ℕ × X)) → DiffersFromEach word entries → find (λ entry. bytes_eq entry.0 word) entries ≡ None

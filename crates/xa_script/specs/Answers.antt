@@ -4,7 +4,7 @@ use Rattle.std.specs.Fmt.{decimal}
 use Rattle.xa_codes.specs.declared.detail.Detail.{Detail}
 use Rattle.xa_codes.specs.declared.detail.Detail.TheVariants as detail
 use Rattle.xa_control.specs.declared.answer.Answer.{Answer}
-use Rattle.xa_control.specs.declared.answer.Answer.TheVariants.{Done, Refused, Hello, Metrics, Sessions}
+use Rattle.xa_control.specs.declared.answer.Answer.TheVariants.{Refused, Hello, Metrics, Sessions}
 use Rattle.xa_script.specs.Replies.{code_text, name_of}
 
 abbrev pub code_of : Answer → ℤ
@@ -15,7 +15,7 @@ abbrev pub detail_of : Answer → Detail
 detail_of (Refused code detail) = detail
 detail_of _ = detail.Nothing
 
--- numbers, each behind a blank
+-- numbers, each after a blank
 abbrev pub numbers_text : List ℕ → List ℕ
 numbers_text numbers = flat_map (λ n. 32 ∷ decimal n) numbers
 

@@ -1,4 +1,4 @@
--- The flags of a word: `TMNOFLAGS`, or names of flags joined by bars, each at most once, or hexadecimal digits behind
+-- The flags of a word: `TMNOFLAGS`, or names of flags joined by bars, each at most once, or hexadecimal digits after
 -- 0x.
 use Rattle.std.specs.Prelude.{ℕ, ◌+◌, ◌*◌, ◌==◌, ◌&&◌, nat_le, nat_eq, bit_and, bit_or, if◌then◌else◌, bytes_eq, codes}
 use Rattle.std.specs.Prelude.{List, [], ◌∷◌, length, drop, find, Option, Some, None, option_and_then}
@@ -35,7 +35,7 @@ joined_from flags (name ∷ names) =
     (λ flag. if bit_and flags flag == 0 then joined_from (bit_or flags flag) names else None)
     (flag_of name)
 
--- a number with more digits behind it
+-- a number with more digits after it
 abbrev pub bits_from : ℕ → List ℕ → Option ℕ
 bits_from n [] = Some n
 bits_from n (c ∷ cs) = option_and_then (λ d. bits_from (16 * n + d) cs) (digit_of c)

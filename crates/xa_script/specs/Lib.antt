@@ -8,3 +8,4 @@ pub mod Requests
 pub mod Lines
 pub mod Replies
 pub mod Answers
+pub mod Asking

@@ -89,7 +89,7 @@ module _ (xid_of : List ℕ → Option Triple) where
       else if bytes_eq name (codes "sessions") then sessions_of n arguments
       else call_of n name arguments
 
-  -- what a session's number says, and the words behind it
+  -- what a session's number says, and the words after it
   abbrev pub asked_of : List ℕ → List (List ℕ) → Option Line
   asked_of session [] = None
   asked_of session (name ∷ arguments) =

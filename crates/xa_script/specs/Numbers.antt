@@ -5,7 +5,7 @@ use Rattle.std.specs.Prelude.{List, [], ◌∷◌, Option, Some, None, option_an
 abbrev pub is_digit : ℕ → Bool
 is_digit c = nat_le 48 c && nat_le c 57
 
--- the value of digits behind a number
+-- the value of digits after a number
 abbrev pub value_from : ℕ → List ℕ → Option ℕ
 value_from n [] = Some n
 value_from n (c ∷ cs) = if is_digit c then value_from (10 * n + (c - 48)) cs else None

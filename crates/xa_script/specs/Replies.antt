@@ -32,7 +32,7 @@ abbrev pub value_text : List ℕ → List ℕ
 value_text [] = codes "-"
 value_text (byte ∷ bytes) = hex (byte ∷ bytes)
 
--- the texts of XIDs, each behind a blank
+-- the texts of XIDs, each after a blank
 abbrev pub xids_text : List Triple → List ℕ
 xids_text xids = flat_map (λ xid. 32 ∷ text_of xid) xids
 
@@ -45,7 +45,7 @@ state_name state.RolledBack = codes "rolledback"
 abbrev pub counts_text : AssociationCounts → List ℕ
 counts_text counts = (32 ∷ decimal counts.active) ++ (32 ∷ decimal counts.suspended) ++ (32 ∷ decimal counts.loose)
 
--- the XID's text, the state's name, the mark, the timestamp and the counts, each behind a blank
+-- the XID's text, the state's name, the mark, the timestamp and the counts, each after a blank
 abbrev pub branch_text : KnownBranch → List ℕ
 branch_text b =
     (32 ∷ text_of b.xid) ++ (32 ∷ state_name b.state) ++ (32 ∷ signed_decimal b.mark) ++ (32 ∷ decimal b.timestamp)
@@ -54,7 +54,7 @@ branch_text b =
 abbrev pub branches_text : List KnownBranch → List ℕ
 branches_text branches = flat_map branch_text branches
 
--- a name and its number, each behind a blank
+-- a name and its number, each after a blank
 abbrev pub named_text : List ℕ → ℕ → List ℕ
 named_text name n = 32 ∷ name ++ 32 ∷ decimal n
 
@@ -75,7 +75,7 @@ body_text (Xids xids) = codes " xids" ++ xids_text xids
 body_text (Branches branches) = codes " branches" ++ branches_text branches
 body_text (Doing status) = codes " status" ++ status_text status
 
--- the code, and behind it C193's name of it where there are names
+-- the code, and after it C193's name of it where there are names
 abbrev pub code_text : Bool → ℤ → List ℕ
 code_text false code = signed_decimal code
 code_text true code = signed_decimal code ++ 32 ∷ names.name_of code

@@ -1,4 +1,4 @@
--- What a session asks for, by the words behind its number.
+-- What a session asks for, by the words after its number.
 use Rattle.std.specs.Prelude.{◌≡◌, ℕ, ◌*◌, ◌&&◌, nat_le, Bool, if◌then◌else◌, bytes_eq, codes}
 use Rattle.std.specs.Prelude.{List, [], ◌∷◌, length, find, Option, Some, None, IfSome, option_and_then}
 use Rattle.std.specs.Option.{option_map}
@@ -72,14 +72,14 @@ value_of word =
     else if nat_le 1 (length word) && nat_le (length word) (2 * MOST_VALUE) then bytes_of word
     else None
 
--- what the words behind `open` ask
+-- what the words after `open` ask
 abbrev pub open_by : List (List ℕ) → Option Request
 open_by words =
     option_and_then
     (λ w. if is_name w.1 then option_map (λ flags. Open flags w.1) (flags_of w.0) else None)
     (two_of words)
 
--- what the words behind `put` ask
+-- what the words after `put` ask
 abbrev pub put_by : List (List ℕ) → Option Request
 put_by words = by_two key_of value_of (λ key value. Put key value) words
 
@@ -106,7 +106,7 @@ module _ (xid_of : List ℕ → Option Triple) where
   cursor_of (word ∷ []) = option_map (λ xid. Some xid) (xid_of word)
   cursor_of _ = None
 
-  -- what the words behind `branches` ask
+  -- what the words after `branches` ask
   abbrev pub branches_by : List (List ℕ) → Option Request
   branches_by [] = None
   branches_by (word ∷ words) =

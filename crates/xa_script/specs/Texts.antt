@@ -27,7 +27,7 @@ spelled bytes = flat_map spelled_byte bytes
 abbrev pub quoted : List ℕ → List ℕ
 quoted bytes = 34 ∷ spelled bytes ++ 34 ∷ []
 
--- where a reading is behind one more character, and the byte whose spelling that ends: any byte may be spelled by \x
+-- where a reading is after one more character, and the byte whose spelling that ends: any byte may be spelled by \x
 abbrev pub next_of : Stage → ℕ → Option (Stage × Option ℕ)
 next_of Between c =
     if is_plain c then Some (Between, Some c)

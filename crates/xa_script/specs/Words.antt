@@ -23,7 +23,7 @@ next_place Bare c = Bare
 next_place Quoted c = if c == 34 then Bare else if c == 92 then Escaped else Quoted
 next_place Escaped c = Quoted
 
--- behind all of these
+-- after all of these
 abbrev pub place_behind : Place → List ℕ → Place
 place_behind place [] = place
 place_behind place (c ∷ cs) = place_behind (next_place place c) cs
@@ -42,7 +42,7 @@ abbrev pub words_behind : Option (List ℕ) → List (List ℕ)
 words_behind None = []
 words_behind (Some rest) = words rest
 
--- what is asked where no words stand behind
+-- what is asked where no words stand after
 abbrev pub alone : {X : Type 0} → X → List (List ℕ) → Option X
 alone asked [] = Some asked
 alone asked (word ∷ words) = None

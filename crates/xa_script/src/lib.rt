@@ -5,21 +5,24 @@
 //! stop, a reopening, a crash. Any other is `Line::Unknown`.
 //!
 //! - `line`: `Line` and `read_line`
-//! - `verb`: the call that a word names; `request`: the request of a call and the words behind it
+//! - `verb`: the call that a word names; `request`: the request of a call and the words after it
 //! - `parts`: where a text is cut, with `first_part`; `words`: the words of a line, of which text in quotes is one
 //! - what words say: `numbers`; `flags`; `hexadecimal`, bytes by their digits; `text`, bytes as text in quotes
 //! - `log_file`: `LogFile`, which file such a line speaks of; `call_effect`: `CallEffect`, what a device call that is to
 //!   fail does all the same
 //! - `mistake`: `mistake_text`, what is told of a line that asks nothing; `teller`: `Teller`, who is told
 //! - `reply`: `reply_line`; `styled_line`, the same in a `Style`; `answer`: `answer_line`, the line of a control's answer
-//! - `laws`: `reader_exists`, the texts of XIDs can be read, so that the contract of `read_line` says something; `texts_are_read`,
-//!   text in quotes is read as the bytes that it was made of
+//! - `asking`: `request_line`, the other way round: the line that asks something of a session
+//! - `laws`: `reader_exists`, the texts of XIDs can be read, so that the contract of `read_line` says something;
+//!   `texts_are_read`, text in quotes is read as the bytes that it was made of; `requests_are_read`, the line of a
+//!   request is read as that request
 //!
 //! Nothing here calls a manager, so whoever sends requests by other ways can read the same lines. docs/SCRIPT.md has
 //! the format.
 #![tactic(auto)]
 
 mod answer;
+mod asking;
 mod call_effect;
 mod flags;
 mod hexadecimal;
@@ -38,8 +41,9 @@ mod verb;
 mod words;
 
 pub use answer::answer_line;
+pub use asking::request_line;
 pub use call_effect::CallEffect;
-pub use laws::{reader_exists, texts_are_read};
+pub use laws::{reader_exists, requests_are_read, texts_are_read};
 pub use line::{Line, read_line};
 pub use log_file::LogFile;
 pub use mistake::mistake_text;

@@ -175,7 +175,7 @@ fn read_crash(asked: &[u8]) -> Option<Line>
     Some(Line::Crash { file, keeps })
 }
 
-/// What a session's number says, and the words behind it.
+/// What a session's number says, and the words after it.
 fn read_call(alloc: Global, session: &[u8], call: &[u8]) -> Result<Line, AllocError>
     ensures value { (xid_of : List ℕ → Option Triple) → ReadsTexts xid_of →
         IfOk result (λ said. said ≡ unwrap_or (asked_of xid_of session.now (words call.now)) Line.Unknown) }
@@ -194,7 +194,7 @@ fn read_call(alloc: Global, session: &[u8], call: &[u8]) -> Result<Line, AllocEr
     read_asks(alloc, session, verb, words)
 }
 
-/// What a session asks of its server, or by the verb of a request, and the words behind it.
+/// What a session asks of its server, or by the verb of a request, and the words after it.
 fn read_asks(
     alloc: Global,
     session: u64,
@@ -246,7 +246,7 @@ fn read_sessions(session: u64, words: Option<&[u8]>) -> Option<Line>
     Some(Line::Control(session, Control::Sessions(xid)))
 }
 
-/// What a session asks by the verb of a request, and the words behind it.
+/// What a session asks by the verb of a request, and the words after it.
 fn read_request_of(
     alloc: Global,
     session: u64,
@@ -266,7 +266,7 @@ fn read_request_of(
     }
 }
 
-/// A line behind whose verb no words stand.
+/// A line after whose verb no words stand.
 fn read_bare(said: Line, words: Option<&[u8]>) -> Line
     requires { IsWithinLimits said }
     ensures value { result ≡ unwrap_or (alone said (words_behind (option_copied words.entry))) Line.Unknown }

@@ -55,7 +55,7 @@ pub fn mistake_text(alloc: Global, line: &[u8], has_disks: bool) -> Result<Vec<u
     }
 }
 
-/// The same of a line for disks in memory, by its first word and those behind it.
+/// The same of a line for disks in memory, by its first word and those after it.
 fn disks_mistake(alloc: Global, first: &[u8], words: Option<&[u8]>) -> Result<Vec<u8>, AllocError> {
     let parts = disk_parts(first);
     match words.map(first_word) {
@@ -66,7 +66,7 @@ fn disks_mistake(alloc: Global, first: &[u8], words: Option<&[u8]>) -> Result<Ve
     }
 }
 
-/// What stands behind such a first word, but for the one that names the other file.
+/// What stands after such a first word, but for the one that names the other file.
 fn disk_parts(word: &[u8]) -> &'static [Part] {
     if word == b"fail".as_slice() {
         &[Part::DeviceCall, Part::Effect]
@@ -116,7 +116,7 @@ fn first_mistake(
     told(alloc, "too many words", rest.unwrap_or(b""))
 }
 
-/// What stands behind a call. Behind branches an XID may stand, too.
+/// What stands after a call. Behind branches an XID may stand, too.
 fn parts_of(call: Call) -> &'static [Part] {
     match call {
         Call::Open => &[Part::Flags, Part::Name],

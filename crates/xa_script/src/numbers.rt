@@ -15,7 +15,7 @@ pub fn read_number(word: &[u8]) -> Option<u64>
     Some(number)
 }
 
-/// A number with one more digit behind it.
+/// A number with one more digit after it.
 fn with_digit(number: u64, byte: u8) -> Option<u64>
     ensures { result ≡ below_limit (value_from number (byte ∷ [])) }
 {

@@ -2,7 +2,7 @@ ghost use Rattle.std.specs.Prelude.{◌≡◌, ◌==◌, ◌∷◌, position};
 ghost use Rattle.std.specs.Option.{option_copied};
 ghost use Rattle.xa_script.specs.Parts.{parts, parts_behind};
 
-/// The first part of a text, and what stands behind the separator that ends it.
+/// The first part of a text, and what stands after the separator that ends it.
 pub fn first_part(text: &[u8], separator: u8) -> (&[u8], Option<&[u8]>)
     ensures { parts separator text.now ≡ result.0.now ∷ parts_behind separator (option_copied result.1) }
 {

@@ -92,7 +92,10 @@ fn push_body(alloc: Global, line: &mut Vec<u8>, body: &Body) -> Result<(), Alloc
             let text = format!(in alloc; " number {number}")?;
             line.extend_from_slice(text.as_bytes())
         }
-        Body::Value(value) => push_value(line, value.as_slice()),
+        Body::Value(value) => {
+            line.extend_from_slice(b" value ")?;
+            push_value(line, value.as_slice())
+        }
         Body::Absent => line.extend_from_slice(b" absent"),
         Body::Xids(xids) => push_xids(line, xids.as_slice()),
         Body::Branches(branches) => {
@@ -106,10 +109,10 @@ fn push_body(alloc: Global, line: &mut Vec<u8>, body: &Body) -> Result<(), Alloc
     }
 }
 
-fn push_value(line: &mut Vec<u8>, value: &[u8]) -> Result<(), AllocError>
-    ensures { OnOk result (line.new.items ≡ line.old.items ++ (codes " value " ++ value_text value.now)) }
+/// Appends a value's digits, or the dash of the empty one.
+pub(crate) fn push_value(line: &mut Vec<u8>, value: &[u8]) -> Result<(), AllocError>
+    ensures { OnOk result (line.new.items ≡ line.old.items ++ value_text value.now) }
 {
-    line.extend_from_slice(b" value ")?;
     if value.is_empty() {
         line.extend_from_slice(b"-")
     } else {
@@ -185,7 +188,7 @@ fn push_status(alloc: Global, line: &mut Vec<u8>, status: Status) -> Result<(), 
     Ok(())
 }
 
-/// Appends a name and its number, each behind a blank.
+/// Appends a name and its number, each after a blank.
 fn push_named(alloc: Global, line: &mut Vec<u8>, name: &str, number: u64) -> Result<(), AllocError>
     ensures { OnOk result (line.new.items ≡ line.old.items ++ named_text name.now number) }
 {
@@ -193,8 +196,8 @@ fn push_named(alloc: Global, line: &mut Vec<u8>, name: &str, number: u64) -> Res
     push_number(alloc, line, number)
 }
 
-/// Appends a word behind a blank.
-fn push_word(line: &mut Vec<u8>, word: &[u8]) -> Result<(), AllocError>
+/// Appends a word after a blank.
+pub(crate) fn push_word(line: &mut Vec<u8>, word: &[u8]) -> Result<(), AllocError>
     ensures { OnOk result (line.new.items ≡ line.old.items ++ 32 ∷ word.now) }
 {
     line.push(b' ')?;

@@ -21,7 +21,7 @@ use xa_frame::Request;
 use xa_limits::{MOST_INFO, MOST_KEY, MOST_VALUE};
 use xa_xid::Xid;
 
-/// The request of a call and the words behind it, where they are as it wants them.
+/// The request of a call and the words after it, where they are as it wants them.
 pub fn read_request(
     alloc: Global,
     call: Call,
@@ -106,7 +106,7 @@ pub fn read_direction(word: &[u8]) -> Option<Direction>
     }
 }
 
-/// The request, if no words stand behind its call.
+/// The request, if no words stand after its call.
 fn read_alone(request: Request, words: Option<&[u8]>) -> Option<Request>
     requires { IsRequest request }
     ensures value { result ≡ alone request (words_behind (option_copied words.entry)) }
@@ -277,7 +277,7 @@ fn is_quoted(word: &[u8]) -> bool
     !word.is_empty() && word[0] == b'"'
 }
 
-/// The bytes of text in quotes, behind the quote that begins it.
+/// The bytes of text in quotes, after the quote that begins it.
 fn read_quoted(alloc: Global, word: &[u8]) -> Result<Option<Bytes>, AllocError>
     ensures { IfOk result (λ bytes. bytes ≡ text_of word.now) }
 {

@@ -22,7 +22,7 @@ pub enum Stage {
     Ended,
 }
 
-/// The bytes of a text, behind the quote that begins it.
+/// The bytes of a text, after the quote that begins it.
 pub fn read_text(alloc: Global, text: &[u8]) -> Result<Option<Bytes>, AllocError>
     ensures { IfOk result (λ bytes. bytes ≡ text_by Stage.Between text.now) }
 {
@@ -53,7 +53,7 @@ fn is_end(stage: Stage) -> bool
     }
 }
 
-/// Where the reading is behind one more character, and the byte that it ends the spelling of.
+/// Where the reading is after one more character, and the byte that it ends the spelling of.
 fn next_of(stage: Stage, character: u8) -> Option<(Stage, Option<u8>)>
     ensures { result ≡ next_of stage character }
 {
@@ -138,7 +138,7 @@ fn is_plain(byte: u8) -> bool
     (byte == b' ' || byte.is_ascii_graphic()) && !is_marked(byte)
 }
 
-/// Whether a byte stands behind a backslash.
+/// Whether a byte stands after a backslash.
 fn is_marked(byte: u8) -> bool
     ensures { result ≡ is_marked byte }
 {

@@ -12,11 +12,11 @@ pub enum Place {
     Bare,
     /// Within the quotes that it began with.
     Quoted,
-    /// There, behind a backslash.
+    /// There, after a backslash.
     Escaped,
 }
 
-/// The first word of a line, and what stands behind the blank that ends it.
+/// The first word of a line, and what stands after the blank that ends it.
 pub fn first_word(line: &[u8]) -> (&[u8], Option<&[u8]>)
     ensures { words line.now ≡ result.0.now ∷ words_behind (option_copied result.1) }
 {
@@ -48,7 +48,7 @@ fn is_within(place: Place) -> bool
     }
 }
 
-/// Where the reading is behind one more character of the word.
+/// Where the reading is after one more character of the word.
 fn next_place(place: Place, character: u8) -> Place
     ensures { result ≡ next_place place character }
 {
