@@ -12,6 +12,7 @@ use Rattle.xa_log.proofs.Whole.{whole_file}
 use Rattle.xa_copy.specs.Copies.{Copies, CopiesTo, IsPairOf, WasLog}
 use Rattle.xa_copy.specs.Gathers.{Gathers, end_of}
 use Rattle.xa_copy.specs.Heads.{Heads}
+use Rattle.xa_copy.specs.Marks.{Marks}
 use Rattle.xa_copy.specs.Moving.{Goes, HasLog, State, Tells}
 use Rattle.xa_copy.specs.Progress.{Closes, Follows, Has, Stands}
 use Rattle.xa_copy.specs.declared.copied.Copied.{Copied}
@@ -33,7 +34,7 @@ put_end old bytes at is =
 pub life_by : (state : State) (head : Head) → Tells state → Heads state.file head → head.generation ≡ state.life
 life_by state head tells heads = heads.number ∙ tells head.format (heads.body ∷ []) (λ none. cc none) heads.log
 
-named_by : (format : Format) (body file : List ℕ) → HasLog format (body ∷ []) file → HasLog format [] file
+pub named_by : (format : Format) (body file : List ℕ) → HasLog format (body ∷ []) file → HasLog format [] file
 named_by format body file log = record {
   rest = records (start format) (body ∷ []) ++ log.rest;
   split = log.split ∙ append_assoc (magic format) (records (start format) (body ∷ [])) log.rest ∙ ap (λ (l : List ℕ). l ++ (records (start format) (body ∷ []) ++ log.rest)) (sym (append-nil (magic format)));
@@ -54,7 +55,7 @@ stands_first honest kept begin file head copying format has gathers empty heads 
 
 -- ---- what it was a copy of
 
-closed_rests : (format : Format) (bodies : List (List ℕ)) (file : List ℕ) → Closes format bodies file → Rests format bodies file
+pub closed_rests : (format : Format) (bodies : List (List ℕ)) (file : List ℕ) → Closes format bodies file → Rests format bodies file
 closed_rests format bodies file c =
     record { rest = closing ++ c.rest; split = c.split; sizes = c.sizes; closed = closed_zeros format (last (start format) bodies) c.rest }
 
@@ -86,13 +87,25 @@ longer format body bodies =
     let first : List ℕ = record_of (start format) body in
     omega (arith, length-text format (body ∷ []), length-text format (body ∷ bodies), length-append first [], length-append first (records (digest (start format) body) bodies))
 
+pub marks_by : (bodies : List (List ℕ)) (copying : Copying) (copied : Copied) → Has bodies copying → copied.format ≡ copying.format
+    → copied.digest ≡ copying.digest → copied.records ≡ copying.records → copied.end ≡ end_of copying.gather
+    → copied.is_snapshot ≡ copying.is_snapshot → Marks bodies copied
+marks_by bodies copying copied has format digest records ends snapshot = record {
+  sizes = subst (λ f. AllByRecursion (IsBody f) bodies) (sym format) has.sizes;
+  digest = digest ∙ has.digest ∙ ap (λ (f : Format). last (start f) bodies) (sym format);
+  records = records ∙ has.records;
+  end = ends ∙ has.end ∙ ap (λ (f : Format). length (text f bodies)) (sym format);
+  snapshot = snapshot ∙ has.snapshot;
+}
+
 -- with both files
 pub copies_by : (most : ℕ) (head : Head) (format : Format) (bodies : List (List ℕ)) (begin mid end : State) (to to' : List ℕ) (copied : Copied) (copying : Copying)
     → format ≡ head.format → Heads begin.file head → Follows format bodies begin mid → Goes mid end → end.life ≡ begin.life
     → (mid.life ≡ begin.life → Closes format bodies mid.file) → copying.format ≡ format → Has bodies copying
     → end_of copying.gather + 4 ≤ most → to ≡ text format bodies ++ closing → to' ≡ head.front.items ++ closing
-    → copied.records ≡ copying.records → copied.end ≡ end_of copying.gather → copied.generation ≡ head.generation → CopiesTo most begin end to to' copied
-copies_by most head format bodies begin mid end to to' copied copying format_is heads f goes same closes copying_is has fits to_is to'_is records ends number =
+    → copied.records ≡ copying.records → copied.end ≡ end_of copying.gather → copied.generation ≡ head.generation → copied.format ≡ copying.format → copied.digest ≡ copying.digest
+    → copied.is_snapshot ≡ copying.is_snapshot → Tells begin → CopiesTo most begin end to to' copied
+copies_by most head format bodies begin mid end to to' copied copying format_is heads f goes same closes copying_is has fits to_is to'_is records ends number format_copied digest snapshot tells =
     let was : WasLog format bodies begin end = was_log format bodies begin mid end f goes same closes in
     let log : HasLog format (heads.body ∷ []) begin.file = subst (λ k. HasLog k (heads.body ∷ []) begin.file) (sym format_is) heads.log in
     let kept = was.kept (heads.body ∷ []) log in
@@ -114,11 +127,15 @@ copies_by most head format bodies begin mid end to to' copied copying format_is 
       records = records ∙ has.records;
       end_is = ends ∙ end_is;
       number = number ∙ heads.number ∙ ap generation (sym is);
+      format_is = format_copied ∙ copying_is;
+      some = omega (arith, ap (λ (l : List (List ℕ)). length l) is);
+      life = sym (life_by begin head tells heads) ∙ heads.number ∙ ap generation (sym is);
+      marks = marks_by bodies copying copied has format_copied digest records ends snapshot;
     }
 
 -- ---- of two files
 
-goes_chosen : (b : Bool) (first first' second second' : State) → Goes first first' → Goes second second' → Goes (cond b first second) (cond b first' second')
+pub goes_chosen : (b : Bool) (first first' second second' : State) → Goes first first' → Goes second second' → Goes (cond b first second) (cond b first' second')
 goes_chosen true first first' second second' a b = a
 goes_chosen false first first' second second' a b = b
 

@@ -7,3 +7,9 @@ pub mod Pairs
 pub mod Finishing
 pub mod Current
 pub mod Stills
+mod Reading
+mod Standing
+mod Rounds
+mod Opening
+mod Renewing
+mod Appends

@@ -1,5 +1,5 @@
 -- What a copy of a log is, whose server runs.
-use Rattle.std.specs.Prelude.{◌≡◌, ℕ, false, if◌then◌else◌, List, ◌++◌, length, take, None}
+use Rattle.std.specs.Prelude.{◌≡◌, ◌≤◌, ℕ, false, if◌then◌else◌, List, ◌++◌, length, take, None}
 use Rattle.xa_log.specs.Believed.Chain.{closing, logged, text}
 use Rattle.xa_log.specs.Believed.Damage.{is_damaged}
 use Rattle.xa_log.specs.Believed.Generation.{generation}
@@ -8,6 +8,7 @@ use Rattle.xa_log.specs.Believed.Unfit.{unfit_of}
 use Rattle.xa_log.specs.declared.format.Format.{Format}
 use Rattle.xa_log.specs.declared.unfit.Unfit.TheVariants.{Neither}
 use Rattle.xa_copy.specs.declared.copied.Copied.{Copied}
+use Rattle.xa_copy.specs.Marks.{Marks}
 use Rattle.xa_copy.specs.Moving.{Goes, HasLog, State}
 use Rattle.xa_copy.specs.Progress.{Closes}
 
@@ -43,6 +44,11 @@ pub record CopiesTo (most : ℕ) (begin end : State) (to to' : List ℕ) (copied
   pub records : copied.records ≡ length bodies
   pub end_is : copied.end ≡ length (text format bodies)
   pub number : copied.generation ≡ generation bodies
+  pub format_is : copied.format ≡ format
+  pub some : 1 ≤ length bodies
+  pub life : begin.life ≡ generation bodies
+  -- what a standby goes on from
+  pub marks : Marks bodies copied
 
 -- Which of two files was the current one, by what each was at a moment, and its copy.
 pub record Copies (most : ℕ) (first first' second second' : State) (to to' : List ℕ) (copied : Copied) : Type 0 where

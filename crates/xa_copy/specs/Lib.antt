@@ -4,4 +4,9 @@ pub mod Still
 pub mod Gathers
 pub mod Heads
 pub mod Progress
+pub mod Marks
 pub mod Copies
+pub mod Follows
+pub mod Standbys
+pub mod Followed
+pub mod Snapshots

@@ -1,7 +1,8 @@
 -- A log's file that another process may append to, or begin anew, while it is read.
-use Rattle.std.specs.Prelude.{◌≡◌, ◌≢◌, ℕ, ◌≤◌, ◌-◌, min, List, [], ◌++◌, length, take, drop}
+use Rattle.std.specs.Prelude.{◌≡◌, ◌≢◌, ℕ, ◌≤◌, ◌-◌, min, true, slice_index, List, [], ◌∷◌, ◌++◌, length, take, drop}
 use Rattle.std.specs.List.{AllByRecursion}
 use Rattle.xa_log.specs.Believed.Chain.{IsBody, text}
+use Rattle.xa_log.specs.Believed.Damage.{is_appended}
 use Rattle.xa_log.specs.Believed.Generation.{generation}
 use Rattle.xa_log.specs.declared.format.Format.{Format}
 
@@ -16,6 +17,10 @@ pub record HasLog (format : Format) (bodies : List (List ℕ)) (file : List ℕ)
   pub rest : List ℕ
   pub split : file ≡ text format bodies ++ rest
   pub sizes : AllByRecursion (IsBody format) bodies
+
+-- If a record stands after these bodies, it was appended: no snapshot is cut.
+abbrev pub OnlyAppended : Format → List (List ℕ) → List ℕ → Type 0
+OnlyAppended format bodies file = (body : List ℕ) → HasLog format (bodies ++ body ∷ []) file → is_appended (slice_index body 0) ≡ true
 
 -- Each record that stood there stands there, where it stood.
 abbrev pub Grows : List ℕ → List ℕ → Type 0

@@ -123,6 +123,9 @@ fn copy_file<S: Source, D: Disk>(
         end: copying.end(),
         generation: head.generation,
         on_first,
+        format: copying.format,
+        digest: copying.digest,
+        is_snapshot: copying.is_snapshot,
     };
     close(to, copying.gather)?;
     close(to_second, Gather::new(alloc, &head.front)?)?;
@@ -140,9 +143,14 @@ fn ensure_empty<D: Disk>(disk: &mut D) -> Result<(), CopyFault>
 }
 
 // Whether a log still has its generation, so that it wasn't begun anew since it was read.
-fn ensure_same<S: Source>(alloc: Global, source: &mut S, head: &Head) -> Result<(), CopyFault>
+pub(crate) fn ensure_same<S: Source>(
+    alloc: Global,
+    source: &mut S,
+    head: &Head,
+) -> Result<(), CopyFault>
     ensures same { S.honest → (begin : State) → Tells begin → Heads begin.file head.now
         → OnOk result ((S.state source.new).life ≡ begin.life) }
+    ensures tells { S.honest → OnOk result (Tells (S.state source.new)) }
     ensures goes { S.honest → Goes (S.state source.old) (S.state source.new) }
 {
     match head_of(alloc, source)? {

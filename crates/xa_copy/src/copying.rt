@@ -1,10 +1,12 @@
 //! One record after another is copied, up to the closing length.
-ghost use Rattle.std.specs.Prelude.{◌≡◌, ◌||◌, ◌&&◌, ◌==◌, not, false, min, ◌+◌, ◌≤◌, ◌<◌, ◌^◌, List, [], ℕ, true, IfErr, IfOk, IfSome, OnOk, None, length, drop, take};
+ghost use Rattle.std.specs.Prelude.{◌≡◌, ◌||◌, ◌&&◌, ◌==◌, not, false, min, ◌+◌, ◌≤◌, ◌<◌, ◌^◌, List, [], ℕ, true};
+ghost use Rattle.std.specs.Prelude.{IfErr, IfOk, IfSome, OnOk, None, length, drop, take};
 ghost use Rattle.xa_log.specs.Believed.Chain.{closing, magic, most_body, text};
+ghost use Rattle.xa_limits.specs.declared.TheConstants.{AROUND_CLOSED};
 ghost use Rattle.xa_log.specs.declared.format.TheConstants.{PREAMBLE_BYTES};
 ghost use Rattle.xa_copy.specs.Gathers.{Gathers, end_of};
 ghost use Rattle.xa_copy.specs.Moving.{Goes, State, Tells};
-ghost use Rattle.xa_copy.specs.Progress.{Ends, GoesOn, Has, IsWithin, Stands, Steps, Takes};
+ghost use Rattle.xa_copy.specs.Progress.{Closes, Ends, Follows, GoesOn, Has, IsWithin, Stands, Steps, Takes};
 ghost use Rattle.xa_log.specs.Believed.Damage.{is_appended};
 ghost use Rattle.std.specs.Str.{bytes_eq};
 
@@ -59,7 +61,7 @@ impl Copying {
     }
 
     // What stands where the next record should begin isn't as it was written.
-    fn damaged(&self) -> CopyFault
+    pub(crate) fn damaged(&self) -> CopyFault
         requires room { end_of self.now.gather < 2 ^ 64 }
         requires counted { self.now.records ≤ end_of self.now.gather }
     {
@@ -104,6 +106,34 @@ impl Copying {
         ensures goes { S.honest → Goes (S.state source.old) (S.state source.new) }
         ensures format { self.new.format ≡ self.old.format }
     {
+        let Some(size) = self.next_size(source, log_bytes)? else {
+            return Ok(false);
+        };
+        let at = self.end();
+        let damaged = self.damaged();
+        self.gather.make_room(to, AROUND_BODY + size)?;
+        if !self.take_record(source, at, size)? {
+            return Err(damaged);
+        }
+        Ok(true)
+    }
+
+    // The size of the next record's body, in a log of at most `log_bytes`; none, if a closing length stands there.
+    pub(crate) fn next_size<S: Source>(
+        &self,
+        source: &mut S,
+        log_bytes: u64,
+    ) -> Result<Option<usize>, CopyFault>
+        requires { IsWithin log_bytes self.now }
+        ensures some { IfOk result (λ found. IfSome found (λ size. 1 ≤ size)) }
+        ensures small { IfOk result (λ found. IfSome found (λ size. size ≤ most_body self.now.format)) }
+        ensures fits { IfOk result (λ found. IfSome found (λ size. end_of self.now.gather + (AROUND_CLOSED + size) ≤ log_bytes)) }
+        ensures none { S.honest → (begin : State) (bodies : List (List ℕ)) → Has bodies self.now
+            → Follows self.now.format bodies begin (S.state source.old)
+            → IfOk result (λ found. found ≡ None → (S.state source.new).life ≡ begin.life
+            → Closes self.now.format bodies (S.state source.new).file) }
+        ensures goes { S.honest → Goes (S.state source.old) (S.state source.new) }
+    {
         let at = self.end();
         let damaged = self.damaged();
         let mut front = [0; LENGTH_BYTES + 1];
@@ -115,7 +145,7 @@ impl Copying {
             if self.is_cut(&front, have) {
                 return Err(damaged);
             }
-            return Ok(false);
+            return Ok(None);
         }
         let size = size_of(&front);
         if size > self.format.most_body() {
@@ -124,11 +154,7 @@ impl Copying {
         if log_bytes - at < (AROUND_CLOSED + size) as u64 {
             return Err(CopyFault::TooLong);
         }
-        self.gather.make_room(to, AROUND_BODY + size)?;
-        if !self.take_record(source, at, size)? {
-            return Err(damaged);
-        }
-        Ok(true)
+        Ok(Some(size))
     }
 
     // Whether what stands after the records can't stand there: a closing length that has taken a record's place. As many bytes
@@ -151,7 +177,7 @@ impl Copying {
     }
 
     // Takes the record that stands at an offset, with a body of this size, and returns whether it chains.
-    fn take_record<S: Source>(
+    pub(crate) fn take_record<S: Source>(
         &mut self,
         source: &mut S,
         at: u64,

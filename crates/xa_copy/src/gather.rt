@@ -1,5 +1,6 @@
 //! What was read of a log, gathered up to where it is written, so that a write has many records.
-ghost use Rattle.std.specs.Prelude.{◌≡◌, ◌⊎◌, ◌+◌, ◌≤◌, ◌<◌, ◌^◌, true, List, [], ℕ, IfErr, IfOk, OnOk, length, take, drop};
+ghost use Rattle.std.specs.Prelude.{◌≡◌, ◌⊎◌, ◌+◌, ◌≤◌, ◌<◌, ◌^◌, true, List, [], ℕ, IfErr, IfOk, OnOk, length, take};
+ghost use Rattle.std.specs.Prelude.{drop};
 ghost use Rattle.xa_copy.specs.Gathers.{Gathers, end_of};
 ghost use Rattle.xa_copy.specs.Moving.{Goes, Tells};
 

@@ -23,4 +23,4 @@ returns-clause-copies g c h k tells is_head =
     (subst (λ (l : List ℕ). Gathers l [] c.in_ok-new.field-0) c.deref.ensures.value c.in_ok-new.ensures.gathers) in
     copies_by c.args.log_bytes head copying.format ends.bodies begin mid end (g.D.Disk.seen c.close.new.to) (g.D.Disk.seen c.close-2.new.to) _ copying
     (c.copy_records-copied.ensures.format ∙ made.format) heads (ends.stands.follows h) (c.ensure_same.ensures.goes h) (c.in_ok-ensure_same.ensures.same h begin tells heads)
-    (ends.closes h) refl ends.stands.has c.in_ok-copied.ensures.within.within to_is (c.in_ok-close-2.ensures.closed k head.front.items gathers) refl c.end.ensures refl
+    (ends.closes h) refl ends.stands.has c.in_ok-copied.ensures.within.within to_is (c.in_ok-close-2.ensures.closed k head.front.items gathers) refl c.end.ensures refl refl refl refl tells
