@@ -22,7 +22,7 @@ pub record WasCopied {S D : Type 0} (source_honest : Type 0) (state : S → Stat
   pub durable : disk_honest → Only (seen copy) (may_leave copy)
   pub durable_second : disk_honest → Only (seen second_copy) (may_leave second_copy)
 
--- the sources that were opened at a path, and at the path with `.2` behind it, were copied to another one
+-- the sources that were opened at a path, and at the path with `.2` after it, were copied to another one
 pub record HasCopied {S D : Type 0} (source_honest : Type 0) (state : S → State) (found : S → List ℕ → Type 0)
     (disk_honest : Type 0) (seen : D → List ℕ) (may_leave : D → List ℕ → Type 0) (opened : D → List ℕ → Type 0)
     (path to : List ℕ) (log_bytes : ℕ) : Type 0 where

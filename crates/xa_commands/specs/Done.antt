@@ -101,7 +101,7 @@ checked_status (Err e) = 2
 abbrev pub second_path : List ℕ → List ℕ
 second_path path = path ++ codes ".2"
 
--- the disks that were opened at a path, and at the path with `.2` behind it, were checked, with this end
+-- the disks that were opened at a path, and at the path with `.2` after it, were checked, with this end
 abbrev pub HasChecked : {D : Type 0} → Type 0 → (D → List ℕ) → (D → List ℕ → Type 0) → List ℕ → ℕ
     → Result Bool CheckFault → Type 0
 HasChecked {D} honest seen opened path log_bytes end =

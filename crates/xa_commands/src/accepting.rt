@@ -54,8 +54,8 @@ pub fn accept_damage<'a, R: AllocGlobal + Eprint + Opens + Files>(
     Ok(())
 }
 
-// Cuts a file behind where its log was ended, if the disk can: what was left out has stamps of the boot that may begin next in
-// this file, so that behind a torn write it could be taken for that boot's.
+// Cuts a file after where its log was ended, if the disk can: what was left out has stamps of the boot that may begin next in
+// this file, so that after a torn write it could be taken for that boot's.
 fn cut<D: Disk>(disk: &mut D, left: &LeftOut) {
     if left.is_whole {
         disk.shorten(PREAMBLE_BYTES as u64 + 1);
@@ -98,13 +98,13 @@ fn tell<R: Eprint>(rt: &R, path: &str, left: &LeftOut, kept: &Kept) {
     let Kept { number } = kept;
     let _ = if left.is_whole {
         eprintln!(rt;
-            "xarm: damage accepted: the snapshot of {path}{suffix} is left out, and what was logged behind it; the older file is taken; both files are kept as {path}.damaged-{number} and {path}.2.damaged-{number}"
+            "xarm: damage accepted: the snapshot of {path}{suffix} is left out, and what was logged after it; the older file is taken; both files are kept as {path}.damaged-{number} and {path}.2.damaged-{number}"
         )
     } else {
         let record = left.damage.number;
         let at = left.damage.at;
         eprintln!(rt;
-            "xarm: damage accepted: {path}{suffix}: record {record} at byte {at} and all behind it are left out; both files are kept as {path}.damaged-{number} and {path}.2.damaged-{number}"
+            "xarm: damage accepted: {path}{suffix}: record {record} at byte {at} and all after it are left out; both files are kept as {path}.damaged-{number} and {path}.2.damaged-{number}"
         )
     };
 }

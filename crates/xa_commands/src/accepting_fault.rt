@@ -9,7 +9,7 @@ use std::{fmt, io};
 use xa_disk::FileFault;
 use xa_log::OpenFault;
 
-/// Why what stands of a damaged log wasn't made ready to be opened. Its text is what `xarm` prints behind its name.
+/// Why what stands of a damaged log wasn't made ready to be opened. Its text is what `xarm` prints after its name.
 #[derive(Clone, Copy, Debug, Drop)]
 pub enum AcceptingFault<'a> {
     Memory,

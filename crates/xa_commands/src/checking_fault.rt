@@ -4,7 +4,7 @@ use std::fmt;
 use xa_check::CheckFault;
 use xa_disk::FileFault;
 
-/// Why it isn't told what a log's two files are. Its text is what `xarm` prints behind its name.
+/// Why it isn't told what a log's two files are. Its text is what `xarm` prints after its name.
 #[derive(Clone, Copy, Debug, Drop)]
 pub enum CheckingFault<'a> {
     /// A server has the log.

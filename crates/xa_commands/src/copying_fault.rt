@@ -4,7 +4,7 @@ ghost use Rattle.xa_commands.specs.declared.copying_fault.CopyingFault.TheVarian
 use std::alloc::AllocError;
 use std::error::Error;
 use std::{fmt, io};
-use xa_copy::CopyFault;
+use xa_copy::{CopyFault, FollowFault};
 use xa_disk::FileFault;
 
 /// Which of a log's two files.
@@ -14,7 +14,7 @@ pub enum Side {
     Second,
 }
 
-/// What stands behind the path of the first file in that of this one.
+/// What stands after the path of the first file in that of this one.
 impl fmt::Display for Side {
     fn fmt<W: fmt::Write>(&self, f: &mut fmt::Formatter<W>) -> fmt::Result {
         f.write_str(match self {
@@ -24,7 +24,7 @@ impl fmt::Display for Side {
     }
 }
 
-/// Why a log wasn't copied. Its text is what `xarm` prints behind its name.
+/// Why a log wasn't copied. Its text is what `xarm` prints after its name.
 #[derive(Clone, Copy, Debug, Drop)]
 pub enum CopyingFault<'a> {
     Memory,
@@ -61,6 +61,11 @@ pub enum CopyingFault<'a> {
         path: &'a str,
         fault: CopyFault,
     },
+    /// The copy stands, but doesn't follow.
+    Follow {
+        to: &'a str,
+        fault: FollowFault,
+    },
     /// The copy stands, but its line couldn't be printed.
     Untold,
 }
@@ -83,6 +88,7 @@ impl fmt::Display for CopyingFault<'_> {
                 write!(f, "cannot open {to}{side}: {fault}")
             }
             CopyingFault::Copy { path, fault } => write!(f, "{path}: {fault}"),
+            CopyingFault::Follow { to, fault } => write!(f, "{to}: {fault}"),
             CopyingFault::Untold => f.write_str("cannot write"),
         }
     }

@@ -8,7 +8,7 @@ use std::path::Path;
 // The greatest number in a copy's name.
 const MOST_COPIES: u32 = 1_000_000;
 
-/// Where two files were kept: with `.damaged-` and this number behind their names.
+/// Where two files were kept: with `.damaged-` and this number after their names.
 #[derive(Clone, Copy, Debug)]
 pub(crate) struct Kept {
     pub(crate) number: u32,

@@ -4,7 +4,7 @@ use std::fmt;
 use xa_disk::FileFault;
 use xa_scan::ScanFault;
 
-/// Why a log at a path wasn't printed to its end. Its text is what `xarm` prints behind its name.
+/// Why a log at a path wasn't printed to its end. Its text is what `xarm` prints after its name.
 #[derive(Clone, Copy, Debug, Drop)]
 pub enum ScanningFault<'a> {
     /// A server has the log.

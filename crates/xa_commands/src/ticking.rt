@@ -11,7 +11,7 @@ use std::{fmt, thread};
 use xa_frame::Reply;
 use xa_talk::{TickFault, Ticker, refusal_text, tick_run};
 
-/// The system's clock, which is read at once and then behind each pause, and standard error.
+/// The system's clock, which is read at once and then after each pause, and standard error.
 #[derive(Drop)]
 pub struct Watch<'a, R> {
     pub rt: &'a R,

@@ -29,7 +29,7 @@ value_read n small =
     (λ n ds more is. with_digit 0 (n / 10) (n % 10) ds is (omega arith) ∙ ap Some (omega arith))
     n small
 
--- more digits behind the first
+-- more digits after the first
 still : (ds more : List ℕ) → begins_well ds ≡ true → begins_well (ds ++ more) ≡ true
 still [] more well = absurd (cc well)
 still (c ∷ ds) more well = well

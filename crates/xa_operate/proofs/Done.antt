@@ -1,4 +1,4 @@
--- Questions are done, one behind the other.
+-- Questions are done, one after the other.
 use Rattle.std.proofs.Common.{◌≡◌, ℕ, suc, ◌-◌, ◌^◌, length, arith, List, [], ◌∷◌, ◌++◌, drop, length-drop, Option, Some, None, Result, Ok, Err, refl, sym, ap, subst, ◌∙◌, append_assoc, append-nil, inl, inr}
 use Rattle.std.specs.Io.KnownBytes.{Appends}
 use Rattle.std.specs.Prelude.{All, option_to_list}
@@ -12,7 +12,7 @@ use Rattle.xa_operate.specs.declared.fault.OperateFault.{OperateFault}
 use Rattle.xa_operate.specs.declared.format.Format.{Format}
 use Rattle.xa_operate.specs.declared.task.Task.{Task}
 
--- what holds of all holds of those behind the first
+-- what holds of all holds of those after the first
 pub all_behind : {X : Type 0} (P : X → Type 0) (x : X) (xs : List X) → All P (x ∷ xs) → All P xs
 all_behind P x xs all k d below = all (suc k) d (omega (arith, below))
 

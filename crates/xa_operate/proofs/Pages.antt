@@ -1,4 +1,4 @@
--- Of branches that are listed it is asked who is at work for them, one behind the other.
+-- Of branches that are listed it is asked who is at work for them, one after the other.
 use Rattle.std.proofs.Common.{◌≡◌, ◌≤◌, List, [], ◌∷◌, ◌++◌, length, drop, get_or, ap, ◌∙◌, arith, append_assoc}
 use Rattle.xa_frame.specs.declared.known_branch.KnownBranch.{KnownBranch}
 use Rattle.xa_operate.specs.Agendas.{session_of, sessions_of}

@@ -1,8 +1,8 @@
--- Texts that are written one behind the other.
+-- Texts that are written one after the other.
 use Rattle.std.proofs.Common.{◌≡◌, ◌++◌, ◌∙◌, ℕ, List, Result, Ok, Err, ap, append_assoc}
 use Rattle.std.specs.Prelude.{OnOk}
 
--- one text more, behind those that were written
+-- one text more, after those that were written
 pub further : (old mid new a b : List ℕ) → mid ≡ old ++ a → new ≡ mid ++ b → new ≡ old ++ (a ++ b)
 further old mid new a b first second = second ∙ (ap (λ (l : List ℕ). l ++ b) first ∙ append_assoc old a b)
 

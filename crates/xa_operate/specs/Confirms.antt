@@ -38,7 +38,7 @@ Told task (Err fault) input input' errors errors' =
 
 -- of a task in a format, over connections, with what was sent over one, and what can still be read from it
 module _ {C : Type 0} (format : Format) (task : Task) (sent left : C → Option (List ℕ)) where
-  -- what follows: only behind a yes the task is asked of the server
+  -- what follows: only after a yes the task is asked of the server
   abbrev pub Goes : {X : Type 0} → List ℕ → Result Bool OperateFault → Result X OperateFault → Option (List ℕ)
       → Option (List ℕ) → Type 0
   Goes name (Ok true) end output output' = Operates format task sent left name end output output'

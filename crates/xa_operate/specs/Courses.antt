@@ -35,7 +35,7 @@ module _ {C : Type 0} (format : Format) (task : Task) (sent left : C → Option 
     pub exchanged : Brings question (Ok reply) (sent c) (sent c') (left c) (left c')
     pub done : answers task question reply ≡ true
 
-  -- So many questions were done, one behind the other, by their replies: the first of those that were to be asked, then those
+  -- So many questions were done, one after the other, by their replies: the first of those that were to be asked, then those
   -- that the answers led to. What is printed is the text of each answer.
   abbrev pub AreDone : List Asking → List Answered → List Asking → List ℕ → C → C → Type 0
   AreDone agenda [] agenda' text c c' = (agenda' ≡ agenda) × (text ≡ []) × (c' ≡ c)
@@ -75,7 +75,7 @@ module _ {C : Type 0} (format : Format) (task : Task) (sent left : C → Option 
       ((text ≡ []) × IsRefused question fault c c')
       ⊎ (((text ≡ []) × IsUnanswered question fault c c') ⊎ IsUnprinted question fault text c c')
 
-  -- By the end of a task, behind so many questions that are done. Ok: none is left. A fault: the next one failed so, or no
+  -- By the end of a task, after so many questions that are done. Ok: none is left. A fault: the next one failed so, or no
   -- more can be counted.
   abbrev pub TaskEnds : {X : Type 0} → Result X OperateFault → List Asking → ℕ → List ℕ → C → C → Type 0
   TaskEnds (Ok x) agenda n text c c' = (agenda ≡ []) × (text ≡ []) × (c' ≡ c)

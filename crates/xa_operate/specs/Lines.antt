@@ -84,7 +84,7 @@ count_line name digits = (name ++ 32 ∷ digits) ++ 10 ∷ []
 abbrev pub count_member : ℕ → List ℕ → List ℕ → List ℕ
 count_member mark name digits = mark ∷ quoted name ++ 58 ∷ digits
 
--- a name and its number: a line, or a member behind this mark
+-- a name and its number: a line, or a member after this mark
 unfoldable pub count : Format → ℕ → List ℕ → ℕ → List ℕ
 count Text mark name n = count_line name (decimal n)
 count Json mark name n = count_member mark name (decimal n)

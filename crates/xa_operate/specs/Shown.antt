@@ -70,7 +70,7 @@ abbrev pub shown_counts : Answer → List ℕ
 shown_counts (own.Metrics numbers) = counted_text numbers
 shown_counts _ = []
 
--- a branch with its sessions, and those listed behind it
+-- a branch with its sessions, and those listed after it
 abbrev pub shown_listed : Format → Task → KnownBranch → List KnownBranch → Answer → List ℕ
 shown_listed format task branch others answer =
     branch_line format branch (sessions_in answer) ++ shown_lines format task others

@@ -1,4 +1,4 @@
--- What a server tells of what it counted: pairs of an id and a count. A number behind the last pair is passed over.
+-- What a server tells of what it counted: pairs of an id and a count. A number after the last pair is passed over.
 use Rattle.std.specs.Prelude.{ℕ, ◌==◌, List, [], ◌∷◌, Option, Some, None, if◌then◌else◌, unwrap_or}
 
 -- the count of an id: of pairs with one id the first holds

@@ -149,7 +149,7 @@ fn push_listed(
     push_page(agenda, branches)
 }
 
-/// The scan goes on behind a full page.
+/// The scan goes on after a full page.
 fn push_scan(agenda: &mut VecDeque<Asking>, count: usize) -> Result<(), AllocError>
     requires { All IsAsking agenda.old.items }
     ensures questions { OnOk result (agenda.new.items ≡ agenda.old.items ++ after_scan count) }

@@ -13,7 +13,7 @@ pub enum Asking {
     Question(Question),
     /// That it hang up the session of this number.
     Disconnect(u64),
-    /// Which sessions are at work for the first branch. It is shown with the others, which are listed behind it.
+    /// Which sessions are at work for the first branch. It is shown with the others, which are listed after it.
     Sessions(KnownBranch, KnownBranches),
     /// What it has counted.
     Metrics,

@@ -1,4 +1,4 @@
-//! A task that can't be taken back is asked of a server only behind a yes.
+//! A task that can't be taken back is asked of a server only after a yes.
 ghost use Rattle.std.specs.Prelude.{◌≤◌, length};
 ghost use Rattle.xa_limits.specs.declared.TheConstants.{MOST_INFO};
 ghost use Rattle.xa_operate.specs.Confirms.{Confirms, Told};

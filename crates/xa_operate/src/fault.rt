@@ -8,7 +8,7 @@ use std::fmt;
 use xa_codes::{Code, Detail, code_name};
 use xa_talk::TalkFault;
 
-/// Why a task isn't done, or isn't known to be. Its text is what `xarm` prints behind its name.
+/// Why a task isn't done, or isn't known to be. Its text is what `xarm` prints after its name.
 #[derive(Clone, Copy, Debug, PartialEq, Eq)]
 pub enum OperateFault {
     /// The server refused a question so.

@@ -208,7 +208,7 @@ fn push_end(line: &mut Vec<u8>, format: Format) -> Result<(), AllocError>
     }
 }
 
-/// Adds a name and its number: a line, or a member behind a mark.
+/// Adds a name and its number: a line, or a member after a mark.
 #[tactic(auto, unfolding(crate::specs::Lines::count))]
 fn push_count(
     alloc: Global,

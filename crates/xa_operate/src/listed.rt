@@ -65,7 +65,7 @@ pub(crate) fn push_sessions(
     Ok(())
 }
 
-/// The same of one of them, with those that are listed behind it.
+/// The same of one of them, with those that are listed after it.
 fn push_session(
     alloc: Global,
     agenda: &mut VecDeque<Asking>,

@@ -19,7 +19,7 @@ use std::io::{Read, Write};
 use xa_output::write_text;
 use xa_talk::{Connection, Dial, TalkFault};
 
-/// Opens a connection and asks a server what a task asks, one question behind the other, each once the one before it is
+/// Opens a connection and asks a server what a task asks, one question after the other, each once the one before it is
 /// answered. What an answer says is printed in a format, and flushed, before the next one is asked.
 ///
 /// It ends once all is done, or with the first fault: no connection (`Connect`); one that broke (`Broken`), or brought what

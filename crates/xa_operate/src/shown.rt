@@ -67,7 +67,7 @@ fn shown_own(
     }
 }
 
-/// A branch with its sessions, and those listed behind it.
+/// A branch with its sessions, and those listed after it.
 fn shown_listed(
     alloc: Global,
     format: Format,

@@ -173,7 +173,7 @@ Ends name n IsStopped = Stops name n
 Ends name n IsCut = Cuts name n
 Ends name n IsRefused = Refuses name n
 
--- so far this was printed, and what the rest prints stands behind it
+-- so far this was printed, and what the rest prints stands after it
 abbrev pub PlayedSoFar : List ℕ → ℕ → Manager MemDisk → List ℕ → List ℕ → Manager MemDisk → Option (List ℕ) → Type 0
 PlayedSoFar name n m script text m' rest = (xid_of : List ℕ → Option Triple) → ReadsTexts xid_of → (end : End) (more : List ℕ)
     → ((after : Run) → StandsAs name n m' after → PlaysTo name n IsLawful (Ends name n end) after (map (lines.line_of xid_of) (parts_behind 10 rest)) more)

@@ -99,7 +99,7 @@ abbrev pub CrashesTo : LogFile → ℕ → LogView MemDisk → MemDisk × MemDis
 CrashesTo Current keeps log disks = CrashesBoth keeps 0 log disks
 CrashesTo Other keeps log disks = CrashesBoth 0 keeps log disks
 
--- these are the disks that such a crash leaves of a log that stands behind the state
+-- these are the disks that such a crash leaves of a log that stands after the state
 pub record CrashLeaves (s : State) (file : LogFile) (keeps : ℕ) (disks : MemDisk × MemDisk) : Type 0 where
   pub log : LogView MemDisk
   pub stands : LogStandsFor mem_disks log s

@@ -10,7 +10,7 @@ fault_of manager.Memory = Memory
 fault_of manager.Setting = Setting
 fault_of fault = Manager fault
 
--- A play whose lines failed ends so, whatever the flush behind them was answered. Else the flush decides.
+-- A play whose lines failed ends so, whatever the flush after them was answered. Else the flush decides.
 abbrev pub end_of : {X E : Type 0} → Result X PlayFault → Result X E → Result X PlayFault
 end_of (Err fault) flushed = Err fault
 end_of (Ok x) (Ok y) = Ok x

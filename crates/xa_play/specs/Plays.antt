@@ -95,8 +95,8 @@ module _ (name : List ℕ) (log_bytes : ℕ) where
       × ((left : Run) → IsRun left → FilesStandFor log_bytes (seen disks.0) (seen disks.1) left.now
       → Reopens left Then)
 
-  -- Some first lines are played, one after another, and of the run behind each of them the first holds. Of the run
-  -- behind them all, of the lines that are left and of the text behind theirs the second holds.
+  -- Some first lines are played, one after another, and of the run after each of them the first holds. Of the run
+  -- after them all, of the lines that are left and of the text after theirs the second holds.
   abbrev pub PlaysTo : (Run → Type 0) → (Run → List Line → List ℕ → Type 0) → Run → List Line → List ℕ → Type 0
   PlaysTo Holds Ends run [] text = Ends run [] text
   PlaysTo Holds Ends run (line ∷ lines) text =
@@ -152,7 +152,7 @@ abbrev pub IsTooLong : List ℕ → Type 0
 IsTooLong bytes = MOST_SCRIPT < length bytes
 
 -- A play, on a manager that was opened on two empty disks: its script, which is what the reader had where that is
--- known, and the text that was written, which is what the end says. Of the run behind each line this holds.
+-- known, and the text that was written, which is what the end says. Of the run after each line this holds.
 pub record Plays {X : Type 0} (Holds : Run → Type 0) (name : List ℕ) (log_bytes : ℕ) (end : Result X PlayFault)
     (input output output' : Option (List ℕ)) : Type 0 where
   pub script : List ℕ

@@ -33,7 +33,7 @@ behind run entry after = record { first = run.first; entries = run.entries ++ en
 abbrev pub HasNoGets : State → Type 0
 HasNoGets s = AllByRecursion (λ b. HasNoGet b.operations) s.branches
 
--- an entry is a prepare of the XID that was answered XA_OK, and behind it nobody asked for its completion
+-- an entry is a prepare of the XID that was answered XA_OK, and after it nobody asked for its completion
 pub record Prepares (xid : Triple) (entries : List Entry) : Type 0 where
   pub before : List Entry
   pub prepare : Entry

@@ -18,7 +18,7 @@ use xa_manager::{Manager, Settings, connect_reply};
 use xa_model::Event;
 use xa_script::{CallEffect, Line, LogFile};
 
-/// The manager behind a line, and the reply that the line shows, if it shows one. So many events were played before.
+/// The manager after a line, and the reply that the line shows, if it shows one. So many events were played before.
 pub fn answer(
     alloc: Global,
     manager: Manager<MemDisk>,

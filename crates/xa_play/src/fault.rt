@@ -5,7 +5,7 @@ use std::alloc::AllocError;
 use thiserror::Error;
 use xa_manager::ManagerFault;
 
-/// Why a script wasn't played to its end. Its text is what `xarm` prints behind its name.
+/// Why a script wasn't played to its end. Its text is what `xarm` prints after its name.
 #[derive(Clone, Copy, Debug, PartialEq, Eq, Error)]
 pub enum PlayFault {
     #[error("no memory")]

@@ -25,9 +25,9 @@ use xa_script::{Line, Teller, first_part, read_line, reply_line};
 /// Settings out of their limits are found before anything is read, a script that can't be read and one that is too long
 /// before anything is written. What was answered before a later fault is written. What is printed is a legal run of the
 /// sequential resource manager, with some outcomes of the disks. Behind a line `crash` that is said of every run to
-/// whose state the files come that the crash left: then the lines behind it go on with that run, opened again.
+/// whose state the files come that the crash left: then the lines after it go on with that run, opened again.
 ///
-/// Of the run behind each line: the committed branches read what they would read if they were executed one at a time,
+/// Of the run after each line: the committed branches read what they would read if they were executed one at a time,
 /// in the order of their timestamps; and each XID whose prepare was answered XA_OK is listed, unless its completion was
 /// asked for.
 pub fn play_run<R: Read + Drop, W: Write, T: Teller>(
@@ -56,7 +56,7 @@ pub fn play_run<R: Read + Drop, W: Write, T: Teller>(
     end_of(played, flushed)
 }
 
-/// The end of a play, by how its lines ended and by what the flush behind them was answered.
+/// The end of a play, by how its lines ended and by what the flush after them was answered.
 fn end_of(played: Result<(), PlayFault>, flushed: io::Result<()>) -> Result<(), PlayFault>
     ensures { result ≡ end_of played flushed }
 {

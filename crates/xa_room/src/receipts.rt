@@ -50,6 +50,12 @@ impl Receipts {
         &self.kept
     }
 
+    pub(crate) fn into_kept(self) -> Vec<Receipt>
+        ensures { result.items ≡ self.receipts }
+    {
+        self.kept
+    }
+
     pub(crate) fn lost(&self) -> u64
         ensures { result ≡ self.now.lost }
     {

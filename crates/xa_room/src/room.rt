@@ -67,6 +67,15 @@ impl<M: Manages, S: Start> Room<M, S> {
     }
 }
 
+impl<M: Manages + Drop, S: Start> Room<M, S> {
+    /// The receipts, at their places from 1 on. The manager is freed.
+    pub fn into_receipts(self) -> Vec<Receipt>
+        ensures { result.items ≡ self.kept }
+    {
+        self.receipts.into_kept()
+    }
+}
+
 /// Shows how many receipts there are, and how many found no memory.
 impl<M: Manages, S: Start> fmt::Debug for Room<M, S> {
     fn fmt<W: fmt::Write>(&self, f: &mut fmt::Formatter<W>) -> fmt::Result {

@@ -19,6 +19,7 @@ refuses_before disks path name log_bytes first first' second second' fault.Liste
 refuses_before disks path name log_bytes first first' second second' fault.Start same same_second h = absurd h
 refuses_before disks path name log_bytes first first' second second' fault.Wait same same_second h = absurd h
 refuses_before disks path name log_bytes first first' second second' fault.InUse same same_second h = absurd h
+refuses_before disks path name log_bytes first first' second second' (fault.History file cause) same same_second h = absurd h
 refuses_before disks path name log_bytes first first' second second' (fault.Absent file) same same_second h = absurd h
 refuses_before disks path name log_bytes first first' second second' (fault.File file cause) same same_second h = absurd h
 refuses_before disks path name log_bytes first first' second second' (fault.Missing file) same same_second h =

@@ -6,6 +6,7 @@ use Rattle.xa_server.specs.declared.listens.Listens as listens
 use Rattle.xa_server.specs.declared.fault.ServerFault.{ServerFault}
 use Rattle.xa_server.specs.declared.fault.ServerFault.TheVariants as serving
 use Rattle.xa_server.specs.Faults.{serving_fault}
+use Rattle.xa_server.specs.Histories.{IsHistoryFault}
 use Rattle.xa_server.specs.Believed.Served.{AreFiles, AreLoops, HasFailedBy, NoLoops, Place, Refuses, WasReady, never}
 use Rattle.xa_server.specs.declared.serve_fault.ServeFault.{ServeFault}
 use Rattle.xa_server.specs.declared.serve_fault.ServeFault.TheVariants as fault
@@ -23,6 +24,7 @@ failed_on_files disks opened refused net log_bytes place late first second fault
 failed_on_files disks opened refused net log_bytes place late first second fault.Start files h = absurd h
 failed_on_files disks opened refused net log_bytes place late first second fault.Wait files h = absurd h
 failed_on_files disks opened refused net log_bytes place late first second fault.InUse files h = absurd h
+failed_on_files disks opened refused net log_bytes place late first second (fault.History history_file cause) files h = absurd h
 failed_on_files disks opened refused net log_bytes place late first second (fault.Absent log_file) files h = absurd h
 failed_on_files disks opened refused net log_bytes place late first second (fault.File log_file cause) files h = absurd h
 failed_on_files disks opened refused net log_bytes place late first second (fault.Missing log_file) files h =
@@ -45,6 +47,7 @@ failed_early disks opened refused net log_bytes place late fault.Listen h = h
 failed_early disks opened refused net log_bytes place late fault.Start h = absurd h.1
 failed_early disks opened refused net log_bytes place late fault.Wait h = absurd h.1
 failed_early disks opened refused net log_bytes place late fault.InUse h = h
+failed_early disks opened refused net log_bytes place late (fault.History history_file cause) h = h
 failed_early disks opened refused net log_bytes place late (fault.Absent log_file) h = h
 failed_early disks opened refused net log_bytes place late (fault.File log_file cause) h = h
 failed_early disks opened refused net log_bytes place late (fault.Missing log_file) h = h
@@ -81,3 +84,23 @@ pub tell_failed : {D R : Type 0} (disks : disk.Ghosts D) (opened : D → List �
     → HasFailedBy disks opened refused net log_bytes place late why
 tell_failed disks opened refused net log_bytes place late why ready (inl memory) = rw memory tt
 tell_failed disks opened refused net log_bytes place late why ready (inr write) = rw write ready
+
+-- all was ready, and the history couldn't be written
+pub history_failed : {D R : Type 0} (disks : disk.Ghosts D) (opened : D → List ℕ → Type 0)
+    (refused : List ℕ → FileFault → Type 0) (net : listens.Ghosts R) (log_bytes : ℕ) (place : Place)
+    (late : ServeFault → Type 0) (why : ServeFault)
+    → WasReady disks opened net log_bytes place → IsHistoryFault why
+    → HasFailedBy disks opened refused net log_bytes place late why
+history_failed disks opened refused net log_bytes place late fault.Memory ready h = tt
+history_failed disks opened refused net log_bytes place late (fault.History history_file cause) ready h = ready
+history_failed disks opened refused net log_bytes place late fault.Write ready h = absurd h
+history_failed disks opened refused net log_bytes place late fault.Listen ready h = absurd h
+history_failed disks opened refused net log_bytes place late fault.Start ready h = absurd h
+history_failed disks opened refused net log_bytes place late fault.Wait ready h = absurd h
+history_failed disks opened refused net log_bytes place late fault.InUse ready h = absurd h
+history_failed disks opened refused net log_bytes place late (fault.Absent log_file) ready h = absurd h
+history_failed disks opened refused net log_bytes place late (fault.File log_file cause) ready h = absurd h
+history_failed disks opened refused net log_bytes place late (fault.Missing log_file) ready h = absurd h
+history_failed disks opened refused net log_bytes place late (fault.Stray log_file) ready h = absurd h
+history_failed disks opened refused net log_bytes place late (fault.Damaged log_file number at) ready h = absurd h
+history_failed disks opened refused net log_bytes place late (fault.Manager e) ready h = absurd h

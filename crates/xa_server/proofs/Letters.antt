@@ -35,7 +35,7 @@ owes_ended_too is_none a before b ask reply (inr posted) ends owes =
     (posted.1, owes_ended is_none before b ask reply posted.1 ends (subst (λ (x : Account). Owes x (posted.1 + 1)) (sym posted.0) posted.2))
 
 module _ {M : Type 0} (m : Behaviour M) (start : State → Type 0) (base : ℕ × ℕ) where
-  -- some number behind a call, too
+  -- some number after a call, too
   pub owes_called : (session : ℕ) (a : Account) (request : Request) (reply : Reply) (b : Account) → OwesSome a
       → CalledBy m start base session a request reply b → OwesSome b
   owes_called session a request reply b owes h =

@@ -69,7 +69,7 @@ seen_then m start base session old request reply new before after restarts calle
     ∙ (ap (λ (b : Bool). after_reply (seen_of old.told) b reply) is
     ∙ sym (seen_called m start base session old request reply new called)))
 
--- who owed nothing owes nothing behind a call
+-- who owed nothing owes nothing after a call
 pub called_owes : {M : Type 0} (m : Behaviour M) (start : State → Type 0) (base : ℕ × ℕ) (session : ℕ) (old : Account) (request : Request)
     (reply : Reply) (new : Account) → CalledBy m start base session old request reply new → Owes old 0 → Owes new 0
 called_owes m start base session old request reply new h owes =

@@ -1,5 +1,6 @@
 pub mod Believed
 pub mod Faults
+pub mod Histories
 pub mod Lines
 pub mod Logging
 pub mod Reports

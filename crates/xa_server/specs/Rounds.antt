@@ -18,7 +18,7 @@ IsWithin a = IfSome a.request IsRequest
 abbrev pub TellsAtMost : {D : Type 0} → (ℕ → D → Question → Reply → D → Type 0) → D → Ask → Ask → D → Type 0
 TellsAtMost called d a b e = ((b ≡ a) × (e ≡ d)) ⊎ Tells called d a b e
 
--- Letters of a share came back: some asks were answered, one behind the other, and nothing was asked for again.
+-- Letters of a share came back: some asks were answered, one after the other, and nothing was asked for again.
 pub record TakesBack {M : Type 0} (m : Behaviour M) (start : State → Type 0) (base : ℕ × ℕ) (old : Account) (asks told : List Ask)
     (new : Account) : Type 0 where
   pub some : TellsSome {D = Account} (Called m start base) old asks told new

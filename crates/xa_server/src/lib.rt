@@ -8,7 +8,8 @@
 //!   door; `asking`: what an ask asks; `logging`: which calls may move the log's end; `Looped`, what they tell
 //! - `workers`: `run_workers`, the same over a room, with an audit at the end, and `Worked`; `keeping`: what a loop keeps of what
 //!   it was told: `Nothing`, or `Receipts` (`receipts`), which come to a `Report` (`report`); `gate`: `Gate`, which is told of each
-//!   call, and `OpenGate`; `audited`: `Audited`, what it tells of the history, and `audited_lines`, the lines that show it
+//!   call, and `OpenGate`; `audited`: `Audited`, what it tells of the history, and `audited_lines`, the lines that show it;
+//!   `history`: the history as a script, and its replies, in two files; `history_file`: `HistoryFile`, one of them
 //! - `serve_fault`: `ServeFault`, why nothing was served; `log_file`: `LogFile`, a file that it names; `fault`:
 //!   `ServerFault`, why nothing is told of it
 //! - `laws`: `looped_promises`, `audited_promises`, what is promised of what was served; `serves_at_each_moment`, of what was
@@ -21,6 +22,8 @@ mod door;
 mod engine;
 mod fault;
 mod gate;
+mod history;
+mod history_file;
 mod keeping;
 mod laws;
 mod listening;
@@ -39,6 +42,7 @@ pub use audited::{Audited, audited_lines};
 pub use engine::{Looped, loop_manager};
 pub use fault::ServerFault;
 pub use gate::{Gate, OpenGate};
+pub use history_file::HistoryFile;
 pub use laws::{audited_promises, looped_promises, serves_at_each_moment};
 pub use listens::Listens;
 pub use log_file::LogFile;

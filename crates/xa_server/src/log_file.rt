@@ -1,6 +1,6 @@
 use std::fmt;
 
-/// One of a log's two files: the first one is at a path, the second one at the path with `.2` behind it. Its text is
+/// One of a log's two files: the first one is at a path, the second one at the path with `.2` after it. Its text is
 /// its path.
 #[derive(Clone, Copy, Debug, Drop)]
 pub struct LogFile<'a> {

@@ -217,7 +217,7 @@ impl<'a, M: Manages, S: Start, B: Book, R: Clock + Wait, K: Keeps> Post<'a, M, S
     }
 
     // Answers an ask that is left; one that a pending group holds up waits until that is finished. As it may have waited for
-    // the device, others have their turn behind it.
+    // the device, others have their turn after it.
     fn answer(&mut self, ask: &mut Ask)
         requires { IsWithin ask.old }
         ensures told { TellsAtMost (Called M.manages S.start S.base) self.old.handle.asker ask.old ask.new

@@ -64,7 +64,7 @@ pub(crate) fn tell_passed_over<R: Eprint>(rt: &R, path: &str, passed_over: Optio
     let are = if records == 1 { "is" } else { "are" };
     // Where it can't be told, the log is served all the same.
     let _ = eprintln!(rt;
-        "xarm: {file}: {records} {many} behind byte {at} {are} left out: a torn write, or damage"
+        "xarm: {file}: {records} {many} after byte {at} {are} left out: a torn write, or damage"
     );
 }
 

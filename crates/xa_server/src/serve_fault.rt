@@ -3,14 +3,15 @@ ghost use Rattle.xa_server.specs.declared.serve_fault.ServeFault.TheVariants.{Me
 ghost use Rattle.xa_server.specs.Faults.{opening_fault, serving_fault};
 
 use crate::fault::ServerFault;
+use crate::history_file::HistoryFile;
 use crate::log_file::LogFile;
 use std::alloc::AllocError;
 use std::error::Error;
-use std::fmt;
+use std::{fmt, io};
 use xa_disk::{FileCall, FileFault};
 use xa_manager::ManagerFault;
 
-/// Why nothing was served, or not to the end. Its text is what `xarm` prints behind its name.
+/// Why nothing was served, or not to the end. Its text is what `xarm` prints after its name.
 #[derive(Clone, Copy, Debug, Drop)]
 pub enum ServeFault<'a> {
     Memory,
@@ -40,6 +41,11 @@ pub enum ServeFault<'a> {
     },
     /// The manager couldn't be opened on its log.
     Manager(ManagerFault),
+    /// A file of the history couldn't be made, or written.
+    History {
+        file: HistoryFile<'a>,
+        error: io::Error,
+    },
 }
 
 impl fmt::Display for ServeFault<'_> {
@@ -60,6 +66,7 @@ impl fmt::Display for ServeFault<'_> {
                 write!(f, "log damaged: {file}: record {number} at byte {at}")
             }
             ServeFault::Manager(fault) => write!(f, "{fault}"),
+            ServeFault::History { file, error } => write!(f, "cannot write {file}: {error}"),
         }
     }
 }

@@ -7,11 +7,13 @@ use crate::audited::{Audited, audited_lines};
 use crate::engine::{Looped, loop_manager};
 use crate::fault::ServerFault;
 use crate::gate::OpenGate;
+use crate::history::{make_files, write_history};
 use crate::listening::Listening;
 use crate::listens::Listens;
 use crate::ready::{make_ready, tell_passed_over};
 use crate::serve_fault::ServeFault;
 use crate::workers::run_workers;
+use std::fs::Files;
 use std::io;
 use std::io::{Eprint, Print};
 use std::net::{IpAddr, Net};
@@ -19,19 +21,20 @@ use std::rt::Clock;
 use std::sync::Wait;
 use std::thread::{Threads, available_parallelism};
 use xa_disk::{Disk, Opens};
+use xa_history::Receipt;
 use xa_manager::Manager;
 use xa_reactor::{Listener, Settings};
 use xa_service::{At, Service};
 
 /// Opens the log's two files, listens, and opens the manager; then it serves by loops, until they end, and audits the history if
-/// that was asked for. False where the audit found a fault, or where a server that is down was to end, and the manager is down
+/// that was asked for; it writes that, too, where a file is given. False where the audit found a fault, or where a server that is down was to end, and the manager is down
 /// then, or the loops ended since it was.
 ///
 /// Nobody is answered before the manager is open. Where the port or the path can't be had, or a file of the log is missing or is none,
 /// the manager isn't opened, so that nothing is written to either file.
 pub fn serve<
     'a,
-    R: AllocGlobal + Print + Eprint + Opens + Listens + Clock + Net + Threads + Wait + Sync,
+    R: AllocGlobal + Print + Eprint + Files + Opens + Listens + Clock + Net + Threads + Wait + Sync,
 >(rt: &R, service: &Service<'a>) -> Result<bool, ServeFault<'a>>
     ensures served { IfOk result (HasServed ⟦<R::Disk as Disk>⟧ R.opened R.Listens
         service.now) }
@@ -52,6 +55,7 @@ pub fn serve<
     let Ok(listener) = unblocked(listening) else {
         return Err(ServeFault::Wait);
     };
+    let files = make_files(rt, service.history)?;
     let loops = loops_of(rt, service.loops);
     let settings = Settings {
         connections: service.connections,
@@ -63,11 +67,19 @@ pub fn serve<
         log_bytes: service.log_bytes,
         tick_seconds: service.tick_seconds,
     };
-    let (told, audited) = serve_by(rt, listener, manager, loops, settings, service.audits)?;
+    let (told, audited, history) = serve_by(
+        rt,
+        listener,
+        manager,
+        loops,
+        settings,
+        service.audits,
+    )?;
     if !told.is_whole {
         return Err(ServeFault::Wait);
     }
     tell(rt, told.calls, audited)?;
+    write_history(rt.alloc(), files, history.as_slice())?;
     Ok(is_well(
         service.ends_when_down,
         told.is_down,
@@ -76,7 +88,7 @@ pub fn serve<
     ))
 }
 
-// Serves by loops, with an audit or without.
+// Serves by loops, with an audit or without; then there is no history.
 fn serve_by<
     D: Disk + Drop + Send,
     R: AllocGlobal + Clock + Print + Eprint + Net + Threads + Wait + Sync,
@@ -87,7 +99,7 @@ fn serve_by<
     loops: u64,
     settings: Settings,
     audits: bool,
-) -> Result<(Looped, Option<Audited>), ServerFault>
+) -> Result<(Looped, Option<Audited>, Vec<Receipt>), ServerFault>
     ensures served { IfOk result (λ told. ServesAs D.Disk manager loops told.0 told.1) }
     ensures audits { IfOk result (λ told. is_some told.1 ≡ audits) }
     ensures settings { IfOk result (λ told. told.0.settings ≡ settings) }
@@ -97,12 +109,12 @@ fn serve_by<
 {
     if audits {
         match run_workers(rt, listener, manager, &OpenGate, loops, settings) {
-            Ok(done) => Ok((done.looped, Some(done.audited))),
+            Ok(done) => Ok((done.looped, Some(done.audited), done.history)),
             Err(fault) => Err(fault),
         }
     } else {
         match loop_manager(rt, listener, manager, loops, settings) {
-            Ok(told) => Ok((told, None)),
+            Ok(told) => Ok((told, None, Vec::new(rt.alloc()))),
             Err(fault) => Err(fault),
         }
     }

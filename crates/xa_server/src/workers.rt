@@ -17,20 +17,21 @@ use std::net::Net;
 use std::rt::Clock;
 use std::sync::Wait;
 use std::thread::Threads;
-use xa_history::Start;
+use xa_history::{Receipt, Start};
 use xa_reactor::{Listener, Settings};
 use xa_room::{AuditFault, Room, audit};
 use xa_sequencer::Manages;
 use xa_service::MOST_LOOPS;
 use xa_tokens::{Book, Opened};
 
-/// What loops tell whose history was kept: what they tell otherwise, the receipts of what they were told, and what the audit
-/// of these found.
+/// What loops tell whose history was kept: what they tell otherwise, the receipts of what they were told, what the audit
+/// of these found, and the history: the receipt of each event at its place, but of those that found no memory.
 #[derive(Debug, Drop)]
 pub struct Worked {
     pub looped: Looped,
     pub report: Report,
     pub audited: Audited,
+    pub history: Vec<Receipt>,
 }
 
 /// Serves as [`crate::loop_manager`] does, by so many loops, 1 to `MOST_LOOPS`, with a receipt of each event: the manager's, in a
@@ -113,6 +114,7 @@ fn work_by<
         looped,
         report,
         audited,
+        history: room.into_receipts(),
     })
 }
 

@@ -34,4 +34,6 @@ pub struct Service<'a> {
     pub ends_when_down: bool,
     /// Whether it keeps the history, and audits it at its end.
     pub audits: bool,
+    /// The file to which the history is written at the end, if it is audited; the replies go to the one with `.out` after it.
+    pub history: Option<&'a str>,
 }

@@ -1,4 +1,4 @@
--- Lines are read, one behind the other.
+-- Lines are read, one after the other.
 use Rattle.std.proofs.Common.{◌≡◌, ℕ, List, [], ◌∷◌, ◌++◌, Option, Some, None, Result, Ok, refl, sym, ap, subst, ◌∙◌, append_assoc, append-nil}
 use Rattle.std.specs.Io.BufRead.{DropsThrough, drop_through, strip_last}
 use Rattle.std.specs.Io.KnownBytes.{Appends, Consumes, IsAtEnd, Keeps}
@@ -45,7 +45,7 @@ line_more manner sent left input behind input' numbered next numbered' (l ∷ ls
   line_more manner sent left mid behind input' between next numbered' ls line others first rest reads talks,
 )
 
--- the script ends behind these lines, and nothing more was written
+-- the script ends after these lines, and nothing more was written
 pub stopped : {C X : Type 0} (manner : Manner) (sent left : C → Option (List ℕ)) (end : Result X TalkFault) (input behind input' output output' : Option (List ℕ)) (numbered : List (Option C)) (lines : List (List ℕ)) (text : List ℕ)
     → LinesTalked manner sent left input [] lines text behind numbered → NextEnds manner sent left end behind numbered [] input' → Appends output output' text
     → Talks manner sent left end input input' output output'

@@ -1,4 +1,4 @@
--- Ticks, one behind the other.
+-- Ticks, one after the other.
 use Rattle.std.proofs.Common.{ℕ, List, [], ◌∷◌, ◌++◌, Option, refl, subst}
 use Rattle.xa_frame.specs.declared.reply.Reply.{Reply}
 use Rattle.xa_talk.specs.Ticks.{AreTicks, IsTick}

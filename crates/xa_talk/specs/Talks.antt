@@ -62,7 +62,7 @@ Shows manner answer (Err Memory) text = text ≡ []
 Shows manner answer (Err Write) text = IsFront text (answered_line manner.style answer)
 Shows manner answer (Err fault) text = ⊥
 
--- what is written behind an answer: nothing where there is none, and a fault is told on
+-- what is written after an answer: nothing where there is none, and a fault is told on
 abbrev pub ShowsAnswer : {X : Type 0} → Manner → Result (Option Answered) TalkFault → Result X TalkFault → List ℕ → Type 0
 ShowsAnswer manner (Ok None) (Ok x) text = text ≡ []
 ShowsAnswer manner (Ok None) (Err fault) text = ⊥
@@ -118,7 +118,7 @@ NextRead (Err fault) input line input' = IsReadFault fault × ReadsPart input in
 
 -- in a manner, over connections, with what was sent over one, and what can still be read from it
 module _ {C : Type 0} (manner : Manner) (sent left : C → Option (List ℕ)) where
-  -- Lines are read and talked, one behind the other: each is talked to its end before the next one is read.
+  -- Lines are read and talked, one after the other: each is talked to its end before the next one is read.
   abbrev pub LinesTalked : Option (List ℕ) → List (Option C) → List (List ℕ) → List ℕ → Option (List ℕ)
       → List (Option C) → Type 0
   LinesTalked input numbered [] text input' numbered' = (text ≡ []) × (input' ≡ input) × (numbered' ≡ numbered)

@@ -106,7 +106,7 @@ fn send<W: Write>(writer: &mut W, frame: &[u8]) -> Result<(), TalkFault>
     }
 }
 
-/// A question's content behind its length.
+/// A question's content after its length.
 fn frame_of(alloc: Global, question: &Question) -> Result<Vec<u8>, AllocError>
     requires { IsQuestion question.now }
     ensures { IfOk result (λ bytes. bytes.items ≡ question_frame question.now) }

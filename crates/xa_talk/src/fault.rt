@@ -4,7 +4,7 @@ ghost use Rattle.xa_talk.specs.declared.fault.TalkFault.TheVariants.{Memory};
 use std::alloc::AllocError;
 use thiserror::Error;
 
-/// Why a script wasn't talked to its end. Its text is what `xarm` prints behind its name.
+/// Why a script wasn't talked to its end. Its text is what `xarm` prints after its name.
 #[derive(Clone, Copy, Debug, PartialEq, Eq, Error)]
 pub enum TalkFault {
     #[error("no memory")]

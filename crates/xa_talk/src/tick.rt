@@ -16,11 +16,11 @@ use xa_frame::{Question, Reply, Request};
 /// The most seconds from one moment to the next that a command line may ask for.
 pub const MOST_EVERY: u64 = 3_600;
 
-/// Opens a connection and tells the server each moment that the ticker gives, one behind the other: the next one is
+/// Opens a connection and tells the server each moment that the ticker gives, one after the other: the next one is
 /// asked for once the last one is answered. A refusal is told where the answer before it wasn't the same.
 ///
 /// It ends with the first fault: no connection (`Connect`); one that broke (`Broken`), or brought what is no reply
-/// (`NoReply`); no memory; a clock that can't be read. Without one it ends behind 2^64 - 1 moments.
+/// (`NoReply`); no memory; a clock that can't be read. Without one it ends after 2^64 - 1 moments.
 pub fn tick_run<T: Ticker, R: Read + Drop, W: Write + Drop, D: Dial<R, W>>(
     alloc: Global,
     ticker: &mut T,
@@ -39,7 +39,7 @@ pub fn tick_run<T: Ticker, R: Read + Drop, W: Write + Drop, D: Dial<R, W>>(
     Ok(())
 }
 
-/// What the next moment is answered, behind the reply to the one before.
+/// What the next moment is answered, after the reply to the one before.
 fn tick<T: Ticker, R: Read, W: Write>(
     alloc: Global,
     ticker: &mut T,

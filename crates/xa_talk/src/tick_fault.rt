@@ -1,7 +1,7 @@
 use crate::fault::TalkFault;
 use thiserror::Error;
 
-/// Why no more moments are told. Its text is what `xarm` prints behind its name.
+/// Why no more moments are told. Its text is what `xarm` prints after its name.
 #[derive(Clone, Copy, Debug, PartialEq, Eq, Error)]
 pub enum TickFault {
     #[error("cannot read the clock")]

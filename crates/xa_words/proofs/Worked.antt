@@ -2,7 +2,7 @@
 use Rattle.std.proofs.Common.{true, false, Some, refl, codes}
 use Rattle.clap.specs.Walk.{walked}
 use Rattle.xa_words.specs.Rows.{IsSet}
-use Rattle.xa_words.specs.Worked.{ByItself, CountedTwice, WithAudit, WithWorkers, WorkersAndMore}
+use Rattle.xa_words.specs.Worked.{ByItself, CountedTwice, WithAudit, WithHistory, WithWorkers, WorkersAndMore}
 
 unset : IsSet (Some (codes "false")) false
 unset = record { absent = λ e. refl; set = λ e. absurd (cc e); unset = λ e. refl }
@@ -17,6 +17,10 @@ by_itself = (refl, refl, (false, unset, refl))
 pub with_audit : WithAudit
 unfolding walked
 with_audit = (refl, refl, (true, set, refl))
+
+pub with_history : WithHistory
+unfolding walked
+with_history = (refl, refl, (false, unset, refl))
 
 pub with_workers : WithWorkers
 unfolding walked

@@ -44,7 +44,7 @@ IsNowhere command rows =
     ⊎ ((command ≡ codes "shutdown") ⊎ ((command ≡ codes "talk") ⊎ ((command ≡ codes "tick") ⊎ IsSome (verb_of command)))))
     × IsPort rows 0
 
--- the words behind an operator's command name this task
+-- the words after an operator's command name this task
 abbrev pub IsOrder : Text → List Row → Task → Type 0
 IsOrder command rows task = (verb : Verb) × (verb_of command ≡ Some verb) × IsTaskIn verb rows task
 
@@ -73,10 +73,11 @@ AsksBy command rows (Scan path format) =
 AsksBy command rows (Check path log_bytes) =
     (command ≡ codes "check") × (path.now ≡ text_in rows (codes "path") [])
     × (log_bytes ≡ number_in rows (codes "log-bytes") most_64 MOST_LOG)
-AsksBy command rows (Copy path to log_bytes) =
+AsksBy command rows (Copy path to log_bytes follows) =
     (command ≡ codes "copy") × (path.now ≡ text_in rows (codes "path") [])
     × (to.now ≡ text_in rows (codes "dest") [])
     × (log_bytes ≡ number_in rows (codes "log-bytes") most_64 MOST_LOG)
+    × IsSet (one_of (codes "follow") rows) follows
 AsksBy command rows (Talk reach seconds style strict) =
     (command ≡ codes "talk") × IsReachIn rows (Some reach)
     × (seconds ≡ number_in rows (codes "seconds") most_64 0)

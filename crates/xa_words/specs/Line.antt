@@ -73,6 +73,9 @@ workers_rule = number 1 MOST_LOOPS (option (codes "workers"))
 abbrev pub audit_rule : Rule
 audit_rule = flag (codes "audit")
 
+abbrev pub audit_out_rule : Rule
+audit_out_rule = option (codes "audit-out")
+
 abbrev pub connections_rule : Rule
 connections_rule = number 1 MOST_SERVED (option (codes "connections"))
 
@@ -118,6 +121,9 @@ text_rule = flag (codes "text")
 abbrev pub strict_rule : Rule
 strict_rule = flag (codes "strict")
 
+abbrev pub follow_rule : Rule
+follow_rule = flag (codes "follow")
+
 abbrev pub dest_rule : Rule
 dest_rule = required (positional (codes "dest"))
 
@@ -155,7 +161,7 @@ abbrev pub check_shape : Shape
 check_shape = command_of (codes "check") (first_path_rule ∷ serve_log_bytes_rule ∷ [])
 
 abbrev pub copy_shape : Shape
-copy_shape = command_of (codes "copy") (first_path_rule ∷ dest_rule ∷ serve_log_bytes_rule ∷ [])
+copy_shape = command_of (codes "copy") (first_path_rule ∷ dest_rule ∷ serve_log_bytes_rule ∷ follow_rule ∷ [])
 
 abbrev pub play_shape : Shape
 play_shape = command_of (codes "play") (play_name_rule ∷ log_bytes_rule ∷ [])
@@ -168,7 +174,7 @@ serve_shape =
     command_of (codes "serve")
     (log_rule ∷ name_rule ∷ port_rule ∷ serve_log_bytes_rule ∷ workers_rule ∷ audit_rule ∷ connections_rule ∷ loops_rule
     ∷ listen_rule ∷ socket_rule ∷ frame_seconds_rule ∷ idle_seconds_rule ∷ branch_seconds_rule ∷ trim_rule ∷ tick_rule
-    ∷ exit_when_down_rule ∷ accept_damage_rule
+    ∷ exit_when_down_rule ∷ audit_out_rule ∷ accept_damage_rule
     ∷ [])
 
 abbrev pub shutdown_shape : Shape

@@ -1,4 +1,4 @@
--- Which task the words behind an operator's command name.
+-- Which task the words after an operator's command name.
 use Rattle.std.specs.Prelude.{◌≡◌, Bool, true, false, List, [], Option, Some, None, codes, bytes_eq, if◌then◌else◌}
 use Rattle.clap.specs.Walk.{Row, Text}
 use Rattle.xa_codes.specs.declared.direction.Direction.{Direction}

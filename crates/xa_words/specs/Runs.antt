@@ -85,7 +85,7 @@ module _ {I D C : Type 0} (terminals : Terminals) (T : Type 0) (remaining : I �
   HasDone (Check path log_bytes) (Ended code) =
       (end : Result Bool CheckingFault) × Checked honest seen opened refused path.now log_bytes end
       × (exit_status code ≡ checked_status end)
-  HasDone (Copy path to log_bytes) (Ended code) = (exit_status code ≡ 0) ⊎ (exit_status code ≡ 1)
+  HasDone (Copy path to log_bytes follows) (Ended code) = (exit_status code ≡ 0) ⊎ (exit_status code ≡ 1)
   HasDone (Talk reach seconds style strict) (Ended code) =
       (end : Result (Unit {0}) TalkFault) × (typed : Bool) × (typed ≡ are_both terminals)
       × HasTalked (record { style = style; is_strict = strict; is_typed = typed }) remaining sent left end

@@ -1,6 +1,6 @@
 -- What the words of `serve` ask for. `--workers N` means N loops with an audit: then it ends after as many connections as
 -- it may, and calls its manager only for its clients, unless the words say else.
-use Rattle.std.specs.Prelude.{◌≡◌, ◌≢◌, ℕ, Bool, List, [], Option, Some, None, codes, nat_eq, not, ◌&&◌, ◌||◌, if◌then◌else◌}
+use Rattle.std.specs.Prelude.{◌≡◌, ◌≢◌, ℕ, Bool, List, [], Option, Some, None, codes, is_some, nat_eq, not, option_map, ◌&&◌, ◌||◌, if◌then◌else◌}
 use Rattle.clap.specs.Walk.{Row, Text, first_of, one_of}
 use Rattle.xa_limits.specs.declared.TheConstants.{MOST_LOG}
 use Rattle.xa_service.specs.declared.at.At.{At}
@@ -34,9 +34,15 @@ abbrev pub own_number_in : List Row → Text → ℕ → ℕ
 own_number_in rows id absent =
     if gives_workers rows && not (is_given id rows) then 0 else number_in rows id most_64 absent
 
+-- the history is written to a file at the end
+abbrev pub writes_history : List Row → Bool
+writes_history rows = is_some (first_of (codes "audit-out") rows)
+
 -- the history is kept, and audited at the end
 abbrev pub IsAudited : List Row → Bool → Type 0
-IsAudited rows audits = (flag : Bool) × IsSet (one_of (codes "audit") rows) flag × (audits ≡ (flag || gives_workers rows))
+IsAudited rows audits =
+    (flag : Bool) × IsSet (one_of (codes "audit") rows) flag
+    × (audits ≡ (flag || (gives_workers rows || writes_history rows)))
 
 -- where it is to listen: at the path and on the port, where both are given; at one of them, where it alone is
 abbrev pub IsAtIn : List Row → Option At → Type 0
@@ -64,3 +70,4 @@ pub record IsServiceIn (rows : List Row) (service : Service) : Type 0 where
   pub tick_seconds : service.tick_seconds ≡ own_number_in rows (codes "tick") 1
   pub ends_when_down : IsSet (one_of (codes "exit-when-down") rows) service.ends_when_down
   pub audits : IsAudited rows service.audits
+  pub history : option_map (λ path. path.now) service.history ≡ first_of (codes "audit-out") rows

@@ -15,7 +15,7 @@ abbrev pub numbers_in : List Row → List ℕ
 numbers_in rows =
     loops_in rows ∷ connections_in rows ∷ own_number_in rows (codes "trim") 67108864 ∷ own_number_in rows (codes "tick") 1 ∷ []
 
--- what these words behind it ask for: these numbers, of loops that are counted once, and an audit or none
+-- what these words after it ask for: these numbers, of loops that are counted once, and an audit or none
 abbrev pub ServesBy : List Text → List ℕ → Bool → Type 0
 ServesBy more numbers audits =
     IsSomeAnd (subcommand_of xarm (served more))
@@ -26,6 +26,10 @@ ByItself = ServesBy [] (0 ∷ 0 ∷ 67108864 ∷ 1 ∷ []) false
 
 abbrev pub WithAudit : Type 0
 WithAudit = ServesBy (codes "--audit" ∷ []) (0 ∷ 0 ∷ 67108864 ∷ 1 ∷ []) true
+
+-- who wants the history has it audited, too
+abbrev pub WithHistory : Type 0
+WithHistory = ServesBy (codes "--audit-out" ∷ codes "h" ∷ []) (0 ∷ 0 ∷ 67108864 ∷ 1 ∷ []) true
 
 abbrev pub WithWorkers : Type 0
 WithWorkers = ServesBy (codes "--workers" ∷ codes "2" ∷ []) (2 ∷ 1000000 ∷ 0 ∷ 0 ∷ []) true

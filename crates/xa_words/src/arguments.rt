@@ -1,7 +1,7 @@
 //! The arguments of the commands. The help names limits in texts of its own, and `.ci/commands` compares these with
 //! the constants: a text that is made of a number would have to live as long as the words, since `clap` lends both alike.
 ghost use Rattle.xa_words.specs.Line.{HasRule, accept_damage_rule, audit_rule, branch_seconds_rule, connections_rule, every_rule};
-ghost use Rattle.xa_words.specs.Line.{dest_rule, exit_when_down_rule};
+ghost use Rattle.xa_words.specs.Line.{audit_out_rule, dest_rule, exit_when_down_rule, follow_rule};
 ghost use Rattle.xa_words.specs.Line.{frame_seconds_rule, idle_seconds_rule, listen_rule, log_bytes_rule};
 ghost use Rattle.xa_words.specs.Line.{first_path_rule, log_rule, loops_rule, name_rule, names_rule, path_rule, play_name_rule};
 ghost use Rattle.xa_words.specs.Line.{host_rule, strict_rule, text_rule};
@@ -118,8 +118,17 @@ pub fn strict<'a>(alloc: Global) -> Arg<'a>
     Arg::new(alloc, "strict")
         .long("strict")
         .help(
-            "Ends with status 1 behind the first reply that is an error: a code other than 0 and 3, but of a recover",
+            "Ends with status 1 after the first reply that is an error: a code other than 0 and 3, but of a recover",
         )
+        .action(ArgAction::SetTrue)
+}
+
+pub fn follow<'a>(alloc: Global) -> Arg<'a>
+    ensures { HasRule follow_rule result }
+{
+    Arg::new(alloc, "follow")
+        .long("follow")
+        .help("Goes on: takes each record that the server appends, until it is ended")
         .action(ArgAction::SetTrue)
 }
 
@@ -188,6 +197,18 @@ pub fn audit<'a>(alloc: Global) -> Arg<'a>
         .long("audit")
         .help("Keeps the whole history in memory, and audits at the end what clients were answered")
         .action(ArgAction::SetTrue)
+}
+
+pub fn audit_out<'a>(alloc: Global) -> Arg<'a>
+    ensures { HasRule audit_out_rule result }
+{
+    Arg::new(alloc, "audit-out")
+        .long("audit-out")
+        .value_name("PATH")
+        .help(
+            "Audits, and at the end writes the history to a new file, as a script, and its replies to a second one, PATH.out",
+        )
+        .action(ArgAction::Set)
 }
 
 pub fn connections<'a>(alloc: Global) -> Arg<'a>

@@ -29,6 +29,8 @@ pub enum Asked<'a> {
         to: &'a str,
         /// How many bytes each of the log's two files may have.
         log_bytes: u64,
+        /// Whether the copy goes on with what the server appends.
+        follows: bool,
     },
     Talk {
         reach: Reach<'a>,

@@ -89,7 +89,8 @@ fn done<
             path,
             to,
             log_bytes,
-        } => ended(rt, &copy(rt, path, to, log_bytes)),
+            follows,
+        } => ended(rt, &copy(rt, path, to, log_bytes, follows)),
         Asked::Serve {
             service,
             accepts_damage,

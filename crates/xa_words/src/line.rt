@@ -7,10 +7,10 @@ ghost use Rattle.xa_words.specs.Line.{verb_shape, with_given, play_shape, scan_s
 ghost use Rattle.xa_words.specs.Line.{shutdown_shape, talk_shape, tick_shape, xarm};
 
 use crate::arguments::{
-    accept_damage, audit, branch_seconds, connections, copy_path, dest, every, exit_when_down,
-    first_path, frame_seconds, host, idle_seconds, listen, log, log_bytes, loops, name, names,
-    path, play_name, port, serve_log_bytes, serve_socket, socket, strict, text, tick, trim,
-    workers,
+    accept_damage, audit, audit_out, branch_seconds, connections, copy_path, dest, every,
+    exit_when_down, first_path, follow, frame_seconds, host, idle_seconds, listen, log, log_bytes,
+    loops, name, names, path, play_name, port, serve_log_bytes, serve_socket, socket, strict, text,
+    tick, trim, workers,
 };
 use crate::operator_arguments::{
     direction, format, open_name, print_script, seconds, session, status_format, talk_seconds, xid,
@@ -156,11 +156,12 @@ fn copy_command<'a>(alloc: Global) -> Result<Command<'a>, AllocError>
         .about("Copies a log whose server may run to two new files")
         .after_help(
             "Example: xarm copy bank.log backup/bank.log\nThe server isn't asked, and goes on. What it had answered when the \
-             copy began is in the copy.",
+             copy began is in the copy; with --follow, what it answered up to a tenth of a second ago.",
         )
         .arg(copy_path(alloc))?
         .arg(dest(alloc))?
-        .arg(serve_log_bytes(alloc))
+        .arg(serve_log_bytes(alloc))?
+        .arg(follow(alloc))
 }
 
 fn play_command<'a>(alloc: Global) -> Result<Command<'a>, AllocError>
@@ -260,5 +261,6 @@ fn serve_command<'a>(alloc: Global) -> Result<Command<'a>, AllocError>
         .arg(trim(alloc))?
         .arg(tick(alloc))?
         .arg(exit_when_down(alloc))?
+        .arg(audit_out(alloc))?
         .arg(accept_damage(alloc))
 }

@@ -17,7 +17,7 @@ use xa_codes::Direction;
 use xa_operate::{Format, Task, is_name};
 use xa_xid::Xid;
 
-/// What the words behind a command ask for.
+/// What the words after a command ask for.
 pub(crate) fn operator_of<'a>(verb: Verb, matches: &ArgMatches<'a>) -> Asked<'a>
     ensures { (command : List ℕ) → verb_of command ≡ Some verb → AsksBy command (rows_of (found_of matches.now)) result }
 {

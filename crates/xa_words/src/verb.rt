@@ -179,15 +179,15 @@ impl Verb {
             Verb::Recover =>
                 "Example: xarm recover --port 4187 --name bank\nStatus 0: done. 1: the server refused it. 2: the words are wrong. 3: no connection, or it was lost.",
             Verb::Commit =>
-                "Example: xarm commit --port 4187 --name bank --yes 1:aa:bb\nAn XID with a negative format number stands behind --.\nStatus 0: done. 1: the server refused it, or the answer wasn't yes. 2: the words are wrong. 3: no connection, or it was lost; the call may have been done.",
+                "Example: xarm commit --port 4187 --name bank --yes 1:aa:bb\nAn XID with a negative format number stands after --.\nStatus 0: done. 1: the server refused it, or the answer wasn't yes. 2: the words are wrong. 3: no connection, or it was lost; the call may have been done.",
             Verb::Rollback =>
-                "Example: xarm rollback --port 4187 --name bank --yes 1:aa:bb\nAn XID with a negative format number stands behind --.\nStatus 0: done. 1: the server refused it, or the answer wasn't yes. 2: the words are wrong. 3: no connection, or it was lost; the call may have been done.",
+                "Example: xarm rollback --port 4187 --name bank --yes 1:aa:bb\nAn XID with a negative format number stands after --.\nStatus 0: done. 1: the server refused it, or the answer wasn't yes. 2: the words are wrong. 3: no connection, or it was lost; the call may have been done.",
             Verb::Forget =>
-                "Example: xarm forget --port 4187 --name bank --yes 1:aa:bb\nAn XID with a negative format number stands behind --.\nStatus 0: done. 1: the server refused it, or the answer wasn't yes. 2: the words are wrong. 3: no connection, or it was lost; the call may have been done.",
+                "Example: xarm forget --port 4187 --name bank --yes 1:aa:bb\nAn XID with a negative format number stands after --.\nStatus 0: done. 1: the server refused it, or the answer wasn't yes. 2: the words are wrong. 3: no connection, or it was lost; the call may have been done.",
             Verb::Decide =>
-                "Example: xarm decide --port 4187 --yes commit 1:aa:bb\nAn XID with a negative format number stands behind --.\nStatus 0: done. 1: the server refused it, or the answer wasn't yes. 2: the words are wrong. 3: no connection, or it was lost; the call may have been done.",
+                "Example: xarm decide --port 4187 --yes commit 1:aa:bb\nAn XID with a negative format number stands after --.\nStatus 0: done. 1: the server refused it, or the answer wasn't yes. 2: the words are wrong. 3: no connection, or it was lost; the call may have been done.",
             Verb::Doom =>
-                "Example: xarm doom --port 4187 --yes 1:aa:bb\nAn XID with a negative format number stands behind --.\nStatus 0: done. 1: the server refused it, or the answer wasn't yes. 2: the words are wrong. 3: no connection, or it was lost; the call may have been done.",
+                "Example: xarm doom --port 4187 --yes 1:aa:bb\nAn XID with a negative format number stands after --.\nStatus 0: done. 1: the server refused it, or the answer wasn't yes. 2: the words are wrong. 3: no connection, or it was lost; the call may have been done.",
             Verb::Disconnect =>
                 "Example: xarm disconnect --port 4187 --yes 7\nStatus 0: done. 1: the server refused it (no connection has the session, or it disconnects none), or the answer wasn't yes. 2: the words are wrong. 3: no connection, or it was lost; the call may have been done.",
             Verb::Trim =>

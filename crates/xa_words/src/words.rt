@@ -67,6 +67,7 @@ fn read_other<'a>(command: &str, matches: &ArgMatches<'a>) -> Asked<'a>
             path: text_of(matches, "path", ""),
             to: text_of(matches, "dest", ""),
             log_bytes: number_of(matches, "log-bytes", MOST_LOG),
+            follows: flag_of(matches, "follow"),
         },
         "scan" => scan_of(matches),
         "serve" => serve_of(matches),
@@ -123,6 +124,7 @@ fn service_of<'a>(matches: &ArgMatches<'a>, at: At<'a>, workers: u64) -> Service
 {
     let has_workers = workers != 0;
     let is_audited = flag_of(matches, "audit");
+    let history = history_of(matches);
     Service {
         path: text_of(matches, "log", ""),
         name: text_of(matches, "name", ""),
@@ -144,8 +146,16 @@ fn service_of<'a>(matches: &ArgMatches<'a>, at: At<'a>, workers: u64) -> Service
         trim_bytes: own_number_of(matches, has_workers, "trim", 67_108_864),
         tick_seconds: own_number_of(matches, has_workers, "tick", 1),
         ends_when_down: flag_of(matches, "exit-when-down"),
-        audits: is_audited || has_workers,
+        audits: is_audited || has_workers || history.is_some(),
+        history,
     }
+}
+
+// Where the history is to be written.
+fn history_of<'a>(matches: &ArgMatches<'a>) -> Option<&'a str>
+    ensures { option_map (λ path. path.now) result ≡ first_of (codes "audit-out") (rows_of (found_of matches.now)) }
+{
+    matches.get_str("audit-out")
 }
 
 // By which number a server calls its manager of its own accord: with workers 0, unless the words give it.

@@ -5,6 +5,7 @@ use Rattle.xa_manager.specs.declared.manager.Manager.{Manager}
 use Rattle.xa_manager.specs.Believed.Opening.{HasBegun}
 use Rattle.xa_model.specs.State.{State}
 use Rattle.xa_history.specs.Believed.Manages.{Behaviour}
+use Rattle.xa_history.specs.declared.receipt.Receipt.{Receipt}
 use Rattle.xa_room.specs.declared.auditing.AuditFault.{AuditFault}
 use Rattle.xa_room.specs.Believed.Audit.{Audits}
 use Rattle.xa_room.specs.Believed.Recorded.{Recorded, recorded}
@@ -15,13 +16,17 @@ use Rattle.xa_server.specs.declared.audited.Audited.{Audited}
 use Rattle.xa_server.specs.declared.report.Report.{Report}
 use Rattle.xa_server.specs.declared.workers.Worked.{Worked}
 
--- By what a room kept, and how much it lost: whether the audit of the loops' receipts found no fault, and how many they dropped.
-pub record Tells {M : Type 0} (room : Recorded M) (calls : ℕ) (report : Report) (told : Audited) : Type 0 where
+-- By what a room kept, and how much it lost: whether the audit of the loops' receipts found no fault, how many they dropped, and
+-- the history.
+pub record Tells {M : Type 0} (room : Recorded M) (calls : ℕ) (report : Report) (told : Audited)
+    (history : List Receipt) : Type 0 where
   pub calls_are : told.calls ≡ calls
   pub dropped_are : told.dropped ≡ report.dropped
   pub answer : Result (Unit {0}) AuditFault
   pub audits : Audits room.kept room.lost report.receipts.items report.dropped answer
   pub found : told.is_whole ≡ is_ok answer
+  -- the history is what the room kept
+  pub history_is : history ≡ room.kept
 
 -- Loops served the sessions of a room over the manager, with all that they keep of any manager. The room's receipts, unless it
 -- lost one, are those of a legal history to each state that it stands for; with these the audit compared what the loops were
@@ -29,7 +34,7 @@ pub record Tells {M : Type 0} (room : Recorded M) (calls : ℕ) (report : Report
 pub record ServesAudited {M : Type 0} (m : Behaviour (GroupManager M)) (start : State → Type 0) (base : ℕ × ℕ) (workers : ℕ)
     (done : Worked) : Type 0 where
   pub serves : ServesByLoops (recorded m start) start base workers done.looped
-  pub tells : Tells serves.now.manager done.looped.calls done.report done.audited
+  pub tells : Tells serves.now.manager done.looped.calls done.report done.audited done.history.items
 
 -- ---- law
 

@@ -92,7 +92,7 @@ place_of service = record {
 abbrev pub second_path : List ℕ → List ℕ
 second_path path = path ++ codes ".2"
 
--- these disks were opened at a path, and at the path with `.2` behind it
+-- these disks were opened at a path, and at the path with `.2` after it
 abbrev pub AreFiles : {D : Type 0} → (D → List ℕ → Type 0) → List ℕ → D → D → Type 0
 AreFiles opened path first second = opened first path × opened second (second_path path)
 
@@ -222,7 +222,7 @@ WasReady {D} disks opened net log_bytes place =
 
 -- What was asked before it failed, and how that ended: a file was refused; no manager was opened on the files, or one of
 -- them is missing, is no log or is damaged; the files were there, and the port was refused; all was ready, and it
--- couldn't print, or it didn't serve for what `late` says.
+-- couldn't print, or write the history, or it didn't serve for what `late` says.
 abbrev pub HasFailedBy : {D R : Type 0} → disk.Ghosts D → (D → List ℕ → Type 0) → (List ℕ → FileFault → Type 0)
     → listens.Ghosts R → ℕ → Place → (ServeFault → Type 0) → ServeFault → Type 0
 HasFailedBy disks opened refused net log_bytes place late fault.Memory = Unit {0}
@@ -244,6 +244,8 @@ HasFailedBy {D} disks opened refused net log_bytes place late fault.Listen =
     (first : D) × (second : D) × AreFit disks opened log_bytes place.path first second
     × IsRefusedAt net place.at
 HasFailedBy disks opened refused net log_bytes place late fault.Write = WasReady disks opened net log_bytes place
+HasFailedBy disks opened refused net log_bytes place late (fault.History history_file why) =
+    WasReady disks opened net log_bytes place
 HasFailedBy disks opened refused net log_bytes place late fault.Start =
     WasReady disks opened net log_bytes place × late fault.Start
 HasFailedBy disks opened refused net log_bytes place late fault.Wait =

@@ -23,7 +23,7 @@ abbrev pub down_by : Bool → Option Bool → Bool
 down_by was None = was
 down_by was (Some is_down) = is_down
 
--- Whether the manager is down behind these entries, by whether it was before: it is from a reply on that says so, until a
+-- Whether the manager is down after these entries, by whether it was before: it is from a reply on that says so, until a
 -- Restart succeeds.
 abbrev pub is_down_after : Bool → List entry.Receipt → Bool
 is_down_after was [] = was
@@ -49,7 +49,7 @@ abbrev pub same_bool : Bool → Bool → Bool
 same_bool true b = b
 same_bool false b = not b
 
--- what an entry at a place weighs that tells something, and stands behind another place; and one that tells this, at one
+-- what an entry at a place weighs that tells something, and stands after another place; and one that tells this, at one
 abbrev pub behind_weight : ℕ → Option Bool → ℕ → ℕ
 behind_weight other None place = 0
 behind_weight other (Some is_down) place = if nat_lt other place then 1 else 0
@@ -58,7 +58,7 @@ abbrev pub at_weight : Seen → Option Bool → ℕ → ℕ
 at_weight s None place = 0
 at_weight s (Some is_down) place = if (s.place == place) && same_bool s.is_down is_down then 1 else 0
 
--- No entry that tells something stands behind the one that was seen last; and that one is among them, if any was seen.
+-- No entry that tells something stands after the one that was seen last; and that one is among them, if any was seen.
 pub record IsSeenLast (s : Seen) (told : List Receipt) : Type 0 where
   pub none : sum_by (λ r. behind_weight s.place (told_in r) r.reply.place) told ≡ 0
   pub one : (s ≡ unseen) ⊎ (0 < sum_by (λ r. at_weight s (told_in r) r.reply.place) told)

@@ -1,7 +1,7 @@
 use Rattle.std.proofs.Common.{ap, rules, Err}
 use Rattle.std.proofs.lemmas.Result.{err_from_is_err_and}
 use Rattle.xa_server.specs.Believed.Served.{NoLoops, place_of}
-use Rattle.xa_server.proofs.Failing.{failed_early, loops_failed, tell_failed}
+use Rattle.xa_server.proofs.Failing.{failed_early, history_failed, loops_failed, tell_failed}
 use Rattle.xa_server.proofs.serving.serve.Goals as goal
 
 pub returns-in_err-listening-clause-failed : goal.returns-in_err-listening-clause-failed
@@ -10,6 +10,14 @@ returns-in_err-listening-clause-failed g c =
     rw (told.1, told.2)
     (failed_early g.R.Disk.Disk g.R.Opens.opened g.R.Opens.refused g.R.Listens c.args.service.now.log_bytes (place_of c.args.service.now)
     (NoLoops c.args.service.now.loops) c.in_err-listening.field-0.0 c.in_err-listening.ensures.failed)
+
+pub returns-in_err-files-clause-failed : goal.returns-in_err-files-clause-failed
+returns-in_err-files-clause-failed g c =
+    let told = err_from_is_err_and c.from_residual-in_err-files.result c.from_residual-in_err-files.ensures.1 in
+    rw (told.1, told.2)
+    (history_failed g.R.Disk.Disk g.R.Opens.opened g.R.Opens.refused g.R.Listens c.args.service.now.log_bytes (place_of c.args.service.now)
+    (NoLoops c.args.service.now.loops) c.in_err-files.field-0.0
+    (c.in_ok-listening.listening, c.in_ok-listening.manager, c.in_ok-listening.ensures.ready) c.in_err-files.ensures)
 
 pub returns-in_err-told-clause-failed : goal.returns-in_err-told-clause-failed
 returns-in_err-told-clause-failed g c =
@@ -51,3 +59,11 @@ returns-in_err-tell-clause-failed g c =
     (tell_failed g.R.Disk.Disk g.R.Opens.opened g.R.Opens.refused g.R.Listens c.args.service.now.log_bytes (place_of c.args.service.now)
     (NoLoops c.args.service.now.loops) c.in_err-tell.field-0.0
     (c.in_ok-listening.listening, c.in_ok-listening.manager, c.in_ok-listening.ensures.ready) c.in_err-tell.ensures)
+
+pub returns-in_err-write_history-clause-failed : goal.returns-in_err-write_history-clause-failed
+returns-in_err-write_history-clause-failed g c =
+    let told = err_from_is_err_and c.from_residual-in_err-write_history.result c.from_residual-in_err-write_history.ensures.1 in
+    rw (told.1, told.2)
+    (history_failed g.R.Disk.Disk g.R.Opens.opened g.R.Opens.refused g.R.Listens c.args.service.now.log_bytes (place_of c.args.service.now)
+    (NoLoops c.args.service.now.loops) c.in_err-write_history.field-0.0
+    (c.in_ok-listening.listening, c.in_ok-listening.manager, c.in_ok-listening.ensures.ready) c.in_err-write_history.ensures)

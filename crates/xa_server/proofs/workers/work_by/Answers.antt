@@ -31,5 +31,6 @@ returns-clause-served g c =
             (subst (λ (lost : ℕ). Audits c.receipts.result.now lost report.receipts.items report.dropped c.audit-answer.result) c.lost.ensures
             (subst (λ (told : List Receipt). Audits c.receipts.result.now c.lost.result told report.dropped c.audit-answer.result) c.as_slice.ensures.value audits)));
         found = c.is_ok.ensures.value;
+        history_is = c.into_receipts.ensures ∙ ap (λ (r : Recorded _). r.kept) (sym served.1);
       };
     }

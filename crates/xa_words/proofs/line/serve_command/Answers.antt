@@ -1,6 +1,6 @@
 use Rattle.std.proofs.Common.{◌∙◌, ap, codes}
 use Rattle.clap.specs.Simple.{app_of_fields, new_app}
-use Rattle.xa_words.specs.Line.{IsApp, accept_damage_rule, audit_rule, branch_seconds_rule, connections_rule, exit_when_down_rule, frame_seconds_rule, idle_seconds_rule, listen_rule, log_rule, loops_rule, name_rule, port_rule, serve_log_bytes_rule, socket_rule, tick_rule, trim_rule, workers_rule}
+use Rattle.xa_words.specs.Line.{IsApp, accept_damage_rule, audit_out_rule, audit_rule, branch_seconds_rule, connections_rule, exit_when_down_rule, frame_seconds_rule, idle_seconds_rule, listen_rule, log_rule, loops_rule, name_rule, port_rule, serve_log_bytes_rule, socket_rule, tick_rule, trim_rule, workers_rule}
 use Rattle.xa_words.proofs.Building.{adds_rule, last_rule}
 use Rattle.xa_words.proofs.line.serve_command.Goals as goal
 
@@ -27,4 +27,5 @@ returns c =
     let fourteen = adds_rule c.in_ok-arg-13.field-0 c.trim.result c.in_ok-arg-14.field-0 _ trim_rule thirteen c.trim.ensures c.in_ok-arg-14.ensures in
     let fifteen = adds_rule c.in_ok-arg-14.field-0 c.tick.result c.in_ok-arg-15.field-0 _ tick_rule fourteen c.tick.ensures c.in_ok-arg-15.ensures in
     let sixteen = adds_rule c.in_ok-arg-15.field-0 c.exit_when_down.result c.in_ok-arg-16.field-0 _ exit_when_down_rule fifteen c.exit_when_down.ensures c.in_ok-arg-16.ensures in
-    last_rule c.in_ok-arg-16.field-0 c.accept_damage.result c.arg-17.result _ accept_damage_rule sixteen c.accept_damage.ensures c.arg-17.ensures
+    let seventeen = adds_rule c.in_ok-arg-16.field-0 c.audit_out.result c.in_ok-arg-17.field-0 _ audit_out_rule sixteen c.audit_out.ensures c.in_ok-arg-17.ensures in
+    last_rule c.in_ok-arg-17.field-0 c.accept_damage.result c.arg-18.result _ accept_damage_rule seventeen c.accept_damage.ensures c.arg-18.ensures

@@ -1,6 +1,6 @@
 use Rattle.std.proofs.Common.{◌∙◌, List, ℕ, subst}
 use Rattle.xa_commands.specs.Copying.{WasCopied}
-use Rattle.xa_commands.proofs.copying.copy.Goals as goal
+use Rattle.xa_commands.proofs.copying.copy_new.Goals as goal
 
 pub returns-in-Ok-copy_to : goal.returns-in-Ok-copy_to
 returns-in-Ok-copy_to g c = record {
