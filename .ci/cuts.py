@@ -30,7 +30,7 @@ def cut(peer, session):
 
 
 def opened(server, count):
-    """So many connections, whose sessions have the numbers 1, 2 and so on, as each is connected behind the one before."""
+    """So many connections, whose sessions have the numbers 1, 2 and so on, as each is connected after the one before."""
     peers = []
     for _ in range(count):
         peer = server.peer()
@@ -67,7 +67,7 @@ def at_work(loops):
 
 
 def reused(loops):
-    """The number is a newcomer's right behind an order."""
+    """The number is a newcomer's right after an order."""
     title = f"cuts, {loops} loops"
     with Server("--loops", loops) as server:
         operator, one = opened(server, 2)
@@ -76,7 +76,7 @@ def reused(loops):
         newcomer.send(OPEN)
         found = shown_code(operator.reply()), operator.reply() is not None, is_closed(one, SOON)
         # whichever number it has, it is served
-        yield f"{title}: a newcomer right behind an order", (*found, is_answered(newcomer, SOON)), (DONE, True, True, True)
+        yield f"{title}: a newcomer right after an order", (*found, is_answered(newcomer, SOON)), (DONE, True, True, True)
     with Server("--loops", loops) as server:
         operator, one = opened(server, 2)
         found = cut(operator, 2)

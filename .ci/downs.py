@@ -9,7 +9,7 @@ import time
 from clients import OK, PATIENCE, Server, asks, begin, replies, rests, until
 
 LOST, FAILED = "it is unknown whether a record reached the log", "a device call failed during a Restart"
-# The calls on files that fail so that a record of a commit, and one that seals a trim, is lost; a Restart helps behind those of writes alone.
+# The calls on files that fail so that a record of a commit, and one that seals a trim, is lost; a Restart helps after those of writes alone.
 RECORD, SEAL, ALL = "pwrite 1-2 28", "pwrite 3-4 28", "pwrite 1+ 28"
 DEVICE, DOWN = "-7 Device", "-7 Nothing"
 
@@ -57,10 +57,10 @@ def told(loops, library):
             # what is answered while it is down tells nothing new
             found = [asks(peer, ["1 close TMNOFLAGS", "1 open TMNOFLAGS n", "1 recover TMSTARTRSCAN 10"]) for peer in (one, other)]
             found += [lost(server, one, "1 restart", ALL), asks(other, ["1 trim"])]
-            yield f"{title}: behind {name}", found, [[OK, OK, DOWN]] * 2 + [[DEVICE], [DOWN]]
-            yield f"{title}: behind {name} it is told once", causes(server), wanted
+            yield f"{title}: after {name}", found, [[OK, OK, DOWN]] * 2 + [[DEVICE], [DOWN]]
+            yield f"{title}: after {name} it is told once", causes(server), wanted
             one, other = other, one
-            yield f"{title}: behind {name} a Restart helps", asks(one, ["1 restart"]), [OK]
+            yield f"{title}: after {name} a Restart helps", asks(one, ["1 restart"]), [OK]
         begin(other, "1:cc:")
         yield f"{title}: it is up", asks(other, ["1 commit TMONEPHASE 1:cc:"]), [OK]
         one.close()
@@ -74,7 +74,7 @@ def ended(loops, library):
     title = f"down, {loops} loops, --exit-when-down"
 
     def trims(server, peer):
-        # it looks where the log ends behind four calls that may have moved that
+        # it looks where the log ends after four calls that may have moved that
         for at in range(4):
             begin(peer, f"1:{at:02x}:", "6b" * 64)
             server.fault("fdatasync 4 5" if at == 3 else "")

@@ -1,7 +1,7 @@
 /* Tells of each call on a file, and of each send, that a program makes which is run under it (LD_PRELOAD), by a line to the
    descriptor whose number stands in TELL: the call, the file's name, what was asked and what came of it. One call can be made to
    fail: FAULT has its name, which one of that name, counted from 1, and the error's number. The error 0 stands for a short write, of
-   half of the bytes, and a + behind the count for all from that one on, a / for each whose count is a multiple, and a - with a second
+   half of the bytes, and a + after the count for all from that one on, a / for each whose count is a multiple, and a - with a second
    count for all from one to the other. The name 'over' stands for each pwrite of more bytes than the number says, and 'slow' for an
    fdatasync that takes so many milliseconds longer as the error says; so does a chmod of its name. By their names a thread isn't made, and
    a wait for events fails, of which it tells then alone, as of each time that a thread lets others run. Where ONLY has a file's name, pwrites of other files aren't counted.
@@ -236,7 +236,7 @@ int sched_yield(void)
     return strncmp("epoll_wait", name, 16) == 0 ? (int)told("sched_yield", 0, 0, answer) : answer;
 }
 
-/* of the C library's, which is the next one behind this */
+/* of the C library's, which is the next one after this */
 int pthread_create(void *thread, const void *how, void *(*runs)(void *), void *given)
 {
     int (*next)(void *, const void *, void *(*)(void *), void *) = dlsym((void *)-1, "pthread_create");

@@ -124,7 +124,8 @@ def field(kind, word):
     if isinstance(kind, int):
         return int(word).to_bytes(kind, "big")
     if kind == "flags":
-        return sum(FLAGS[name] for name in word.split("|")).to_bytes(4, "big")
+        bits = int(word, 16) if word.startswith("0x") else sum(FLAGS[name] for name in word.split("|"))
+        return bits.to_bytes(4, "big")
     if kind == "xid":
         return xid(word)
     if kind == "cursor":

@@ -159,7 +159,7 @@ class Search:
         return self.history.actors[option[2]][option[3]].kind == "flight"
 
     def assign(self, path):
-        """Gives each place that no reply has to a step, by these choices, and by the first ones behind them. The steps by place, from which
+        """Gives each place that no reply has to a step, by these choices, and by the first ones after them. The steps by place, from which
         options each was chosen, and the place for which there was none."""
         at, steps, chosen = [0] * len(self.history.actors), {}, []
         for index, place in enumerate(self.history.missing):
@@ -175,7 +175,7 @@ class Search:
         return steps, chosen, min(late, default=None)
 
     def with_flight(self, path, chosen):
-        """The last of these choices, behind where the last play went wrong, where a call that nobody saw answered is taken in place of what
+        """The last of these choices, after where the last play went wrong, where a call that nobody saw answered is taken in place of what
         was. A place that is nobody's, since all that might have it is used up, becomes somebody's by one more such call alone, in whichever
         order the others are."""
         for index in range(len(chosen) - 1, -1, -1):

@@ -244,7 +244,7 @@ class Load:
             connection.socket.shutdown(socket.SHUT_WR)
         for connection in list(self.by_handle.values()):
             if connection.socket.recv(1):
-                raise Mistake(f"something came behind the last reply to: {connection.all[-1].line}")
+                raise Mistake(f"something came after the last reply to: {connection.all[-1].line}")
             self.poll.unregister(connection.socket)
             connection.socket.close()
         self.by_handle.clear()

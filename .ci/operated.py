@@ -74,7 +74,7 @@ AT_FIRST = {
     "1:08:": "committed 0 0 0 0",
     "1:09:": "rolledback 0 0 0 0",
 }
-# The words of a command behind its name, which branches it changes, and how they are then; None of one that is gone.
+# The words of a command after its name, which branches it changes, and how they are then; None of one that is gone.
 ORDERS = [
     (("commit", "--name", "n", "--yes", "1:06:"), {"1:06:": None}),
     (("rollback", "--name", "n", "--yes", "1:07:"), {"1:07:": None}),

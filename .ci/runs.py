@@ -1,10 +1,11 @@
 """The kinds of runs of .ci/history: a server, its clients, what goes wrong meanwhile, and what is compared afterwards."""
 import os
 import re
+import subprocess
 
 from callers import KEYS
 from crashes import Aftermath, fail_power, tails
-from frames import but_orders
+from frames import LIMIT, but_orders, request
 from histories import History, Search
 from loads import Load, Mistake, Server
 from promises import check_promises
@@ -13,6 +14,8 @@ from promises import check_promises
 MOST = 4000
 TRIMMED = re.compile(r"xarm: log trimmed from \d+ to (\d+) bytes in \d+ ms")
 EIO, ENOSPC = 5, 28
+# Where a server that audits writes its history.
+KEPT = "kept"
 
 
 class Run:
@@ -73,14 +76,33 @@ def count_events(run, history, printed, *audit):
         raise Mistake(f"the server printed {printed} and not calls {counts[0]} to {counts[-1]}, {audit}")
 
 
+def compare_kept(run, history, words):
+    """The history that an audited server wrote: each reply that a client was given is in it at its place, after the call that it had asked,
+    and a play of the script prints the replies."""
+    with open(os.path.join(run.room, KEPT), encoding="utf-8") as script, open(os.path.join(run.room, f"{KEPT}.out"), encoding="utf-8") as replies:
+        asked, answered = script.read(), replies.read()
+    rows = list(zip(asked.splitlines(), answered.splitlines(), strict=True))
+    for place, call in history.placed.items():
+        line, reply = rows[place - 1]
+        if request(line) != request(f"1 {call.line}") or reply != history.replies[place]:
+            raise Mistake(f"place {place}, {call.line}: it was answered {history.replies[place][:300]}, but {KEPT} has {line}: {reply[:300]}")
+    played = subprocess.run([run.program, "play", "--name", "n", *words], input=asked.encode(), capture_output=True, timeout=4 * LIMIT, check=False)
+    if played.returncode or played.stdout.decode() != answered:
+        raise Mistake(f"the play of {KEPT} prints other replies than {KEPT}.out has: {played.stderr.decode()}")
+
+
 def load_and_compare(run, words, clients, again=0, audit=None, environment=None, play=(), waits=True, **how):
-    """A run where nothing is killed. Unless it is said, its server has an audit, or none."""
+    """A run where nothing is killed. Unless it is said, its server has an audit, and writes its history, or none."""
     if audit is None and run.rng.random() < 0.5:
         words, audit = (*words, "--audit"), ("audit ok",)
-    run.serve(*words, "--connections", str(clients + again), waits=waits, **(environment or {}))
+    kept = ("--audit-out", KEPT) if audit else ()
+    run.serve(*words, *kept, "--connections", str(clients + again), waits=waits, **(environment or {}))
     run.keep_busy(clients, again=again, **how)
     printed = run.finish()
-    count_events(run, run.compare(words=play), printed, *(audit or ()))
+    history = run.compare(words=play)
+    count_events(run, history, printed, *(audit or ()))
+    if audit:
+        compare_kept(run, history, play)
 
 
 def fresh(run):

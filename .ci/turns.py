@@ -1,5 +1,5 @@
 """Of .ci/loops: whose turn it is. What comes over connections while their loop waits for a sync, or while a commit of their own waits for that
-of another loop, is answered to each behind it, once, all of it and in order; and whoever has sent all is closed."""
+of another loop, is answered to each after it, once, all of it and in order; and whoever has sent all is closed."""
 import select
 import threading
 import time
@@ -55,7 +55,7 @@ def behind_a_sync(library):
         yield "turns: a commit whose sync is slow", found, [OK]
         found = list(replies(many, 3))
         yield f"turns: each of {MANY} that asked meanwhile has three replies", found, [[OK, OK, f"{OK} value 76"]] * MANY
-        yield "turns: each that sent no more behind its request is closed", [*replies(halves, 1), *rests(halves)], [[OK]] * 4 + [b""] * 4
+        yield "turns: each that sent no more after its request is closed", [*replies(halves, 1), *rests(halves)], [[OK]] * 4 + [b""] * 4
     with Server("--loops", "1", library=library, by_socket=True) as server:
         slow, long = server.peer(), server.peer()
         asks(long, [OPEN, "1 start TMNOFLAGS 1:aa:"])
@@ -80,7 +80,7 @@ def behind_another(library):
         ]
         found = beside_a_sync(server, slow, sends)
         yield "turns, beside another loop: a commit whose sync is slow", found, [OK]
-        yield "turns, beside another loop: all that came behind a commit", next(replies([one], 5)), [OK, OK, OK, f"{OK} value 76", f"{OK} xids"]
+        yield "turns, beside another loop: all that came after a commit", next(replies([one], 5)), [OK, OK, OK, f"{OK} value 76", f"{OK} xids"]
         yield "turns, beside another loop: one that sent no more", [*replies([half], 1), *rests([half])], [[OK], b""]
         is_left = until(lambda: " sessions 4 " in asks(asker, ["1 status"])[0]) is not None
         found = is_left, asks(asker, [OPEN, "1 start TMNOFLAGS 1:05:", "1 get 6d"])[2]

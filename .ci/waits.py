@@ -30,7 +30,7 @@ SOON = 2
 
 
 class Loaded(Server):
-    """A server beside which so many clients commit, one branch behind the other."""
+    """A server beside which so many clients commit, one branch after the other."""
 
     def __init__(self, clients, *words, **how):
         super().__init__(*words, **how)
@@ -61,7 +61,7 @@ class Loaded(Server):
 
 
 def longest_connect(server, count, pause):
-    """The longest of some connects that come one behind the other, each until it is answered."""
+    """The longest of some connects that come one after the other, each until it is answered."""
     peers, times = [], []
     for _ in range(count):
         time.sleep(pause)
@@ -83,7 +83,7 @@ def connects(library):
 
 
 def syncs(library):
-    """How late who waits for a loop's sync is answered behind it, and how much of a processor that takes. One that isn't woken looks again each
+    """How late who waits for a loop's sync is answered after it, and how much of a processor that takes. One that isn't woken looks again each
     tenth of a second, so the syncs end at different times after it asked."""
     late, seconds = [], 0
     with Server("--loops", "2", library=library) as server:
@@ -203,7 +203,7 @@ def held_up(library):
             got = set(sum(found, [])), quick, is_waiting(slow, waits)
             yield f"waits: others beside {title} that waits for another loop's sync", got, ({f"{OK} absent"}, True, True)
             found = [next(replies([peer], 1))[0] for peer in (slow, waits)]
-            yield f"waits: {title} behind it", (found[0], found[1][: len(answer)]), (OK, answer)
+            yield f"waits: {title} after it", (found[0], found[1][: len(answer)]), (OK, answer)
 
 
 def handles():

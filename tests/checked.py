@@ -40,12 +40,12 @@ def is_damaged(file):
 
 
 def behind(file):
-    """What is told of the records that chain behind a damaged one: how many, and of how many branches that are prepared in them none is
+    """What is told of the records that chain after a damaged one: how many, and of how many branches that are prepared in them none is
     completed there."""
     left = logs.left_out(file)[1]
     xids = [(body[0], body[1 : 7 + body[5] + body[6]]) for body in left if body[0] in (2, 4, 5)]
     prepared = {xid for kind, xid in xids if kind == 2} - {xid for kind, xid in xids if kind != 2}
-    return f", {len(left)} records behind it, {len(prepared)} branches prepared in them" if left else ""
+    return f", {len(left)} records after it, {len(prepared)} branches prepared in them" if left else ""
 
 
 def line(name, file, most, is_current):
@@ -89,10 +89,10 @@ def ended(files):
         is_early = not any(body[0] in logs.APPENDED for body in bodies)
         if is_early and stands_as(other) == "log" and logs.chained(other)[0]:
             place = FIRST
-            lines.append(f"the snapshot of {FILES[at]} is left out, and what was logged behind it; the older file is taken")
+            lines.append(f"the snapshot of {FILES[at]} is left out, and what was logged after it; the older file is taken")
         else:
             place = end
-            lines.append(f"{FILES[at]}: record {len(bodies) + 1} at byte {end} and all behind it are left out")
+            lines.append(f"{FILES[at]}: record {len(bodies) + 1} at byte {end} and all after it are left out")
         files[at] = files[at][:place] + CLEARED
     return tuple(files), lines
 

@@ -14,9 +14,9 @@ def whole_pairs():
     first, (second, appended), (third, more) = each_kind()
     records = {it.body.bytes: it for it in [*first, *second, *appended, *third, *more]}
     older = bytes_of(first) + CLOSED
-    for behind in ([], appended):
-        file = over(bytes_of(second) + CLEARED, bytes_of(second + behind) + CLOSED)
-        yield f"generation 2 over 1, {len(behind)} appended", (older, file), 1, len(bytes_of(second)), records
+    for after in ([], appended):
+        file = over(bytes_of(second) + CLEARED, bytes_of(second + after) + CLOSED)
+        yield f"generation 2 over 1, {len(after)} appended", (older, file), 1, len(bytes_of(second)), records
     older, file = file, over(over(older, bytes_of(third) + CLEARED), bytes_of(third) + CLEARED)
     yield "generation 3 over 2, 0 appended", (file, older), 0, len(bytes_of(third)), records
     yield f"generation 3 over 2, {len(more)} appended", (over(file, bytes_of(third + more) + CLOSED), older), 0, len(bytes_of(third)), records
@@ -72,7 +72,7 @@ def scans(each):
 
 
 def untold(files, at, end):
-    """The bits of the current file's snapshot, behind its name, that are changed untold."""
+    """The bits of the current file's snapshot, after its name, that are changed untold."""
     for place, bit in itertools.product(range(FIRST, end), range(8)):
         if fault_of(*instead(files, at, flipped(files[at], place, bit))) is None:
             yield place, bit

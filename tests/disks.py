@@ -6,7 +6,7 @@ from parts import (
     READ, ABSENT, AT_WORK, VOTED, BY_OPERATOR, numbered, REOPENED, CRASHED, played,
 )
 
-# What is found behind a crash: the branch in doubt, to be committed; or committed; or not at all; or decided.
+# What is found after a crash: the branch in doubt, to be committed; or committed; or not at all; or decided.
 IN_DOUBT = P1 + LISTED + COMMITTED + BEGUN + READ
 DONE = P1 + NONE_LISTED + BEGUN + READ
 GONE = P1 + NONE_LISTED + BEGUN + ABSENT
@@ -107,7 +107,7 @@ BOOTS = [
 
 
 def of_boot(lines, boot):
-    """Lines behind an opening that begins this boot."""
+    """Lines after an opening that begins this boot."""
     return [(line, f"{NUMBER} {boot * BOOT + 1}" if reply == NUMBER else reply) for line, reply in lines]
 
 
@@ -133,7 +133,7 @@ def stopped():
             yield f"{call}: {stop}, {crash}", lines + of_boot(IN_DOUBT, boot)
 
 
-# What was played before an opening; what is planned of one of its calls, before its number and behind it; how many calls it makes of that
+# What was played before an opening; what is planned of one of its calls, before its number and after it; how many calls it makes of that
 # disk, and the boot of an opening after it and a crash. It asks for the file's length, then a sync, a length and a read, where it isn't
 # empty; and of the other file a checkpoint.
 OPENINGS = [
@@ -149,7 +149,7 @@ OPENINGS = [
 
 
 def openings():
-    """Openings that fail at each of their device calls, and those of which the call behind the last one is planned to fail."""
+    """Openings that fail at each of their device calls, and those of which the call after the last one is planned to fail."""
     for before, plan, effect, calls, boot in OPENINGS:
         for call in range(1, calls + 2):
             lines = numbered(P1, before) + [(f"{plan} {call}{effect}", "")]
@@ -222,7 +222,7 @@ FAILING = [
 
 
 def failing_calls():
-    """Calls that log, one behind another, with device calls that fail; and in the end one whose record is refused, and is asked again."""
+    """Calls that log, one after another, with device calls that fail; and in the end one whose record is refused, and is asked again."""
     for before, call, refused, again, without, found in FAILING_CALLS:
         parts = [P1, BEGUN, PUT_BACK]
         for plans, became, then, is_found in FAILING:
@@ -257,20 +257,20 @@ def failing_restarts():
         plan = f"{file} {call} {effect}"
         then = [("1 restart", LOST)] + REOPENED if is_made else RESTART + CRASHED
         yield f"1 restart: {plan}", numbered(P1, VOTED, [(plan, "")], then, STILL_IN_DOUBT)
-    for title, behind, unsynced in (("restarted", RESTART, STILL_DONE), ("crashed", CRASHED, STILL_IN_DOUBT)):
+    for title, after, unsynced in (("restarted", RESTART, STILL_DONE), ("crashed", CRASHED, STILL_IN_DOUBT)):
         parts, boot = [P1, BEGUN, PUT_BACK, RESTART], 2
         for file, call, effect, is_made in faults(3, 10):
             parts += [COMMITTING, [(f"{file} {call} {effect}", "")]]
             if is_made:
-                parts += [[("1 restart", LOST)], behind, STILL_DONE if is_synced(boot, file, call, effect) else unsynced]
+                parts += [[("1 restart", LOST)], after, STILL_DONE if is_synced(boot, file, call, effect) else unsynced]
             else:
                 parts += [RESTART, CRASHED, STILL_DONE]
             boot += 1 if is_made else 2
-        yield f"1 restart, {title} behind each device call that fails", numbered(*parts)
+        yield f"1 restart, {title} after each device call that fails", numbered(*parts)
 
 
-# Device calls of a first trim that fail, all of the other file: what it is answered, and the boot that begins then, behind a restart, where a
-# plan doesn't outlive the trim, and behind a crash. It is the second one where the older log is found, and the third where the trim's is: the
+# Device calls of a first trim that fail, all of the other file: what it is answered, and the boot that begins then, after a restart, where a
+# plan doesn't outlive the trim, and after a crash. It is the second one where the older log is found, and the third where the trim's is: the
 # sixth call writes the first length, the seventh one syncs it. Behind whichever of them failed come a write of zeros and a sync.
 FAILING_TRIMS = [
     *((f"{call} {effect}", REFUSED, 2, 2) for call in range(1, 8) for effect in ("lost", "kept")),
@@ -313,7 +313,7 @@ def failing_trims():
 
 def stale_tails():
     """A trim of three records is refused at its first length, its seventh call, and leaves them in the file: the third one is of 1:cc:dd, which
-    the operator rolled back. Once that is forgotten, a trim of the first two, with the same boot, is kept: behind it stands what is left of the
+    the operator rolled back. Once that is forgotten, a trim of the first two, with the same boot, is kept: after it stands what is left of the
     third. Then an append of a record of that one's length, 46 bytes, is cut off: with fewer bytes the branch is in doubt, and 1:cc:dd never is
     known again."""
     other = [("1 start TMNOFLAGS 1:cc:dd", NUMBER), ("1 put 6c 76", OK), ("1 end TMSUCCESS 1:cc:dd", OK), ("1 prepare TMNOFLAGS 1:cc:dd", OK)]
@@ -351,7 +351,7 @@ LONG_FAULTS = [
 
 
 def long_faults():
-    """A long record of which device calls fail; and one behind it, in the same piece, whose only write fails."""
+    """A long record of which device calls fail; and one after it, in the same piece, whose only write fails."""
     prepare, long = "1 prepare TMNOFLAGS 1:aa:bb", WRITTEN[:1] + LONG_PUTS + WRITTEN[-1:]
     for plans, reply, then, is_found in LONG_FAULTS:
         asked = [*((plan, "") for plan in plans.split(", ")), (prepare, reply)]

@@ -175,7 +175,7 @@ class History:
         return True
 
     def pieces(self, disk, new, whole, is_failing):
-        """A write for each record, the first without its length, the last with five zeros behind it. One of them fails."""
+        """A write for each record, the first without its length, the last with five zeros after it. One of them fails."""
         begins = [12, *logs.ends([it.body for it in new])[1:-1]]
         last = self.rng.randrange(len(begins)) if is_failing else None
         return all(self.write(disk, begin, whole[begin:end], at == last) for at, (begin, end) in enumerate(zip(begins, [*begins[1:], len(whole)])))
@@ -189,7 +189,7 @@ class History:
             self.is_lost = True
 
     def read(self):
-        """What both files have is read, behind a sync of each."""
+        """What both files have is read, after a sync of each."""
         for disk in self.disks:
             self.sync(disk)
         self.current = logs.current_of(*(disk.seen for disk in self.disks))
@@ -272,7 +272,7 @@ class History:
 
 def begun():
     """What stands in two files when a log's history begins, by a title, with the current one's records, and the most bytes of a file: nothing, a
-    log that was just made, logs of either format, over longer logs of older generations, and with no room behind a checkpoint but for a length."""
+    log that was just made, logs of either format, over longer logs of older generations, and with no room after a checkpoint but for a length."""
     first, (second, appended), (third, more) = each_kind()
     last, old = second + appended, b"XARMLOG1"
     yield "nothing", (b"", b""), [], 2400

@@ -89,13 +89,13 @@ def branches(numbers, asked):
         yield from [(f"1 start TMNOFLAGS {xid}", NUMBER), asked(number), (f"1 end TMSUCCESS {xid}", OK), (f"1 commit TMONEPHASE {xid}", OK)]
 
 
-def written(first, behind):
-    return [*branches(range(first, behind), lambda number: ("1 put 6b 76", OK))]
+def written(first, after):
+    return [*branches(range(first, after), lambda number: ("1 put 6b 76", OK))]
 
 
-def read(first, behind):
+def read(first, after):
     """Each reads a key of its own, which nobody writes."""
-    return [*branches(range(first, behind), lambda number: (f"1 get {number:08x}", "0 Nothing absent"))]
+    return [*branches(range(first, after), lambda number: (f"1 get {number:08x}", "0 Nothing absent"))]
 
 
 def told(versions, boot, end, branches=0, prepared=0):
@@ -117,7 +117,7 @@ def counted(lines):
 # The branch of the second session, which can read what it could read when it began.
 BESIDE, LEFT, ROLLED_BACK = [("2 start TMNOFLAGS 2:6f:", NUMBER)], [("2 end TMSUCCESS 2:6f:", OK)], [("2 rollback TMNOFLAGS 2:6f:", OK)]
 KEPT = [
-    ("one of a key, behind a restart", [written(0, 3), RESTART, told(1, 2, 102), written(3, 6), told(1, 2, 102 + 3 * 63)]),
+    ("one of a key, after a restart", [written(0, 3), RESTART, told(1, 2, 102), written(3, 6), told(1, 2, 102 + 3 * 63)]),
     # While the older branch is open, a write of its own would be late where a later branch has read.
     (
         "none of a key that was only read",
@@ -144,7 +144,7 @@ def kept_versions():
 def long_words():
     """Words at their limits, asked of a session that isn't connected, so that the request itself is refused as such; and one byte longer."""
     rows = [("9 get ", KEY, ""), ("9 put 61 ", VALUE, ""), ("9 start TMNOFLAGS 1:", PART, ":"), ("9 start TMNOFLAGS 1:61:", PART, "")]
-    lines = [(before + "61" * (count + more) + behind, reply) for before, count, behind in rows for more, reply in ((0, "-6 Nothing"), (1, "-5 Frame"))]
+    lines = [(before + "61" * (count + more) + after, reply) for before, count, after in rows for more, reply in ((0, "-6 Nothing"), (1, "-5 Frame"))]
     lines += [("9 open TMNOFLAGS a" + "61" * 127, "-6 Nothing"), ("9 open TMNOFLAGS aa" + "61" * 127, "-5 Frame")]
     calls = ["close TMNOWAIT|TMFAIL", "rollback TMNOFLAGS 1:aabb:cc", "doom -2:aa:", "recover TMSTARTRSCAN|TMENDRSCAN 0", "recover TMNOFLAGS 4294967295"]
     calls += ["decide rollback 1:aa:", "forget TMNOFLAGS 1:aa:", "restart", "trim", "branches 4294967295", "branches 0 1:aa:", "get 61"]

@@ -15,13 +15,13 @@ from frames import xid
 OK = "0 Nothing"
 # The longest bodies of format 1 and of format 2.
 MOST_OF_ONE, MOST_BODY = 524_288, 8_388_608
-# The bytes of a record beside its body, where the first one begins, and what stands behind the last one: of an append, of a checkpoint.
+# The bytes of a record beside its body, where the first one begins, and what stands after the last one: of an append, of a checkpoint.
 AROUND, FIRST = 36, 8
 CLOSED, CLEARED = bytes(4), bytes(5)
 
 
 class Body(NamedTuple):
-    """A record's body, what a scan prints of it, and the members of its object behind its kind and its offset."""
+    """A record's body, what a scan prints of it, and the members of its object after its kind and its offset."""
 
     bytes: bytes
     line: str
@@ -154,7 +154,7 @@ def over(older, new):
 
 
 def ends(bodies):
-    """Where each record ends, behind where the first one begins."""
+    """Where each record ends, after where the first one begins."""
     return [*itertools.accumulate((AROUND + len(body.bytes) for body in bodies), initial=FIRST)]
 
 
@@ -179,7 +179,7 @@ APPENDED = range(2, 7)
 
 
 def chain_from(file, at, before):
-    """The bodies that chain from a place on behind a digest, where the last one ends, and its digest."""
+    """The bodies that chain from a place on after a digest, where the last one ends, and its digest."""
     digest, bodies = before, []
     while True:
         size = int.from_bytes(file[at : at + 4], "big")
@@ -211,7 +211,7 @@ def current_of(first, second):
 
 def is_headless(file):
     """No record chains, but the first one of a checkpoint is there: its length, a byte that no append begins with, and a generation. Not where
-    it chains behind the other format's name."""
+    it chains after the other format's name."""
     if not file or file[:FIRST] not in MOST or len(file) < 17 or chained(file)[0]:
         return False
     length, kind, number_there = int.from_bytes(file[8:12], "big"), file[12], int.from_bytes(file[13:17], "big")
@@ -221,8 +221,8 @@ def is_headless(file):
 
 
 def is_cut(file):
-    """Nothing was appended to a log of format 2, of generation 2 or more, and what stands behind it is neither its end nor begins as an append
-    does. A checkpoint of format 1 ended in four zero bytes, before what stood behind it."""
+    """Nothing was appended to a log of format 2, of generation 2 or more, and what stands after it is neither its end nor begins as an append
+    does. A checkpoint of format 1 ended in four zero bytes, before what stood after it."""
     bodies, end = chained(file)
     if file[:FIRST] != b"XARMLOG2":
         return False
@@ -231,12 +231,12 @@ def is_cut(file):
     return generation(bodies) >= 2 and not any(body[0] in APPENDED for body in bodies) and not begins_well
 
 
-# The most bytes of a group of several records. What chains farther behind a break was synced later.
+# The most bytes of a group of several records. What chains farther after a break was synced later.
 MOST_GROUP = 262_144
 
 
 def as_written(file, at, before):
-    """The length with which a record was written that doesn't chain behind this digest: the first of those that differ from the one there in a
+    """The length with which a record was written that doesn't chain after this digest: the first of those that differ from the one there in a
     bit with which it does, of at most 524,288 bytes. Else it is the one there; and also where that is 0, or shows a longer record."""
     size = int.from_bytes(file[at : at + 4], "big")
     if size == 0 or MOST_OF_ONE < size <= MOST[file[:FIRST]] and len(file) >= at + AROUND + size:
@@ -250,7 +250,7 @@ def as_written(file, at, before):
 
 
 def left_out(file):
-    """Behind a log's records, of which there is one at least: how far behind their end records chain, behind one that is shown there with the
+    """Behind a log's records, of which there is one at least: how far after their end records chain, after one that is shown there with the
     length with which it was written, and their bodies."""
     bodies, at, before = chain_from(file, FIRST, hashlib.sha256(file[:FIRST]).digest())
     if not bodies:
@@ -270,7 +270,7 @@ def passed_over(file, name):
     """What a server tells that opens a log with such records."""
     many = len(left_out(file)[1])
     which = "1 record that chains" if many == 1 else f"{many} records that chain"
-    told = f"xarm: {name}: {which} behind byte {chained(file)[1]} {'is' if many == 1 else 'are'} left out: a torn write, or damage\n"
+    told = f"xarm: {name}: {which} after byte {chained(file)[1]} {'is' if many == 1 else 'are'} left out: a torn write, or damage\n"
     return told if many else ""
 
 
@@ -282,7 +282,7 @@ def is_own(body, number):
 
 
 def stops_short(file):
-    """Far behind a record that doesn't chain stands one of the log's own that does."""
+    """Far after a record that doesn't chain stands one of the log's own that does."""
     at, left = left_out(file)
     places = itertools.accumulate((AROUND + len(body) for body in left), initial=at)
     return any(place >= MOST_GROUP and is_own(body, generation(chained(file)[0])) for place, body in zip(places, left))
@@ -314,9 +314,9 @@ OLD_DIGESTS = (
 
 def documented(page):
     """The two logs whose bytes docs/LOG.md has: the whole one, and what a checkpoint makes of it."""
-    whole, _, behind = page.partition("\n### The same log after a checkpoint")
+    whole, _, after = page.partition("\n### The same log after a checkpoint")
     files, file = [], bytearray()
-    for part in (whole.partition("\n### A whole log")[2], behind):
+    for part in (whole.partition("\n### A whole log")[2], after):
         for at, text in re.findall(r"^ +(\d+)  ((?:(?:[0-9a-f]{2})+ )*(?:[0-9a-f]{2})+)(?:  |$)", part, re.M):
             piece = bytes.fromhex(text)
             file[int(at) : int(at) + len(piece)] = piece
@@ -345,7 +345,7 @@ SCANS = [
     ("a digit below", b"XARMLOG0", 1, NOT_A_LOG),
     ("a later format", b"XARMLOG3", 1, TOO_NEW),
     ("the last later format, before a log", b"XARMLOG9" + TWO[8:], 1, TOO_NEW),
-    ("a name behind the digits", b"XARMLOG:", 1, NOT_A_LOG),
+    ("a name after the digits", b"XARMLOG:", 1, NOT_A_LOG),
     ("a name alone", b"XARMLOG2", 0, "end 8\n"),
     ("the old name alone", b"XARMLOG1", 0, "end 8\n"),
     ("a log that is closed at once", b"XARMLOG2" + CLOSED, 0, "end 8\n"),
@@ -357,7 +357,7 @@ SCANS = [
     ("a later boot's record", new_log(opened(0xFFFFFFFF)), 0, "8 opened 4294967295\nend 49\n"),
     ("the boot 0", new_log(other(1, 0, 0, 0, 0)), 0, "8 malformed\nend 49\n"),
     ("what follows the closing length", TWO + log(AGAIN), 0, "8 opened 1\n49 prepared 1:aa:bb 4294967297 1\nend 110\n"),
-    ("a record behind a length of 0", new_log() + log(OPENED)[8:], 0, "end 8\n"),
+    ("a record after a length of 0", new_log() + log(OPENED)[8:], 0, "end 8\n"),
 ]
 
 
@@ -420,7 +420,7 @@ def bits():
 
 
 def scan_of(title, file, status, shown):
-    """A row of a file, of which a scan prints this; behind it, where it is a damaged log, it tells the record that isn't as it was written."""
+    """A row of a file, of which a scan prints this; after it, where it is a damaged log, it tells the record that isn't as it was written."""
     if file[:FIRST] in MOST and (is_headless(file) or is_cut(file) or stops_short(file)):
         bodies, end = chained(file)
         return Scan(title, file, 1, f"{shown}xarm: log damaged: record {len(bodies) + 1} at byte {end}\n")
@@ -431,7 +431,7 @@ def scans():
     for row in SCANS:
         yield scan_of(*row)
     for title, _, first, second, shown in LEFT:
-        yield scan_of(f"behind {title}", (first, second)[shown[0]], 0, shown[1])
+        yield scan_of(f"after {title}", (first, second)[shown[0]], 0, shown[1])
     yield scan_of("each kind of record", OLD_FIRST, 0, OLD_LINES[0])
     yield scan_of("each kind of record of a snapshot", OLD_SECOND, 0, OLD_LINES[1])
     for rows in (format_limits, sizes, long_cuts):
@@ -457,7 +457,7 @@ def trim(end):
     return "1 trim", f"{OK} number {end}"
 
 
-# What is asked behind the prepare of a branch; both files then; and what a scan prints of the one that is current.
+# What is asked after the prepare of a branch; both files then; and what a scan prints of the one that is current.
 LEFT = [
     ("a prepare", [], TWO, b"", (0, "8 opened 1\n49 prepared 1:aa:bb 4294967297 1\nend 110\n")),
     ("a restart", [RESTART], TWO, checkpoint(AGAIN, HELD), (1, "8 opened 2\n49 held 1:aa:bb 4294967297 1\nend 110\n")),
@@ -845,7 +845,7 @@ end 431
 end 631
 """,
 )
-# What an opening makes of both, and the next one of that: 1:aa:05 is in doubt. What stands in the other file stays behind it.
+# What an opening makes of both, and the next one of that: 1:aa:05 is in doubt. What stands in the other file stays after it.
 MOVED = (
     base(BOOT + 1, KEYS[1]),
     base(BOOT + 2, KEYS[2]),
@@ -876,7 +876,7 @@ def old_files():
     yield Serve("an old log's boot", (one[:49], b""), [], "", [], (one[:49], checkpoint(AGAIN)))
 
 
-# Checkpoints that are cut at each byte: the front with a length 0, all behind it, and the first length.
+# Checkpoints that are cut at each byte: the front with a length 0, all after it, and the first length.
 
 
 def torn(older, new, cut):
@@ -895,7 +895,7 @@ IMAGES = [
     ("a longer log", new_log(AGAIN, HELD), new_log(OPENED, PREPARED, DECIDED), [THIRD, BASE], [THIRD, HELD], [FOURTH, BASE]),
     ("nothing", TWO, b"", [AGAIN, HELD], [AGAIN, HELD], [THIRD, HELD]),
     ("nothing, beside an old log", old_log(OPENED, PREPARED), b"", [AGAIN, HELD], [AGAIN, HELD], [THIRD, HELD]),
-    # torn behind the name, the older log's first record doesn't chain behind it, but isn't lost
+    # torn after the name, the older log's first record doesn't chain after it, but isn't lost
     ("an old log, beside an old one", old_log(THIRD, HELD), old_log(AGAIN, HELD), [FOURTH, HELD], [FOURTH, HELD], [opened(5), HELD]),
 ]
 
@@ -925,8 +925,8 @@ def torn_lengths():
 
 
 def strays():
-    """A file that was no log, whose bytes behind the first eight chain to a log of a later generation: refused, until its name is written; with
-    no length 0 behind it yet, it is then the current one, or, where no closing length follows, a damaged one."""
+    """A file that was no log, whose bytes after the first eight chain to a log of a later generation: refused, until its name is written; with
+    no length 0 after it yet, it is then the current one, or, where no closing length follows, a damaged one."""
     current, whole = new_log(AGAIN, HELD), checkpoint(THIRD, BASE)
     for closing, cut in itertools.product((CLOSED, b""), range(15)):
         image = torn(b"XARMLOGx" + log(opened(9))[8:] + closing, whole, cut)
@@ -970,12 +970,12 @@ def calls(boot, sizes):
 
 
 def extended(file, length):
-    """A file with zeros behind it, up to a length."""
+    """A file with zeros after it, up to a length."""
     return file + bytes(length - len(file))
 
 
 # The bodies of branches that are prepared, the most bytes of a file, and how long it is then: an append that reaches into a new piece of
-# 262,144 bytes writes zeros to its end. The boot's record ends at 49, and each takes 36 bytes more, and 4 behind it. At the end are the
+# 262,144 bytes writes zeros to its end. The boot's record ends at 49, and each takes 36 bytes more, and 4 after it. At the end are the
 # longest body of format 1 and one byte more, and those with just as much left behind the first window as goes through one.
 LENGTHS = [
     ([100_000], 1 << 30, 100_089),
@@ -1008,8 +1008,8 @@ def many_records():
 
 
 # By which call a log that was longer goes back to its first file, which has 786,432 bytes, how many records of 300,000 bytes are appended then,
-# and whether zeros are written behind the last: not as far as the file is known to reach. That is the closing length of its last record, at
-# 750,295; behind a restart, which measures it, its end.
+# and whether zeros are written after the last: not as far as the file is known to reach. That is the closing length of its last record, at
+# 750,295; after a restart, which measures it, its end.
 LONGER = [("1 trim", 1, False), ("1 trim", 2, True), ("1 restart", 1, False), ("1 restart", 2, False)]
 
 
@@ -1022,7 +1022,7 @@ def longer_files():
         file = new_log(THIRD, *branches_of("prepared", 3, [300_000] * count))
         first = extended(file, 786_432) if has_zeros else over(older, file)
         asked = [*begun, trim(49) if call == "1 trim" else RESTART, *calls(3, [300_000] * count)]
-        yield Serve(f"{count} records in a longer file, behind {call}", (None, None), ["--trim", "0"], "", asked, (first, checkpoint(AGAIN)))
+        yield Serve(f"{count} records in a longer file, after {call}", (None, None), ["--trim", "0"], "", asked, (first, checkpoint(AGAIN)))
 
 
 # And two more of what is asked.
@@ -1048,7 +1048,7 @@ def last_trims():
     yield Serve("the last trim", (first, EMPTY), [], "", [*P1, trim(49), refused, RESTART], after)
     first = new_log(opened(0x7FFFFFFF))
     after = over(first, checkpoint(opened(0x80000001))), checkpoint(opened(0x80000000))
-    yield Serve("none behind it", (first, EMPTY), [], "", [*P1, refused, RESTART], after)
+    yield Serve("none after it", (first, EMPTY), [], "", [*P1, refused, RESTART], after)
 
 
 def servings():

@@ -1,5 +1,5 @@
 """Two files of a log to whose current one more was appended than a group takes, and that was damaged there: bits of some records, each sector,
-cuts. What is told follows from the bytes (`logs.py`): damage, where a record of the log's own chains far enough behind it; else what is left out.
+cuts. What is told follows from the bytes (`logs.py`): damage, where a record of the log's own chains far enough after it; else what is left out.
 `.ci/damage` has them scanned and served.
 """
 import functools
@@ -36,12 +36,12 @@ def pair():
 
 @functools.cache
 def places():
-    """Where each appended record begins, and behind them the end."""
+    """Where each appended record begins, and after them the end."""
     return [at - ends([])[0] + pair()[2] for at in ends([it.body for it in appended()])]
 
 
 def is_told(at):
-    """Whether a harm to the appended record with this index is told, by the rule: one that has a stamp begins so far behind it."""
+    """Whether a harm to the appended record with this index is told, by the rule: one that has a stamp begins so far after it."""
     far = places()[at] + MOST_GROUP
     return any(place >= far and it.kind != "completed" for place, it in zip(places(), appended()))
 
@@ -83,7 +83,7 @@ def scans(each):
 
 
 def stale():
-    """Records of an older log behind a torn append, as long as those of the newer one, which chain on one another: no harm. The file of the
+    """Records of an older log after a torn append, as long as those of the newer one, which chain on one another: no harm. The file of the
     third generation is written over that of the first, whose records were as long at the same places."""
     first = [opened(1)] + [branch("committed", f"1:cc{at:04x}:", BOOT + at + 1, (KEYS[at % 4], bytes([at % 256]) * VALUE)) for at in range(BRANCHES)]
     second = [opened(2), *State(first).snapshot(2)[1:]]

@@ -37,7 +37,7 @@ final class Reply {
         place = content.getLong();
         kind = content.get();
         readBody(content);
-        require(!content.hasRemaining(), "bytes behind it");
+        require(!content.hasRemaining(), "bytes after it");
     }
 
     /**

@@ -7,7 +7,7 @@ import java.util.Arrays;
 final class Request {
     private static final byte VERSION = 1;
     private static final int LENGTH_BYTES = 4;
-    // without a value the longest is an Open: flags, and an info of 255 bytes behind its length
+    // without a value the longest is an Open: flags, and an info of 255 bytes after its length
     private static final int MOST_BYTES = LENGTH_BYTES + 2 + 4 + 1 + 255;
 
     private final Operation operation;
@@ -45,13 +45,13 @@ final class Request {
         return this;
     }
 
-    /** A key, or an open info: bytes behind their length of one byte. */
+    /** A key, or an open info: bytes after their length of one byte. */
     Request name(byte[] name) {
         bytes.put((byte) name.length).put(name);
         return this;
     }
 
-    /** A value: bytes behind their length of two bytes. Room is made for it here, so that only a Put takes so much. */
+    /** A value: bytes after their length of two bytes. Room is made for it here, so that only a Put takes so much. */
     Request value(byte[] value) {
         bytes = ByteBuffer.allocate(bytes.position() + 2 + value.length).put(bytes.flip());
         bytes.putShort((short) value.length).put(value);

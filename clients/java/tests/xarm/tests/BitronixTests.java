@@ -55,7 +55,7 @@ final class BitronixTests implements Suite {
         manager = started(tests.folder());
         tests.test("Bitronix commits over two servers, one of them killed 30 times: the sums hold", this::killed);
         System.out.println("java: seed " + seed + ": " + commits + " transfers were committed and " + rollbacks + " rolled back, and "
-                + recovered + " branches were in doubt behind a kill");
+                + recovered + " branches were in doubt after a kill");
         manager.shutdown();
         bank.close();
         shop.close();

@@ -57,7 +57,7 @@ final class BrokenTests implements Suite {
         tests.test("a prepare whose request is cut is asked again", this::prepareRequestCut);
         tests.test("a commit whose reply is cut was done, and is XAER_NOTA", this::commitCut);
         tests.test("a commit whose request is cut is asked again", this::commitRequestCut);
-        tests.test("a commit in one phase whose reply is cut, behind such an end, doesn't become a rollback", this::onePhaseCut);
+        tests.test("a commit in one phase whose reply is cut, after such an end, doesn't become a rollback", this::onePhaseCut);
         tests.test("a rollback whose reply is cut was done, and is XAER_NOTA", this::rollbackCut);
         tests.test("recover whose reply is cut is asked again", this::recoverCut);
         tests.test("a completion before the old session's hang-up is asked again", this::beforeHangUp);

@@ -42,7 +42,7 @@ final class CodeTests implements Suite {
         resource = connection.getXAResource();
         tests.test("a late write is XA_RBTRANSIENT, prepare tells it, and the rollback is XA_OK", this::late);
         tests.test("a busy read is XA_RETRY, until the other branch is completed", this::busy);
-        tests.test("a branch writes 256 keys, and goes on behind one more", this::tooManyKeys);
+        tests.test("a branch writes 256 keys, and goes on after one more", this::tooManyKeys);
         tests.test("a known XID is XAER_DUPID, at work and prepared", this::known);
         tests.test("an unknown XID is XAER_NOTA", this::unknown);
         tests.test("what doesn't fit is XAER_PROTO", this::outOfOrder);
@@ -70,7 +70,7 @@ final class CodeTests implements Suite {
         other.getXAResource().start(reader, TMNOFLAGS);
         refusal(XA_RETRY, Detail.BUSY, () -> records.get(text("busy")));
         resource.commit(writer, false);
-        Expect.holds(records.get(text("busy")) != null, "it is read behind the commit");
+        Expect.holds(records.get(text("busy")) != null, "it is read after the commit");
         other.getXAResource().end(reader, TMSUCCESS);
         other.getXAResource().commit(reader, true);
     }

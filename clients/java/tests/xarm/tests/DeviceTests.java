@@ -158,7 +158,7 @@ final class DeviceTests implements Suite {
         List<byte[]> faults = List.of(
                 changed(well, 4, 2), // the version
                 changed(well, 18, 5), // the kind
-                Fake.reply(XA_OK, Detail.NOTHING, 0, new byte[1]), // a byte behind it
+                Fake.reply(XA_OK, Detail.NOTHING, 0, new byte[1]), // a byte after it
                 Fake.reply(XA_OK, Detail.NOTHING, 1, new byte[8]), // a number, where none is answered
                 Fake.reply(XA_OK, Detail.NOTHING, 1, new byte[7]), // a number that is cut
                 Fake.reply(XA_OK, Detail.NOTHING, 2, new byte[] {64, 1}), // a value of 16,385 bytes
@@ -210,7 +210,7 @@ final class DeviceTests implements Suite {
                 Fake.reply(XA_OK, Detail.NOTHING, 0, NO_BODY), // a success without a body
                 hello(XAER_INVAL, 1, 3), // a refusal with one
                 Fake.reply(XA_OK, Detail.NOTHING, 8, new byte[11]), // one that is cut
-                Fake.reply(XA_OK, Detail.NOTHING, 8, new byte[13])); // a byte behind it
+                Fake.reply(XA_OK, Detail.NOTHING, 8, new byte[13])); // a byte after it
         try (Fake server = new Fake()) {
             for (byte[] fault : faults) {
                 server.hello(fault);

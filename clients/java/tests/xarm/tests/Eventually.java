@@ -9,7 +9,7 @@ final class Eventually {
 
     private Eventually() {}
 
-    /** A call throws a code, perhaps behind some times that it throws another one. */
+    /** A call throws a code, perhaps after some times that it throws another one. */
     static void code(int wanted, int before, Tests.Body body) throws Exception {
         for (int i = 0; i < TRIES; i++) {
             try {

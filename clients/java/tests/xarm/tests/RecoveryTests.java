@@ -42,7 +42,7 @@ final class RecoveryTests implements Suite {
         tests.test("kill -9 between prepare and commit: it is listed, and committed", this::killedPrepared);
         tests.test("kill -9 between prepare and commit: it is committed by a new connection", this::killedPreparedAndLeft);
         tests.test("kill -9 under the work: end doesn't throw, prepare tells it, and the rollback is XA_OK", this::killedAtWork);
-        tests.test("kill -9 behind the end: prepare and rollback are XAER_NOTA", this::killedEnded);
+        tests.test("kill -9 after the end: prepare and rollback are XAER_NOTA", this::killedEnded);
         tests.test("kill -9 of one of two servers: both halves of a transfer are committed", this::killedOne);
         tests.test("recover lists 300 branches in its first call", this::pages);
         bank.close();

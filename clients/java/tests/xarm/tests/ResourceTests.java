@@ -58,7 +58,7 @@ final class ResourceTests implements Suite {
         tests.test("a branch is suspended and resumed", this::suspended);
         tests.test("a second session joins a branch", this::joined);
         tests.test("two sessions of one global transaction are two branches", this::twoBranches);
-        tests.test("an end with TMFAIL is told by prepare, and the rollback behind it is XA_OK", this::failed);
+        tests.test("an end with TMFAIL is told by prepare, and the rollback after it is XA_OK", this::failed);
         tests.test("recover is a scan, whose first call lists all", this::scans);
         tests.test("a branch runs out of time, and its rollback is told XA_RBTIMEOUT", this::timeLimit);
         tests.test("an XID of another class is taken, and its parts compared", this::xids);
