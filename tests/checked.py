@@ -45,7 +45,7 @@ def behind(file):
     left = logs.left_out(file)[1]
     xids = [(body[0], body[1 : 7 + body[5] + body[6]]) for body in left if body[0] in (2, 4, 5)]
     prepared = {xid for kind, xid in xids if kind == 2} - {xid for kind, xid in xids if kind != 2}
-    return f", {len(left)} records after it, {len(prepared)} branches prepared in them" if left else ""
+    return f", {len(left)} records behind it, {len(prepared)} branches prepared in them" if left else ""
 
 
 def line(name, file, most, is_current):
