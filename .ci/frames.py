@@ -21,7 +21,7 @@ FLAGS = {
     "TMJOIN": 0x00200000,
     "TMMIGRATE": 0x00100000,
 }
-DETAILS = ("Nothing", "Memory", "Device", "Busy", "Late", "Limit", "Frame", "LogFull")
+DETAILS = ("Nothing", "Memory", "Device", "Busy", "Late", "Limit", "Frame", "LogFull", "Access")
 STATES = ("", "working", "prepared", "committed", "rolledback")
 # The operation of each call, and what its words are; a number is that many bytes.
 CALLS = {

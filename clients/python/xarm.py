@@ -65,7 +65,7 @@ class Code(enum.IntEnum):
 
 
 # What a refusal is about, beside its code; which flags a call may have; and how a branch stands.
-Detail = enum.IntEnum("Detail", "Nothing Memory Device Busy Late Limit Frame LogFull", start=0)
+Detail = enum.IntEnum("Detail", "Nothing Memory Device Busy Late Limit Frame LogFull Access", start=0)
 State = enum.IntEnum("State", "working prepared committed rolledback")
 
 

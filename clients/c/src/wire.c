@@ -15,7 +15,7 @@ const char *operation_name(enum operation operation)
 
 const char *detail_name(int detail)
 {
-    static const char *const names[] = {"Nothing", "Memory", "Device", "Busy", "Late", "Limit", "Frame", "LogFull"};
+    static const char *const names[] = {"Nothing", "Memory", "Device", "Busy", "Late", "Limit", "Frame", "LogFull", "Access"};
     return names[detail];
 }
 

@@ -44,7 +44,7 @@ more a b = at (nat_lt a b) refl (a == b) refl
     at false e true f h = absurd (cc h)
     at false e false f h = grind (arith, nat_tests, e, f)
 
--- behind a greater timestamp nothing is found
+-- after a greater timestamp nothing is found
 pub above : {X : Type 0} (a t : ℕ) (es : List (ℕ × X)) → t ≤ a → Each (λ k. nat_cmp a k ≡ Less) (keys_of es) → found t es ≡ None
 above a t [] le h = refl
 above a t (e ∷ es) le h =

@@ -1,4 +1,4 @@
--- One more committed write behind those of its timestamp, of a key above all before it: what the branches have then.
+-- One more committed write after those of its timestamp, of a key above all before it: what the branches have then.
 use Rattle.std.proofs.Common.{◌≡◌, ℕ, ◌<◌, Bool, true, false, ◌==◌, List, [], ◌∷◌, ◌++◌, Option, Some, None, refl, ap, ◌∙◌, length-append, arith}
 use Rattle.std.specs.Prelude.{nat_lt, bytes_eq, option_map, if◌then◌else◌, Vec}
 use Rattle.std.specs.Option.{option_or, option_map_or}

@@ -177,7 +177,7 @@ gathered_more r e rest bs last is g =
         let behind : found_at key (e ∷ rest) ≡ found_at key rest = rw (is_eq-slice_cmp key e.0.items, back) refl in
         with_last_other e.0.items key last bs k ∙ (before ∙ ap (λ o. unless o (told h t key)) behind)
 
--- and behind the last
+-- and after the last
 
 pub gathered_all : (r : Records) (rest : Entries) (bs : List CommittedBranch) → rest ≡ [] → IsGathered r rest bs → (h : Accesses) → StandsFor h r → AreCommitted h bs
 gathered_all r rest bs none g h stood = record {

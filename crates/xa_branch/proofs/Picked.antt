@@ -133,7 +133,7 @@ picked_next {V} part all met rest x l v old new some next copied set ordered h =
     ∙ ap (λ (o : Option V). if is_eq (xid_cmp q x) then o else get xid_cmp old q) (sym some))))
     ordered (subst (λ (es : List (Triple × Lasting)). IsPicked part all es old) next h)
 
--- and behind the last
+-- and after the last
 
 abbrev one_of : Triple → Direction → Decided
 one_of q d = record { xid = q; direction = d }

@@ -16,4 +16,6 @@ pub enum Detail {
     Frame,
     /// The log has no room for the record.
     LogFull,
+    /// Whoever asks may not ask for this. Nothing changed.
+    Access,
 }

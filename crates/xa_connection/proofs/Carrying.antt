@@ -27,7 +27,7 @@ use Rattle.xa_connection.specs.Carries.{Carries, CarriesControl, CarriesLaw, Del
 pub idle-delivers : (replies : List Reply) (sent : List ℕ) → sent ≡ frames_of replies → Delivers replies sent []
 idle-delivers replies sent is = record { in_order = sym is ∙ sym (append-nil sent); last = inl refl }
 
--- a reply is to be sent behind others that were
+-- a reply is to be sent after others that were
 more-delivers : (replies : List Reply) (reply : Reply) (sent : List ℕ) → sent ≡ frames_of replies → Delivers (replies ++ reply ∷ []) sent (reply_frame reply)
 more-delivers replies reply sent is = record {
   in_order = sym (ap (λ (bs : List ℕ). bs ++ reply_frame reply) is ∙ frames-behind replies (reply ∷ []) (reply_frame reply) (sym (append-nil (reply_frame reply))));
@@ -172,7 +172,7 @@ carries-answered called contents replies fed sent answering.Memory c c' d e h t 
     (λ goes. sends-by c'.end (Some Memory) (replies ++ t.1 ∷ []) c'.input sent c'.output [] t.5 t.4 (replies, t.1, [], c'.input, refl, inl (refl, refl), told, refl))
     (λ b is shut. sends-by c'.end (Some Memory) replies c'.input sent c'.output [] t.5 t.4 (replies, t.1, b.0, b.1, b.3, inr (b.2, ap (λ (r : Reply). replies ++ r ∷ []) is), told, refl))
 
--- what the server itself is asked stands behind the contents that were answered
+-- what the server itself is asked stands after the contents that were answered
 control-fed : (contents : List (List ℕ)) (fed input content rest : List ℕ) → fed ≡ flat_map frame contents ++ input → input ≡ frame content ++ rest
     → fed ≡ flat_map frame (contents ++ content ∷ []) ++ rest
 control-fed contents fed input content rest is parts =

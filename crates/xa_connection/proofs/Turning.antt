@@ -34,7 +34,7 @@ pub none-left : (n : ℕ) (bytes : List ℕ) → n ≡ length bytes → n ≤ 0 
 none-left n [] is none = refl
 none-left n (b ∷ bytes) is none = absurd (omega (arith, is, none))
 
--- the content behind a length
+-- the content after a length
 pub content-is : (count : ℕ) (front input : List ℕ) → front ≡ input → take (4 + count - 4) (drop 4 front) ≡ take count (drop 4 input)
 content-is count front input is =
     let same : 4 + count - 4 ≡ count = omega arith in

@@ -50,7 +50,7 @@ Owed Idle answer c = ⊥
 Owed Answered answer c = (c.output ≡ answer_frame answer) × (c.end ≡ None)
 Owed Wanted answer c = (c.output ≡ []) × (c.end ≡ Some Memory)
 
--- behind contents and their replies, which were all sent, the server answered what it was asked itself
+-- after contents and their replies, which were all sent, the server answered what it was asked itself
 pub record CarriesControl (contents : List (List ℕ)) (replies : List Reply) (fed sent : List ℕ) (control : Control) (answer : Answer)
     (answering : Answering) (c : Connection) : Type 0 where
   pub short : All IsShort contents
@@ -62,7 +62,7 @@ pub record CarriesControl (contents : List (List ℕ)) (replies : List Reply) (f
   pub bounded : length c.input ≤ MOST_INPUT
 
 -- so it begins, and stays with each call; an answer adds what the door was asked and has answered, if anything; an answer
--- of the server's own comes behind all that was carried, and what is carried may be told anew from any moment at which
+-- of the server's own comes after all that was carried, and what is carried may be told anew from any moment at which
 -- nothing has to be sent, as once that answer was
 pub record CarriesLaw {D : Type 0} (called : D → Question → Reply → D → Type 0) : Type 0 where
   pub begins : Carries [] [] [] [] new_connection

@@ -1,4 +1,4 @@
--- Numbers in bytes, one behind another, and how they are read.
+-- Numbers in bytes, one after another, and how they are read.
 use Rattle.std.proofs.Common.{◌≡◌, ℕ, ◌+◌, ◌*◌, ◌^◌, ◌<◌, ◌≤◌, List, [], ◌∷◌, ◌++◌, length, drop, All, Option, Some, None, refl, sym, ap, ◌∙◌, append-nil, append_assoc, arith, subst}
 use Rattle.std.specs.Int.{w16, w32, w64, to_be_bytes}
 use Rattle.std.specs.Prelude.{IfSome, IsSome}
@@ -47,7 +47,7 @@ same_numbers (m ∷ ms) (n ∷ ns) a b e =
     let rest : ms ≡ ns = same_numbers ms ns (All-tail Small m ms a) (All-tail Small n ns b) p.1 in
     cc (p.0, rest)
 
--- a count that was read, and the numbers behind it
+-- a count that was read, and the numbers after it
 pub counted : (bytes : List ℕ) (count : ℕ) (rest ns : List ℕ) → length ns ≤ 1024 → number_at w16 bytes ≡ Some (count, rest)
     → bytes ≡ counted_bytes (to_be_bytes w64) ns → (count ≡ length ns) × (rest ≡ spell ns)
 counted bytes count rest ns few e is =
@@ -69,7 +69,7 @@ eight_alone bytes n rest are e none =
     let p = eight.found bytes n rest are e in
     (p.0 ∙ ap (λ (bs : List ℕ). to_be_bytes w64 n ++ bs) none ∙ append-nil (to_be_bytes w64 n), p.1)
 
--- a number, and what stands behind it
+-- a number, and what stands after it
 pub four_front : (bytes : List ℕ) (n : ℕ) (rest more : List ℕ) → AreBytes bytes → number_at w32 bytes ≡ Some (n, rest) → rest ≡ more
     → (bytes ≡ to_be_bytes w32 n ++ more) × (n < 2 ^ 32)
 four_front bytes n rest more are e is =

@@ -8,7 +8,7 @@ use Rattle.xa_fields.specs.Reading.{name_at}
 use Rattle.xa_fields.proofs.Fields.{name}
 use Rattle.xa_fields.proofs.Results.{ok_is}
 
--- what is read with nothing behind it is all
+-- what is read with nothing after it is all
 pub all_of : (bytes : List ℕ) (x : Triple) (rest : List ℕ) → AreBytes bytes → name_at bytes ≡ Ok (x, rest) → rest ≡ [] → (bytes ≡ bytes_of x) × IsWithinLimits x
 all_of bytes x rest are e none =
     let p = name.found bytes x rest are e in

@@ -45,7 +45,7 @@ fn put_numbers(out: &mut Vec<u8>, numbers: &[u64]) -> Result<(), AllocError>
     Ok(())
 }
 
-// The numbers, behind how many they are.
+// The numbers, after how many they are.
 fn put_counted(out: &mut Vec<u8>, numbers: &Numbers) -> Result<(), AllocError>
     ensures bytes { OnOk result (out.new.items ≡ out.old.items ++ counted_bytes (to_be_bytes w64) numbers.now) }
     ensures holds { OnOk result (All (λ n. n < 2 ^ 64) numbers.now) }

@@ -69,7 +69,7 @@ fn plain(reply: Reply) -> Option<Answer>
     }
 }
 
-// What the server speaks, behind the kind of the body.
+// What the server speaks, after the kind of the body.
 fn greeted(rest: &[u8]) -> Option<Answer>
     ensures found { IfSome result (SpellsAnswer (well_bytes ++ 8 ∷ rest.now)) }
     ensures only { (a : Answer) → SpellsAnswer (well_bytes ++ 8 ∷ rest.now) a → result ≡ Some a }
@@ -77,7 +77,7 @@ fn greeted(rest: &[u8]) -> Option<Answer>
     Some(Answer::Hello(hello_of(rest)?))
 }
 
-// What it has counted, behind the kind of the body.
+// What it has counted, after the kind of the body.
 fn measured(alloc: Global, rest: &[u8]) -> Result<Option<Answer>, AllocError>
     ensures found { IfOk result (λ answer. IfSome answer (SpellsAnswer (well_bytes ++ 9 ∷ rest.now))) }
     ensures only { (a : Answer) → SpellsAnswer (well_bytes ++ 9 ∷ rest.now) a → IfOk result (λ answer. answer ≡ Some a) }
@@ -88,7 +88,7 @@ fn measured(alloc: Global, rest: &[u8]) -> Result<Option<Answer>, AllocError>
     }
 }
 
-// The sessions that it lists, behind the kind of the body.
+// The sessions that it lists, after the kind of the body.
 fn listed(alloc: Global, rest: &[u8]) -> Result<Option<Answer>, AllocError>
     ensures found { IfOk result (λ answer. IfSome answer (SpellsAnswer (well_bytes ++ 10 ∷ rest.now))) }
     ensures only { (a : Answer) → SpellsAnswer (well_bytes ++ 10 ∷ rest.now) a → IfOk result (λ answer. answer ≡ Some a) }
@@ -99,7 +99,7 @@ fn listed(alloc: Global, rest: &[u8]) -> Result<Option<Answer>, AllocError>
     }
 }
 
-// The numbers behind how many they are.
+// The numbers after how many they are.
 fn counted(alloc: Global, rest: &[u8]) -> Result<Option<Numbers>, AllocError>
     ensures found { IfOk result (λ numbers. IfSome numbers (IsCounted rest.now)) }
     ensures only { (ns : List ℕ) → IsCounted rest.now ns → IfOk result (λ numbers. numbers ≡ Some ns) }

@@ -1,4 +1,4 @@
--- One exchange, and one behind others.
+-- One exchange, and one after others.
 use Rattle.std.proofs.Common.{◌≡◌, ◌⊎◌, ℕ, ◌+◌, ◌<◌, ◌≤◌, ◌^◌, List, [], ◌∷◌, ◌++◌, length, Option, Some, None, refl, sym, ap, ◌∙◌, inl, inr, append_assoc, append-nil, arith, subst, unwrap_or, Result, Ok, Err}
 use Rattle.std.specs.Result.{result_err}
 use Rattle.std.specs.List.{flat_map}
@@ -25,7 +25,7 @@ answers-append called d m e [] ds (y ∷ rs) qs h k = absurd h
 answers-append called d m e (x ∷ cs) ds [] qs h k = absurd h
 answers-append called d m e (x ∷ cs) ds (y ∷ rs) qs h k = (h.0, h.1, answers-append called h.0 m e cs ds rs qs h.2 k)
 
--- what was written behind other replies
+-- what was written after other replies
 pub frames-behind : (rs qs : List Reply) (written : List ℕ) → written ≡ frames_of qs → frames_of rs ++ written ≡ frames_of (rs ++ qs)
 frames-behind rs qs written h = ap (λ (bs : List ℕ). frames_of rs ++ bs) h ∙ sym (flat_map-append reply_frame rs qs)
 
@@ -58,11 +58,11 @@ ends-behind (Some Memory) rs qs read written h = (
   elim h.2 [ inl k ↦ inl (k.0, ap (λ (xs : List Reply). rs ++ xs) k.1) | inr k ↦ inr (k.0, owes-last rs qs h.0 k.0 read k.1) ],
 )
 
--- fewer frames behind others
+-- fewer frames after others
 fewer : (cs ds : List (List ℕ)) (most more all : ℕ) → length cs ≤ most → most + more ≤ all → length ds < more → length (cs ++ ds) < all
 fewer cs ds most more all few within less = omega (arith, length-append cs ds, few, within, less)
 
--- an exchange behind others
+-- an exchange after others
 pub talks-behind : {D : Type 0} (called : D → Question → Reply → D → Type 0) (most more all : ℕ) (end : Option Served) (i j k o p q : Option (List ℕ)) (d m e : D)
     → most + more ≤ all → Talks called most None i j o p d m → Talks called more end j k p q m e → Talks called all end i k o q d e
 talks-behind called most more all end i j k o p q d m e within s t =
@@ -127,7 +127,7 @@ talks-cut : {D : Type 0} (called : D → Question → Reply → D → Type 0) (m
     → length part < 4 → (part ≡ []) ⊎ (0 < most) → Consumes i j part → Talks called most (Some ReadFault) i j o o d d
 talks-cut called most i j o d part less beyond h = alone called most ReadFault i j o o d part [] h (nothing_appended o) (inl less, refl) beyond (λ is. cc)
 
--- by the end of a conversation: behind as many frames as it may have it ends too
+-- by the end of a conversation: after as many frames as it may have it ends too
 pub talks-bound : {D : Type 0} (called : D → Question → Reply → D → Type 0) (most : ℕ) (end : Result (Unit {0}) Served) (i j o p : Option (List ℕ)) (d e : D)
     → Talks called most (end_of end) i j o p d e → Talks called most (Some (unwrap_or (result_err end) ReadFault)) i j o p d e
 talks-bound called most (Ok x) i j o p d e s =

@@ -1,4 +1,4 @@
--- All of a content: what stands behind the version, and what follows where each value is spelled and read in one way.
+-- All of a content: what stands after the version, and what follows where each value is spelled and read in one way.
 use Rattle.std.proofs.Common.{◌≡◌, ℕ, ◌≤◌, Bool, true, false, cond, eqb, ltb, List, [], ◌∷◌, length, Option, Some, None, Result, Ok, Err, refl, sym, ap, subst, ◌∙◌, arith}
 use Rattle.std.proofs.lemmas.Bool.{le-ltb}
 use Rattle.xa_bytes.proofs.Digits.{IsBytes, IsBytes-rest}
@@ -80,7 +80,7 @@ module _ {A : Type 0} {at : List ℕ → Result A FrameFault} {IsLimited Fits : 
       ∙ ap (λ (r : Result (List ℕ) FrameFault). r >>= at) (versioned_again (spell x) (short x h.limits h.holds))
       ∙ F.again (spell x) x (record { limits = h.limits; holds = h.holds; bytes_are = refl })
 
-  -- a content that stands behind the version
+  -- a content that stands after the version
   pub with_version : IsContent A (λ bytes. versioned_at bytes >>= at) (Spells IsLimited Fits (λ x. 1 ∷ spell x)) (fault_unless_long rule)
   with_version = record { takes = behind_takes; again = behind_again; fault = versioned_fault at rule F.fault }
 

@@ -35,7 +35,7 @@ rest-with_first : {A : Type 0} (x : A) (read : Result (List A × List ℕ) Frame
 rest-with_first x (Ok y) = refl
 rest-with_first x (Err e) = refl
 
--- ---- what stands behind them
+-- ---- what stands after them
 
 pub passed_one : {A : Type 0} (f : Reads A) (count i : ℕ) (bytes : List ℕ) (x : A) (after : List ℕ) (total : Result (List ℕ) FrameFault) → i < count → f bytes ≡ Ok (x, after)
     → rest_of (each_at f (count - i) bytes) ≡ total → rest_of (each_at f (count - (i + 1)) after) ≡ total

@@ -32,7 +32,7 @@ use Rattle.xa_frame.specs.Reading.{Reads, rest_of, number_at, info_at, key_at, v
 use Rattle.xa_frame.proofs.Digits.{done, number_takes, number_again, number_fault}
 use Rattle.xa_frame.proofs.FieldFaults.{info_fault, key_fault, value_fault, direction_fault, name_fault}
 
--- a reader, the spelling of what it reads, what it reads, and what stands behind it
+-- a reader, the spelling of what it reads, what it reads, and what stands after it
 pub record IsField (A : Type 0) (at : Reads A) (spell : A → List ℕ) (fits : A → Type 0) (after : After) : Type 0 where
   pub takes : (bytes : List ℕ) (x : A) (rest : List ℕ) → IsBytes bytes → at bytes ≡ Ok (x, rest) → Takes bytes (spell x) rest × fits x
   pub again : (x : A) (rest : List ℕ) → fits x → at (spell x ++ rest) ≡ Ok (x, rest)
@@ -347,4 +347,5 @@ about =
       | detail.Limit ↦ refl
       | detail.Frame ↦ refl
       | detail.LogFull ↦ refl
+      | detail.Access ↦ refl
     ])

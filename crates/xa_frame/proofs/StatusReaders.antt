@@ -1,4 +1,4 @@
--- A status as a field: ten numbers, one behind another.
+-- A status as a field: ten numbers, one after another.
 use Rattle.std.proofs.Common.{◌≡◌, ℕ, ◌+◌, ◌-◌, ◌^◌, ◌<◌, ◌≤◌, Bool, true, false, cond, ltb, List, ◌++◌, length, drop, Ok, Err, refl, sym, ◌∙◌, arith}
 use Rattle.std.specs.Int.{w64, to_be_bytes}
 use Rattle.std.proofs.lemmas.Bool.Decides.{nat_tests}

@@ -32,9 +32,9 @@ HasNumbers =
     ≡ None ∷ Some call.Open ∷ Some call.Tick ∷ None ∷ None ∷ Some call.Trim ∷ Some call.Branches ∷ None ∷ [])
     × (map detail_byte
     (detail.Nothing ∷ detail.Memory ∷ detail.Device ∷ detail.Busy ∷ detail.Late ∷ detail.Limit ∷ detail.Frame
-    ∷ detail.LogFull ∷ [])
-    ≡ 0 ∷ 1 ∷ 2 ∷ 3 ∷ 4 ∷ 5 ∷ 6 ∷ 7 ∷ [])
-    × (map detail_numbered (0 ∷ 7 ∷ 8 ∷ []) ≡ Some detail.Nothing ∷ Some detail.LogFull ∷ None ∷ [])
+    ∷ detail.LogFull ∷ detail.Access ∷ [])
+    ≡ 0 ∷ 1 ∷ 2 ∷ 3 ∷ 4 ∷ 5 ∷ 6 ∷ 7 ∷ 8 ∷ [])
+    × (map detail_numbered (0 ∷ 8 ∷ 9 ∷ []) ≡ Some detail.Nothing ∷ Some detail.Access ∷ None ∷ [])
     × (map direction_byte (direction.Commit ∷ direction.Rollback ∷ []) ≡ 1 ∷ 2 ∷ [])
     × (map state_byte (state.Working ∷ state.Prepared ∷ state.Committed ∷ state.RolledBack ∷ []) ≡ 1 ∷ 2 ∷ 3 ∷ 4 ∷ [])
     × (map state_numbered (0 ∷ 1 ∷ 4 ∷ 5 ∷ []) ≡ None ∷ Some state.Working ∷ Some state.RolledBack ∷ None ∷ [])
@@ -194,7 +194,7 @@ FaultyReplies =
     × (fault_of_reply listed_bytes ≡ None)
     × (fault_of_reply day_bytes ≡ None)
     -- detail 8, kind 7, 257 XIDs, 257 branches
-    × (fault_of_reply (1 ∷ 0 ∷ 0 ∷ 0 ∷ 0 ∷ 8 ∷ []) ≡ Some Field)
+    × (fault_of_reply (1 ∷ 0 ∷ 0 ∷ 0 ∷ 0 ∷ 9 ∷ []) ≡ Some Field)
     × (fault_of_reply (front_bytes ++ 7 ∷ []) ≡ Some Field)
     × (fault_of_reply (front_bytes ++ 4 ∷ 1 ∷ 1 ∷ []) ≡ Some Field)
     × (fault_of_reply (front_bytes ++ 5 ∷ 1 ∷ 1 ∷ []) ≡ Some Field)

@@ -120,11 +120,12 @@ detail_byte detail.Late = 4
 detail_byte detail.Limit = 5
 detail_byte detail.Frame = 6
 detail_byte detail.LogFull = 7
+detail_byte detail.Access = 8
 
 abbrev pub details : List Detail
 details =
     detail.Nothing ∷ detail.Memory ∷ detail.Device ∷ detail.Busy ∷ detail.Late ∷ detail.Limit ∷ detail.Frame
-    ∷ detail.LogFull ∷ []
+    ∷ detail.LogFull ∷ detail.Access ∷ []
 
 -- the detail with this number
 abbrev pub detail_numbered : ℕ → Option Detail

@@ -102,6 +102,7 @@ pub(crate) fn detail_number(detail: Detail) -> u8
         Detail::Limit => 5,
         Detail::Frame => 6,
         Detail::LogFull => 7,
+        Detail::Access => 8,
     }
 }
 
@@ -118,6 +119,7 @@ pub(crate) fn detail_of(byte: u8) -> Option<Detail>
         5 => Some(Detail::Limit),
         6 => Some(Detail::Frame),
         7 => Some(Detail::LogFull),
+        8 => Some(Detail::Access),
         _ => None,
     }
 }

@@ -15,7 +15,7 @@ use Rattle.xa_manager.specs.Believed.Opening.{LogRefused}
 use Rattle.xa_manager.specs.Believed.Refused.{IsUnwritten, LeavesFinding}
 
 module _ {D : Type 0} (disks : Ghosts D) where
-  -- one look behind another
+  -- one look after another
   same_passes : (a b c : D) → TimePasses disks Same a b → TimePasses disks Same b c → TimePasses disks Same a c
   same_passes a b c p q = then Same (λ x y z s t. t ∙ s) _ _ _ _ _ _ _ _ _ p q
 
@@ -23,7 +23,7 @@ module _ {D : Type 0} (disks : Ghosts D) where
       → IsUnwritten disks a c
   unwritten a b c same p later q = record { seen = later ∙ same; time = same_passes a b c p q }
 
-  -- a log is read behind a look at the lengths
+  -- a log is read after a look at the lengths
   pub finding_read : (a b c a' b' c' : D) → disks.seen b ≡ disks.seen a → TimePasses disks Same a b → disks.seen b' ≡ disks.seen a' → TimePasses disks Same a' b'
       → disks.seen c ≡ disks.seen b → TimePasses disks Same b c → disks.seen c' ≡ disks.seen b' → TimePasses disks Same b' c'
       → LeavesFinding disks a c a' c'

@@ -41,7 +41,7 @@ use Rattle.xa_log.specs.declared.left_out.TheConstants.{MOST_GROUP}
 use Rattle.xa_manager.proofs.GroupFacts.{prepares_distinct}
 use Rattle.xa_manager.proofs.Taking.{stays_up, tables_up}
 
--- ---- lists, and one more behind them
+-- ---- lists, and one more after them
 
 all_more : {A : Type 0} (P : A → Type 0) (xs : List A) (x : A) → AllByRecursion P xs → P x → AllByRecursion P (xs ++ x ∷ [])
 all_more P [] x h last = (last, tt)

@@ -247,7 +247,7 @@ gathers_next m xid t writes listed before rest made after steps inserts copied t
     (gathers_more ps rest (xid, t) made (record { xid = xid; writes = writes }) (recoverable_durable s st.recoverable).prepared refl (λ p found time. copied ∙ told_held m s xid p t listed st found time told)
     (subst (λ (es : List (Triple × ℕ)). Gathers ps es made) steps (gathers s st)))
 
--- and behind the last
+-- and after the last
 
 prepares_strict : IsStrict prepares_before
 prepares_strict = record { never = λ x. never x.timestamp }

@@ -31,7 +31,7 @@ none_left m (p ∷ ps) none = (none p.timestamp, none_left m ps none)
 pub keys_first : (m : Records) (ps : List PreparedBranch) → PreparedHaveKeys ps → Pairwise prepares_before ps → NoneHasWritten m → KeysUpto ps m
 keys_first m ps limits apart none = record { limits = limits; apart = apart; unwritten = none_left m ps none; keys = none_keys m none }
 
--- behind one more
+-- after one more
 
 left_others : (m m' : Records) (p : PreparedBranch) (ps : List PreparedBranch) → KeepsOwnBut p.timestamp m m' → AllByRecursion (λ e. prepares_before p e ≡ true) ps
     → AllByRecursion (λ q. own_of q.timestamp m ≡ []) ps → AllByRecursion (λ q. own_of q.timestamp m' ≡ []) ps

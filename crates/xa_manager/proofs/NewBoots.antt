@@ -33,7 +33,7 @@ idle_unused : (ts : List ℕ) (bs : List Branch) → AllByRecursion (λ b. is_wo
 idle_unused ts [] h = tt
 idle_unused ts (b ∷ bs) h = (λ works. absurd (cc (works, h.0)), idle_unused ts bs h.1)
 
--- the snapshot of what lasted stands behind them
+-- the snapshot of what lasted stands after them
 same_snapshot : (d : Durable) (next : ℕ) (s : State) → IsRestored d next s → snapshot (durable s) next ≡ snapshot d next
 same_snapshot d next s it = ap (λ (x : Durable). snapshot x next) it.lasts
 

@@ -38,7 +38,7 @@ pub record Finds {D : Type 0} (disks : Ghosts D) (found : List (List ℕ)) (log 
   pub state : (state : LogState) → IsIn disks state log → MayFind state found × Pair disks found stood log'
   pub other : (state : LogState) → IsIn disks state log → HasOther disks log → HasOther disks log'
 
--- the log still stands behind the state
+-- the log still backs the state
 pub stands_found : {D : Type 0} (disks : Ghosts D) (found : List (List ℕ)) (log log' : LogView D) (s : State)
     → Finds disks found log log' → LogStandsFor disks log s → LogStandsFor disks log' s
 stands_found disks found log log' s k st =

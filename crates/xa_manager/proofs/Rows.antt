@@ -29,7 +29,7 @@ refused_is o s a reply e = ap (λ (x : Option Reply). unless x s a) e
 pub passed_is : (o : Option Reply) (s : State) (a : Answer) → o ≡ None → unless o s a ≡ a
 passed_is o s a e = ap (λ (x : Option Reply). unless x s a) e
 
--- a row of a session's work for a branch, behind its refusals and the branch's mark, with what it leaves of a marked one
+-- a row of a session's work for a branch, after its refusals and the branch's mark, with what it leaves of a marked one
 pub record Work : Type 0 where
   pub refusal : State → Option Reply
   pub xid : Triple
@@ -67,7 +67,7 @@ module _ (m m' : View) (w : Work) (o : Option Reply) (none : o ≡ None) (free :
       follows_by m m' (work_by w) reply served
       (λ s st. let x = h s st (passes s st) in (w.go s, goes_on_is (w.refusal s) (mark_in (known_as s w.xid)) s (w.left s) (w.go s) (passes s st) (is s st ∙ unmarked), x.0, x.1))
 
--- a second refusal behind those
+-- a second refusal after those
 
 pub turned_away : (m : View) (o : Option Reply) (s : State) (a : Answer) (reply : Reply) → Some reply ≡ o → StandsFor m s → ((unless o s a).reply ≡ reply) × (IsRecoverable (unless o s a).after → StandsFor m (unless o s a).after)
 turned_away m o s a reply e st = rw (← e) (refl, λ recoverable. st)

@@ -239,7 +239,7 @@ module _ {D : Type 0} (disks : Ghosts D) where
   format_after log log' group Refused h = h.moves.1
   format_after log log' group Lost h = h.moves.1
 
-  -- the records behind the state then, whatever the files hold
+  -- the records that back the state then, whatever the files hold
 
   further : (end : ℕ) (r : Record) (rs : List Record) → end ≡ 8 + sizes (r ∷ rs) → nat_eq end 8 ≡ false
   further end r rs e = let more : 8 < end = omega (arith, e) in grind (arith, nat_tests)

@@ -15,7 +15,7 @@ use Rattle.xa_model.specs.Durable.{Durable, CommittedBranch, PreparedBranch}
 use Rattle.xa_branch.specs.Checkpointed.{decided_as}
 use Rattle.xa_recovery.specs.Durable.{as_committed, as_decided}
 
--- entries that come in order are put behind those that are there
+-- entries that come in order are put after those that are there
 
 at_head : (k : ℕ) (xs ys : List ℕ) (P : ℕ → Type 0) → Each P (xs ++ k ∷ ys) → P k
 at_head k [] ys P h = h.0

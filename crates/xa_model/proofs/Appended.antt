@@ -1,4 +1,4 @@
--- One record more: the log that stands behind a state, and the record that the state logs, stand behind what comes of it.
+-- One record more: the log that backs a state, and the record that the state logs, back what comes of it.
 use Rattle.std.proofs.Common.{◌≡◌, ℕ, ◌+◌, ◌<◌, ◌≤◌, ◌==◌, true, false, cond, Ok, Err, List, [], ◌∷◌, ◌++◌, length, Some, refl, ap, sym, ◌∙◌, subst, arith}
 use Rattle.std.specs.List.{AllByRecursion}
 use Rattle.std.proofs.lemmas.Bool.Decides.{nat_tests}

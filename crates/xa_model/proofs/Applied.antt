@@ -38,7 +38,7 @@ prepared_time b (Working x work) c e = absurd (cc e)
 prepared_time b Committed c e = absurd (cc e)
 prepared_time b (Prepared x) c e = let same : record { xid = x; timestamp = b.timestamp; writes = writes_of b.operations } ≡ c = cc e in ap (λ (d : PreparedBranch). d.timestamp) (sym same)
 
--- Branches before and behind one
+-- Branches before and after one
 
 front_above : (limit : ℕ) (front : List Branch) (b : Branch) (back : List Branch) → Descends limit (front ++ b ∷ back) → b.timestamp < limit
 front_above limit [] b back h = h.1

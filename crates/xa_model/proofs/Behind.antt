@@ -1,4 +1,4 @@
--- A record that may be logged of a state fits behind records that come to what the state would leave.
+-- A record that may be logged of a state fits after records that come to what the state would leave.
 use Rattle.std.proofs.Common.{◌≡◌, ℕ, ◌≤◌, Bool, true, false, ◌||◌, cond, Ok, Err, List, [], ◌∷◌, length, Option, Some, None, refl, ap, sym, ◌∙◌, arith}
 use Rattle.std.specs.Prelude.{find, nat_lt, option_map}
 use Rattle.std.specs.List.{list_any}

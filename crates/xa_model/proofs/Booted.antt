@@ -1,4 +1,4 @@
--- Restarts and openings: the records that are settled, and the snapshot of a new boot, stand behind the states that they lead to.
+-- Restarts and openings: the records that are settled, and the snapshot of a new boot, back the states that they lead to.
 use Rattle.std.proofs.Common.{◌≡◌, ℕ, zero, suc, ◌+◌, ◌<◌, ◌≤◌, ◌==◌, Bool, true, false, not, ◌&&◌, cond, Ok, List, [], ◌∷◌, ◌++◌, Option, Some, None, refl, ap, sym, ◌∙◌, subst, arith}
 use Rattle.std.specs.Prelude.{map, filter, option_map, nat_lt, IfSome, take}
 use Rattle.std.specs.List.{AllByRecursion}
@@ -36,7 +36,7 @@ use Rattle.xa_model.proofs.Appended.{appended_backed}
 use Rattle.xa_model.specs.Trimming.{trim_refusal, trimmed, trim_became, trim_turn}
 use Rattle.xa_frame.specs.declared.reply.Reply.{Reply}
 
--- what logs stand behind says nothing of settings, sessions, standing, the open record and the moment
+-- what logs back says nothing of settings, sessions, standing, the open record and the moment
 abbrev with_others : State → List ℕ → ℕ → List Session → List Association → Standing → List Record → ℕ → State
 with_others s name log_bytes sessions associations standing o moment = record s {
   name = name;

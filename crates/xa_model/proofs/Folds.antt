@@ -1,4 +1,4 @@
--- Records read one by one: one more, and what stands behind a fault.
+-- Records read one by one: one more, and what stands after a fault.
 use Rattle.std.proofs.Common.{◌≡◌, ℕ, ◌+◌, Bool, true, false, cond, Ok, Err, List, [], ◌∷◌, ◌++◌, length, refl, ap, ◌∙◌, arith}
 use Rattle.xa_record.specs.declared.record.Record.{Record}
 use Rattle.xa_model.specs.Durable.{Durable}

@@ -1,4 +1,4 @@
--- XIDs in their order, each once: inserting keeps the order, and which of them are above one may be asked before or behind it.
+-- XIDs in their order, each once: inserting keeps the order, and which of them are above one may be asked before or after it.
 use Rattle.std.proofs.Common.{◌≡◌, Bool, true, false, cond, List, [], ◌∷◌, Option, Some, None, refl, ap, ◌∙◌}
 use Rattle.std.specs.Prelude.{filter, fold}
 use Rattle.std.specs.BTreeSet.{insert_key}
@@ -97,6 +97,6 @@ fold_above after done (x ∷ xs) =
     by_test true = refl
     by_test false = refl
 
--- so those above one are the same before and behind the ordering
+-- so those above one are the same before and after the ordering
 pub above_in_order : (after : Option Triple) (xs : List Triple) → filter (is_above after) (in_order xs) ≡ in_order (filter (is_above after) xs)
 above_in_order after xs = fold_above after [] xs

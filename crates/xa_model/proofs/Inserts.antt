@@ -1,4 +1,4 @@
--- Lists whose members pass with each one behind them: members take their places, leave, or are found.
+-- Lists whose members pass with each one after them: members take their places, leave, or are found.
 use Rattle.std.proofs.Common.{◌≡◌, ◌⊎◌, inl, inr, Bool, true, false, cond, List, [], ◌∷◌, ◌++◌, Some, refl, subst}
 use Rattle.std.specs.Prelude.{find, filter}
 use Rattle.std.specs.List.{AllByRecursion, list_any, list_all}
@@ -80,7 +80,7 @@ inserted_by before t x y ys false e apart h rest =
     let here : before x y ≡ true = stands_first before x y e apart in
     ((here, all_imply (λ z. before y z ≡ true) (λ z. before x z ≡ true) (λ z after. t.trans x y z here after) ys h.0), h)
 
--- a list stays in order where one that is before or behind each member takes its place
+-- a list stays in order where one that is before or after each member takes its place
 pub insert_pairwise : {A : Type 0} (before : A → A → Bool) (t : IsTransitive before) (x : A) (xs : List A) → AllByRecursion (λ y. (before y x ≡ true) ⊎ (before x y ≡ true)) xs
     → Pairwise before xs → Pairwise before (insert before x xs)
 insert_pairwise before t x [] apart h = (tt, tt)
@@ -102,7 +102,7 @@ pub insert_last : {A : Type 0} (before : A → A → Bool) (x : A) (xs : List A)
 insert_last before x [] h = refl
 insert_last before x (y ∷ ys) h = let rest : insert before x ys ≡ ys ++ x ∷ [] = insert_last before x ys h.1 in rw (h.0, rest) refl
 
--- a member of a list in order, with those before it and those behind it
+-- a member of a list in order, with those before it and those after it
 pub pairwise_before : {A : Type 0} (test : A → A → Bool) (xs : List A) (y : A) (ys : List A) → Pairwise test (xs ++ y ∷ ys) → AllByRecursion (λ x. test x y ≡ true) xs
 pairwise_before test [] y ys h = tt
 pairwise_before test (x ∷ xs) y ys h = ((all_back (λ z. test x z ≡ true) xs (y ∷ ys) h.0).0, pairwise_before test xs y ys h.1)
@@ -128,7 +128,7 @@ other_by P p x y ys true e all rest found =
     let same : y ≡ x = cc found in subst (λ w. AllByRecursion (λ z. P w z) ys) same (all_imply (λ z. P y z × P z y) (λ z. P y z) (λ z k. k.0) ys all)
 other_by P p x y ys false e all rest found = ((found_all (λ z. P y z × P z y) p x ys all found).1, rest found)
 
--- each member with each one behind it, both ways
+-- each member with each one after it, both ways
 abbrev pub BothWays : {A : Type 0} → (A → A → Type 0) → List A → Type 0
 BothWays P [] = Unit {0}
 BothWays P (x ∷ xs) = AllByRecursion (λ z. P x z × P z x) xs × BothWays P xs

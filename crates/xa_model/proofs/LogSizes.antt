@@ -18,7 +18,7 @@ use Rattle.xa_model.specs.Laws.Durable.{SnapshotIsShort}
 use Rattle.xa_model.proofs.Folds.{stepped}
 use Rattle.xa_model.proofs.Tests.{none_past}
 
--- the bytes that a snapshot has behind its first record
+-- the bytes that a snapshot has after its first record
 abbrev lasts : Durable → ℕ
 lasts d = sizes (map base d.committed) + (sizes (map held d.prepared) + sizes (map known d.decided))
 

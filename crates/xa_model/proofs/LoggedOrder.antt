@@ -1,4 +1,4 @@
--- What a state may log fits behind the log that stands behind the state.
+-- What a state may log fits after the log that backs the state.
 use Rattle.std.proofs.Common.{◌≡◌, ℕ, ◌+◌, ◌<◌, Bool, true, false, not, ◌&&◌, List, ◌++◌, Option, Some, None, refl, ap, sym, ◌∙◌, subst, arith}
 use Rattle.std.specs.Prelude.{find, option_map}
 use Rattle.std.specs.List.{AllByRecursion}
@@ -92,7 +92,7 @@ working_by s xid b found works = sym (ap is_at_work found) ∙ works
 all_true : (a b c d : Bool) → a ≡ true → b ≡ false → c ≡ false → d ≡ false → (a && not b && (not c && not d)) ≡ true
 all_true a b c d ha hb hc hd = rw (ha, hb, hc, hd) refl
 
--- what is read of the log that stands behind a state
+-- what is read of the log that backs a state
 record IsBehind (x : Reading) (s : State) : Type 0 where
   lasts : x.durable ≡ durable s
   new : IsNew s x.timestamps

@@ -107,7 +107,7 @@ other_key_by w v true e h =
     let itself : is_lt (slice_cmp nat_cmp w.key w.key) ≡ true = subst (λ (k : List ℕ). is_lt (slice_cmp nat_cmp w.key k) ≡ true) same h in
     absurd (cc (itself, keys_strict.never w))
 
--- a write behind another is of another key
+-- a write after another is of another key
 pub other_key : (w v : Write) → keys_before w v ≡ true → bytes_eq v.key w.key ≡ false
 other_key w v h = other_key_by w v (bytes_eq v.key w.key) refl h
 

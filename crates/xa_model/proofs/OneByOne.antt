@@ -42,7 +42,7 @@ IsFrom bs key answer from = ((from ≡ 0) × (answer ≡ None)) ⊎ Has (IsSourc
 abbrev AtMost : List ℕ → ℕ → Branch → Type 0
 AtMost key from b = is_some (write_of key b.operations) ≡ true → b.timestamp ≤ from
 
--- the source of a greater timestamp isn't behind
+-- the source of a greater timestamp isn't after
 source_below : (limit : ℕ) (bs : List Branch) (key : List ℕ) (answer : Option (List ℕ)) (from : ℕ) → Descends limit bs
     → Has (IsSource key answer from) bs → from < limit
 source_below limit bs key answer from d h =

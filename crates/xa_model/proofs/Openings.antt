@@ -250,7 +250,7 @@ opening_restored d name log_bytes h less few = record {
   end = ap (λ (e : Durable). 8 + sizes (snapshot e (d.boot + 1))) (sym (opening_lasts d name log_bytes h));
 }
 
--- and its snapshot stands behind it
+-- and its snapshot stands after it
 
 opening_backed : (rs : List Record) (d : Durable) (name : List ℕ) (log_bytes : ℕ) → AllByRecursion IsRecord rs → fold rs ≡ Ok d → IsKept d
     → d.boot < 4294967295

@@ -85,7 +85,7 @@ prepared_knows xid s (Asked (event.Call n (Prepare flags x))) happened h k is =
     call_settles (Holds xid) s n (Prepare flags x) happened refl refl h (λ up. prepares xid s x k is)
 prepared_knows xid s (Asked (event.Call n request)) happened h k is = absurd (cc is)
 
--- behind it every crash leaves it known, until its completion is asked for
+-- after it every crash leaves it known, until its completion is asked for
 pub kept_since : (first last : State) (before later : List Entry) (prepare : Entry) (xid : Triple) → IsRecoverable first → HaveRealMarks first
     → HaveHappened (before ++ prepare ∷ later) → Leads first (before ++ prepare ∷ later) last → HasPrepared xid prepare
     → AllByRecursion (λ e. AsksCompletion xid e → ⊥) later

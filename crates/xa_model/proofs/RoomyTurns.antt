@@ -316,7 +316,7 @@ restart_keeps_room rs s (Asked e) outcome a is h k room taken =
 restart_keeps_room rs s (Reopened name log_bytes) outcome a is h k room taken =
     taken_all (λ b. IsRoomy b.after) (turn s (Reopened name log_bytes)) outcome a (reopen_leaves s name log_bytes h) taken
 
--- a trim has the room where records stand behind the state
+-- a trim has the room where records back the state
 
 pub trim_has_room : TrimHasRoom
 trim_has_room rs s h k room = opened_room rs s (s.logged_boot + 1) h k room

@@ -38,7 +38,7 @@ use Rattle.xa_model.proofs.Soundness.{reached}
 pub listed_ascends : ListedAscends
 listed_ascends d = ordered_pairwise (lasting_names d)
 
--- those above the first one that is above are the others behind it
+-- those above the first one that is above are the others after it
 
 not_both : (x y : Triple) (c : Bool) → below x y ≡ c → below y x ≡ true → c ≡ false
 not_both x y true e less = absurd (cc (below_transitive.trans x y x e less, below_strict.never x))
@@ -165,7 +165,7 @@ begun_scan : (c : Bool) (scan : Option (Option Triple)) (cursor : Option Triple)
 begun_scan true scan cursor e is = cc is
 begun_scan false scan cursor e is = absurd (cc e)
 
--- The calls behind one that leaves this scan: none is answered with XIDs where it is over. Else they are answered the first of those above
+-- The calls after one that leaves this scan: none is answered with XIDs where it is over. Else they are answered the first of those above
 -- the cursor.
 abbrev GoOn : Durable → List Portion → Option (Option Triple) → Type 0
 GoOn d portions None = portions ≡ []

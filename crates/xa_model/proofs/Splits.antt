@@ -7,7 +7,7 @@ use Rattle.std.proofs.lemmas.List.Elements.{filter_map-append}
 use Rattle.xa_model.specs.State.{count, without, change}
 use Rattle.xa_model.specs.Durable.{insert, Pairwise}
 
--- the first member that passes, with those before it and those behind it
+-- the first member that passes, with those before it and those after it
 pub record IsSplit {A : Type 0} (p : A → Bool) (x : A) (xs : List A) : Type 0 where
   pub front : List A
   pub back : List A
@@ -123,7 +123,7 @@ pub insert_between : {A : Type 0} (before : A → A → Bool) (y : A) (xs zs : L
 insert_between before y [] zs h k = insert_front before y zs k
 insert_between before y (x ∷ xs) zs h k = rw h.0 (ap (λ l. x ∷ l) (insert_between before y xs zs h.1 k))
 
--- the first member that passes, behind others
+-- the first member that passes, after others
 pub find_mid : {A : Type 0} (p : A → Bool) (xs : List A) (y : A) (zs : List A) → AllByRecursion (λ x. p x ≡ false) xs → p y ≡ true → find p (xs ++ y ∷ zs) ≡ Some y
 find_mid p [] y zs h e = rw e refl
 find_mid p (x ∷ xs) y zs h e = rw h.0 (find_mid p xs y zs h.1 e)
@@ -132,7 +132,7 @@ pub without_mid : {A : Type 0} (p : A → Bool) (xs : List A) (y : A) (zs : List
 without_mid p [] y zs h e = rw e refl
 without_mid p (x ∷ xs) y zs h e = rw h.0 (ap (λ l. x ∷ l) (without_mid p xs y zs h.1 e))
 
--- one more, behind all
+-- one more, after all
 pub pairwise_last : {A : Type 0} (test : A → A → Bool) (xs : List A) (y : A) → Pairwise test xs → AllByRecursion (λ x. test x y ≡ true) xs → Pairwise test (xs ++ y ∷ [])
 pairwise_last test [] y h k = (tt, tt)
 pairwise_last test (x ∷ xs) y h k = (all_append (λ z. test x z ≡ true) xs (y ∷ []) h.0 (k.0, tt), pairwise_last test xs y h.1 k.1)

@@ -54,7 +54,7 @@ module _ {D : Type 0} (connected : D → Result ℕ ConnectFault → D → Type 
   asides table key content d e free (inr (Err fault, refused)) =
       tends_refused connected called left table table d e fault refused refl
 
-  -- no connection has the key behind the slab's slots
+  -- no connection has the key after the slab's slots
   pub tends_aside : (peers : Slab Peer) (content : List ℕ) (d e : D) → IsAside connected called left content d e
       → Tends connected called left (sessions_of peers) d (sessions_of peers) e
   tends_aside peers content d e aside =

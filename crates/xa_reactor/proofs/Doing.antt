@@ -1,4 +1,4 @@
--- What a loop does, one thing behind the other.
+-- What a loop does, one thing after the other.
 use Rattle.std.proofs.Common.{◌≡◌, ◌∙◌, ◌<◌, ◌≤◌, ℕ, zero, suc, Bool, true, false, arith, length, map, List, [], ◌∷◌, ◌++◌, Option, Some, None, Result, Ok, Err, get_or, set, refl, sym, ap, subst, inl, inr, ◌⊎◌}
 use Rattle.std.proofs.Math.Path.{fun_ext}
 use Rattle.std.specs.Option.{option_map}
@@ -49,7 +49,7 @@ same_sessions peers key old new there same =
 pub no_sessions : (peers : Slab Peer) → ((key : ℕ) → get peers key ≡ None) → sessions_of peers ≡ nobody
 no_sessions peers none = sym (same_table nobody (sessions_of peers) (λ key. ap session_in (none key)))
 
--- nothing is under the keys below a number, and no slot behind them
+-- nothing is under the keys below a number, and no slot after them
 pub none_beyond : (slots : List (Option Peer)) (n : ℕ) → ((key : ℕ) → key < n → get_or slots key None ≡ None) → length slots ≤ n
     → (key : ℕ) → get_or slots key None ≡ None
 none_beyond slots n below few key = at (nat_lt key n) refl
@@ -70,7 +70,7 @@ at_map f [] i a b lt = absurd (omega (arith, lt))
 at_map f (x ∷ xs) zero a b lt = refl
 at_map f (x ∷ xs) (suc i) a b lt = at_map f xs i a b (omega (arith, lt))
 
--- ---- one thing behind the other
+-- ---- one thing after the other
 
 module _ {D : Type 0} (does : Table → Table → D → D → Type 0) where
   pub does_none : (a b : Table) (d e : D) → a ≡ b → d ≡ e → DoesSome does a d b e

@@ -1,4 +1,4 @@
--- The items of a list that are changed in place, one behind the other.
+-- The items of a list that are changed in place, one after another.
 use Rattle.std.proofs.Common.{◌≡◌, ℕ, ◌+◌, ◌<◌, ◌≤◌, zero, suc, arith, length, List, [], ◌∷◌, get_or, set, sym, subst}
 use Rattle.std.specs.Prelude.{All}
 use Rattle.std.specs.List.{AllZip}

@@ -57,7 +57,7 @@ kept_still a b xs same = record {
   are = sym (append-nil xs);
 }
 
--- with what was kept behind that
+-- with what was kept after that
 pub kept_more : (a b c : Peers) (xs ys zs later : List (ℕ × Step)) → HasKept a xs b ys → zs ≡ ys ++ later → c.queue ≡ b.queue → HasKept a xs c zs
 kept_more a b c xs ys zs later one is same =
     kept_twice a b c xs ys zs one

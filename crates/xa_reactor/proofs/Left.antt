@@ -7,7 +7,7 @@ use Rattle.xa_reactor.specs.Cuts.{HasCut, left_by}
 use Rattle.xa_reactor.specs.declared.cuts.Cut.{Cut}
 use Rattle.xa_reactor.specs.declared.peer.Peer.{Peer}
 
--- behind the slots there is no connection
+-- after the slots there is no connection
 pub cut_beyond : (cut : Cut) (old new : Slab Peer) (count : ℕ) → ((key : ℕ) → key < count → get new key ≡ left_by cut (get old key))
     → ((key : ℕ) → count ≤ key → get new key ≡ get old key) → length old.slots ≤ count → HasCut cut old new
 cut_beyond cut old new count left rest few key =

@@ -5,13 +5,13 @@ use Rattle.std.specs.Prelude.{if◌then◌else◌}
 use Rattle.xa_reactor.specs.Allowance.{accounted, has_line, latest, lines_of, orders_of, told_of, with_line, without_line}
 use Rattle.xa_reactor.specs.declared.allowance.Allowance.{Allowance}
 
--- what lies ahead behind one more line
+-- what lies ahead after one more line
 ahead : (until now last rest : ℕ) → last + 100000 < 2 ^ 64 → now ≤ last → until - now ≤ 99000
     → 1000 * rest + min (max until now + 1000) (2 ^ 64 - 1) ≤ max (min (max until now + 1000) (2 ^ 64 - 1)) (last + 100000)
     → 1000 * (1 + rest) + until ≤ max until (last + 100000)
 ahead until now last rest most by some h = omega arith
 
--- so it is behind an order
+-- so it is after an order
 module _ (a : Allowance) (now last : ℕ) (later : List ℕ) where
   abbrev Holds : Bool → Type 0
   Holds has =

@@ -26,6 +26,7 @@ by_detail is_restart code detail.Late h = absurd (cc h)
 by_detail is_restart code detail.Limit h = absurd (cc h)
 by_detail is_restart code detail.Frame h = absurd (cc h)
 by_detail is_restart code detail.LogFull h = absurd (cc h)
+by_detail is_restart code detail.Access h = absurd (cc h)
 
 -- a call for which there is no memory
 pub memory_tells : (is_restart : Bool) (reply : Reply) → is_memory reply.detail ≡ true → tells_down is_restart reply ≡ None

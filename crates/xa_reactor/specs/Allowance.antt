@@ -6,7 +6,7 @@ use Rattle.xa_reactor.specs.declared.noted.Noted.{Noted}
 abbrev pub new_allowance : Allowance
 new_allowance = record { until = 0; left_out = 0 }
 
--- A line takes a second, behind those that were taken before, or from now on; at most 100 may lie ahead.
+-- A line takes a second, after those that were taken before, or from now on; at most 100 may lie ahead.
 abbrev pub has_line : Allowance → ℕ → Bool
 has_line a now = nat_le (a.until - now) 99000
 
@@ -64,7 +64,7 @@ NoneIsLost = (times : List ℕ) → length times < 2 ^ 64 → accounted new_allo
 abbrev pub with_those : ℕ → ℕ → Allowance
 with_those until left_out = record { until = until; left_out = left_out }
 
--- The first line at the beginning, and the 100th; the next one within a second isn't; after a second one is, behind 37 that
+-- The first line at the beginning, and the 100th; the next one within a second isn't; after a second one is, after 37 that
 -- weren't; and an hour later there are 100, and no more.
 pub record AllowanceRows : Type 0 where
   pub first : taken new_allowance 0 ≡ (Some 0, with_those 1000 0)

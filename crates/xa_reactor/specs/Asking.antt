@@ -54,7 +54,7 @@ pub record TellsOne {D : Type 0} (called : ℕ → D → Question → Reply → 
   pub tells : Tells called d (get_or asks place ask) ask e
   pub others : told ≡ set asks place ask
 
--- so were some, one behind the other, with the asks and the door before each, the last one's first
+-- so were some, one after another, with the asks and the door before each, the last one's first
 abbrev pub TellsEach : {D : Type 0} → (ℕ → D → Question → Reply → D → Type 0) → D → List Ask → List (List Ask × D)
     → List Ask → D → Type 0
 TellsEach called d asks [] told e = (asks ≡ told) × (d ≡ e)

@@ -46,6 +46,6 @@ new_wish key = record { key = key; cut = None }
 abbrev pub Asking : Type 0
 Asking = Option ℕ × List Wish
 
--- one more asked, behind the others
+-- one more asked, after the others
 abbrev pub with_wish : Asking → Wish → Asking
 with_wish asking wish = (asking.0, asking.1 ++ wish ∷ [])

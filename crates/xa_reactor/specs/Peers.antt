@@ -29,7 +29,7 @@ pub record HasEnded (old : Peers) (key : ℕ) (new : Peers) : Type 0 where
   pub turns : turns_of new ≡ turns_of old
   pub orders : new.orders ≡ old.orders
 
--- the connection under a key has a turn behind the others, and nothing else is changed
+-- the connection under a key has a turn after the others, and nothing else is changed
 pub record IsLast (old : Peers) (key : ℕ) (new : Peers) : Type 0 where
   pub all : new.all ≡ old.all
   pub turns : turns_of new ≡ turns_of old ++ key ∷ []
@@ -39,7 +39,7 @@ pub record IsLast (old : Peers) (key : ℕ) (new : Peers) : Type 0 where
 abbrev pub HasTurn : Peers → ℕ → Peers → Type 0
 HasTurn old key new = IsLast old key new ⊎ HasEnded old key new
 
--- What comes behind a turn of the connection under a key: nothing, a turn more, its end, that the server is to end, or what it
+-- What comes after a turn of the connection under a key: nothing, a turn more, its end, that the server is to end, or what it
 -- asks of that besides, unless there is no memory for it.
 abbrev pub GoesOn : Peers → ℕ → Step → Peers → Type 0
 GoesOn old key Waits new = new ≡ old
@@ -75,7 +75,7 @@ IsNoticed old event new =
     MatchOption (get old.all (key_of event)) (new ≡ old)
     (λ p. MatchBool p.is_queued (new ≡ with_noticed old event p) (HasTurn (with_noticed old event p) (key_of event) new))
 
--- so did some, one behind the other
+-- so did some, one after another
 abbrev pub NoticesAll : Peers → List Event → Peers → Type 0
 NoticesAll old [] new = new ≡ old
 NoticesAll old (event ∷ rest) new = (between : Peers) × IsNoticed old event between × NoticesAll between rest new
@@ -105,7 +105,7 @@ abbrev pub HadTurn : Slab Peer → ℕ → Step → Slab Peer → Type 0
 HadTurn all key step new =
     MatchOption (get all key) ((step ≡ Waits) × (new ≡ all)) (λ p. (q : Peer) × StepsTo step q × (new ≡ with_value all key q))
 
--- the connection under the first key in the queue had its turn, and what comes behind that came
+-- the connection under the first key in the queue had its turn, and what comes after that came
 pub record IsTurned (old : Peers) (key : ℕ) (rest : List ℕ) (new : Peers) : Type 0 where
   pub between : Peers
   pub step : Step

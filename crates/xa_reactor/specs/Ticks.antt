@@ -55,7 +55,7 @@ module _ {D : Type 0} (connected : D → Result ℕ ConnectFault → D → Type 
 
 -- ---- worked rows
 
--- Every 10 seconds: the first moment; one 9 and one 10 seconds behind the last; and one before it, which is refused.
+-- Every 10 seconds: the first moment; one 9 and one 10 seconds after the last; and one before it, which is refused.
 pub record TickRows : Type 0 where
   pub first : is_due new_ticks 1700000000 10 ≡ true
   pub early : is_due (after_tick 1700000000) 1700000009 10 ≡ false

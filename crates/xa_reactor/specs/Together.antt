@@ -10,7 +10,7 @@ use Rattle.xa_reactor.specs.declared.peer.Step.{Step}
 use Rattle.xa_reactor.specs.declared.peers.Peers.{Peers}
 use Rattle.xa_reactor.specs.declared.together.Together.{Together}
 
--- it has room for the items of the other behind its own
+-- it has room for the items of the other after its own
 abbrev pub HasRoomFor : {A B : Type 0} → Vec A Global → Vec B Global → Type 0
 HasRoomFor v more = vec_len v + vec_len more ≤ vec_capacity v
 
@@ -21,7 +21,7 @@ pub record HasLent (table : Table) (t : Together) : Type 0 where
   pub left : t.left.items ≡ []
   pub room : vec_len t.over + vec_len t.quick + vec_len t.waiting ≤ vec_capacity t.over
 
--- how many turns of a round aren't behind it: of requests that were brought in, and of those of which something comes after
+-- how many turns of a round aren't after it: of requests that were brought in, and of those of which something comes after
 abbrev pub turns_in : Together → ℕ
 turns_in t = vec_len t.over + vec_len t.quick + vec_len t.waiting
 
@@ -29,12 +29,12 @@ turns_in t = vec_len t.over + vec_len t.quick + vec_len t.waiting
 abbrev pub KeepsTurns : Together → Peers → Together → Peers → Type 0
 KeepsTurns t peers t' peers' = turns_in t' + deque_len peers'.queue ≡ turns_in t + deque_len peers.queue
 
--- What comes after turns, by the keys of their connections, came one behind the other.
+-- What comes after turns, by the keys of their connections, came one after another.
 abbrev pub GoesOnAll : Peers → List (ℕ × Step) → Peers → Type 0
 GoesOnAll old [] new = new ≡ old
 GoesOnAll old (turn ∷ rest) new = (between : Peers) × GoesOn old turn.0 turn.1 between × GoesOnAll between rest new
 
--- What comes after some turns was kept, behind that of others; or it was a turn more, which those have behind the others.
+-- What comes after some turns was kept, after that of others; or it was a turn more, which those have after the others.
 pub record HasKept (old : Peers) (over : List (ℕ × Step)) (new : Peers) (over' : List (ℕ × Step)) : Type 0 where
   pub keys : List ℕ
   pub turns : turns_of new ≡ turns_of old ++ keys
@@ -42,7 +42,7 @@ pub record HasKept (old : Peers) (over : List (ℕ × Step)) (new : Peers) (over
   pub later : List (ℕ × Step)
   pub are : over' ≡ over ++ later
 
--- What comes after each turn of a round came, once: a turn more at once, or behind all turns, that of those that were over
+-- What comes after each turn of a round came, once: a turn more at once, or after all turns, that of those that were over
 -- before first.
 pub record HaveGone (t : Together) (old new : Peers) : Type 0 where
   pub between : Peers

@@ -37,7 +37,7 @@ CarriesOn called c d c' e =
     × AnswersAll called d asked answered e
     × Carries (contents ++ asked) (replies ++ answered) (fed ++ more) (sent ++ gone) c'
 
--- ---- what comes behind a turn
+-- ---- what comes after a turn
 
 -- more came in than the beginning of a frame, or something is to be sent
 abbrev pub HoldsMore : Connection → Type 0

@@ -12,7 +12,7 @@ use std::io;
 use std::io::ErrorKind;
 use std::sync::Wait;
 
-/// The most accepts behind one another, before connections have their turns.
+/// The most accepts one after another, before connections have their turns.
 const MOST_ACCEPTS: u32 = 64;
 
 /// What accepts connections, and hands them to the loops in turn.
@@ -26,7 +26,7 @@ pub(crate) struct Acceptor {
     turn: usize,
     /// Whether connections may wait of which no further event tells.
     waits: bool,
-    /// When accepting goes on behind a pause, if no connection closes.
+    /// When accepting goes on after a pause, if no connection closes.
     resumes: u64,
     /// How many were refused of which nobody was told, and when that may be told.
     refused: u64,

@@ -118,7 +118,7 @@ impl<'a> Common<'a> {
         is_admitted
     }
 
-    /// Appends how many connections were taken up, and how many weren't, each behind its id.
+    /// Appends how many connections were taken up, and how many weren't, each after its id.
     pub(crate) fn put_counts(&self, out: &mut Vec<u64>) -> Result<(), AllocError> {
         out.push(ACCEPTED)?;
         out.push(self.accepted.load(Ordering::SeqCst))?;
@@ -169,7 +169,7 @@ impl<'a> Common<'a> {
         index
     }
 
-    // The loop in turn, or the next one behind it that has begun.
+    // The loop in turn, or the next one after it that has begun.
     fn next_loop(&self, from: usize) -> usize
         ensures { result ≤ vec_len self.now.boxes }
     {

@@ -6,7 +6,7 @@
 //! - `loops`: `run_loops`, a thread for each door; `LoopFault`, why it didn't, or not to the end
 //! - `socket`, `listener`: a connection's socket, and what connections come from
 //! - `peer`: a connection with its socket, and its turn; `wishing`: one that asks something of the server itself; `peers`:
-//!   those of a loop, whose turns come one behind the other
+//!   those of a loop, whose turns come one after another
 //! - `ask`: a request that a connection brought in; `together`: the turns of a round, with one call at the door for all
 //!   requests that wait for no device, whose replies are sent then, and another for the rest, which are posted before
 //! - `tending`: a loop, round by round (`round`, `timing`, `clock`, `tools`): while another loop holds up its answers, it

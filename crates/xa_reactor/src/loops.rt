@@ -71,7 +71,7 @@ pub struct Ended<D> {
 /// Serves the connections of a listener by a loop for each door, each in a thread of its own, or not at all where no
 /// thread can be made. Once each has what it waits by, `ready` is printed, twice where the listener is a port's and a Unix
 /// socket's. Then the first one that begins accepts, and hands connections to those that have begun, in turn. They
-/// end behind so many connections, when the manager is down, or when one of them can't wait for events; if none of these
+/// end after so many connections, when the manager is down, or when one of them can't wait for events; if none of these
 /// is asked or comes, never.
 ///
 /// Each session that a loop connected at its door it hung up there, once, and only in between it answered it, and posted
@@ -99,7 +99,7 @@ pub fn run_loops<
     Ok(run_all(rt, &common, seeds)?)
 }
 
-// Each loop runs in a thread of its own, or behind another where no thread can be made.
+// Each loop runs in a thread of its own, or after another where no thread can be made.
 fn run_all<D: Reception + Send + Drop, R: AllocGlobal + Clock + Eprint + Threads + Wait + Sync>(
     rt: &R,
     common: &Common<'_>,

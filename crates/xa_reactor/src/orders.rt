@@ -61,7 +61,7 @@ impl Orders {
         self.wishes.len()
     }
 
-    /// One more asked, behind the others. Whether there was memory for that.
+    /// One more asked, after the others. Whether there was memory for that.
     pub(crate) fn put(&mut self, wish: Wish) -> bool
         ensures put { IsTrue result → self.new ≡ with_wish self.old wish }
         ensures full { result ≡ false → self.new ≡ self.old }

@@ -48,7 +48,7 @@ pub(crate) struct Peer {
     noted: Option<Noted>,
 }
 
-/// What comes behind a turn.
+/// What comes after a turn.
 #[derive(Clone, Copy, Debug, PartialEq, Eq)]
 pub(crate) enum Step {
     /// An event tells when there is more to do.
@@ -247,7 +247,7 @@ impl Peer {
         self.is_asked() || self.receive(scratch, now)
     }
 
-    /// The end of a turn: a reply is sent. What comes behind it, with events of what it waits for.
+    /// The end of a turn: a reply is sent. What comes after it, with events of what it waits for.
     pub(crate) fn send<R: Clock>(
         &mut self,
         rt: &R,

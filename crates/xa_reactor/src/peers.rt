@@ -160,7 +160,7 @@ impl Peers {
         }
     }
 
-    /// Closes the turn of a connection, whose request was answered. What comes behind it.
+    /// Closes the turn of a connection, whose request was answered. What comes after it.
     pub(crate) fn close_turn<R: Clock + Eprint>(
         &mut self,
         rt: &R,
@@ -237,7 +237,7 @@ impl Peers {
         })
     }
 
-    /// Answers what a connection asked of the server itself. What comes behind that; None where it asks nothing any more.
+    /// Answers what a connection asked of the server itself. What comes after that; None where it asks nothing any more.
     pub(crate) fn answer_control<R: Clock + Eprint>(
         &mut self,
         rt: &R,

@@ -57,7 +57,7 @@ pub(crate) fn tend<D: Reception, R: AllocGlobal + Clock + Eprint + Wait>(
     (is_whole, stopper)
 }
 
-// Rounds behind one another.
+// Rounds one after another.
 fn run<D: Reception, R: AllocGlobal + Clock + Eprint + Wait>(
     rt: &R,
     common: &Common<'_>,

@@ -193,7 +193,7 @@ impl Together {
 
     /// Answers the requests that were brought in, and closes their turns. The replies to those that wait for no device are
     /// sent before the others are answered; those that have to wait for another loop's come last. What comes after the turns
-    /// comes behind all: until then each session stays under its key.
+    /// comes after all: until then each session stays under its key.
     pub(crate) fn close_all<D: Reception, R: Clock + Eprint>(
         &mut self,
         rt: &R,

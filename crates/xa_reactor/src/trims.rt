@@ -119,7 +119,7 @@ impl Trims {
         is_quick(end) && self.has_grown(end)
     }
 
-    // Whether the log, which ends there, has grown by so much since the last snapshot that a start is shorter behind another
+    // Whether the log, which ends there, has grown by so much since the last snapshot that a start is shorter after another
     // one; not where a trim was refused since.
     fn has_grown(&self, end: u64) -> bool
         ensures { result ≡ has_grown self.now end }

@@ -32,7 +32,7 @@ impl Peer {
     }
 
     /// Answers what it asks of the server itself, where it waits for this order, or for none, and sends the answer. What comes
-    /// behind that; None where it asks nothing, or waits for another one.
+    /// after that; None where it asks nothing, or waits for another one.
     pub(crate) fn answer_control<R: Clock + Eprint>(
         &mut self,
         rt: &R,
@@ -65,7 +65,7 @@ impl Peer {
         }
     }
 
-    /// What comes behind a turn in which this was asked of the server itself, or else this step.
+    /// What comes after a turn in which this was asked of the server itself, or else this step.
     pub(crate) fn order_or(&mut self, control: Option<Control>, step: Step) -> Step
         ensures same { (self.new.session ≡ self.old.session) × (self.new.connection ≡ self.old.connection) }
         ensures steps { StepsTo step self.old → StepsTo result self.new }

@@ -12,7 +12,7 @@ pub append_none : {A : Type 0} (xs : List A) → xs ++ [] ≡ xs
 append_none [] = refl
 append_none (x ∷ xs) = ap (λ ys. x ∷ ys) (append_none xs)
 
--- one more body is put behind the others
+-- one more body is put after the others
 pub one_body : {E B : Type 0} (f : E → B) (done more : List B) (b : B) (e : E) (rest left : List E) (whole : List B) → left ≡ e ∷ rest → b ≡ f e → more ≡ done ++ b ∷ [] → done ++ map f left ≡ whole
     → more ++ map f rest ≡ whole
 one_body f done more b e rest left whole is same put h =

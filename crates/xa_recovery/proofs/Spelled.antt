@@ -78,7 +78,7 @@ more_behind i bodies more h = record {
 pub malformed_of_all : (i : ℕ) (bodies more all : List (List ℕ)) → IsFirstMalformed i bodies → all ≡ bodies ++ more → IsFirstMalformed i all
 malformed_of_all i bodies more all h is = subst (λ bs. IsFirstMalformed i bs) (sym is) (more_behind i bodies more h)
 
--- the bodies behind a record out of order
+-- the bodies after a record out of order
 
 pub order_stays : (first : ℕ) (bodies : List (List ℕ)) (r : Record) (body : List ℕ) → IsRecord r → body ≡ spelled r
     → LogRebuilt bodies (Err (Order first)) → LogRebuilt (bodies ++ body ∷ []) (Err (Order first))

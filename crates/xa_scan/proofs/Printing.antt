@@ -107,7 +107,7 @@ end_printed format (Err Write) bodies rest offset at text old mid new (printed, 
 end_printed format (Err (Log fault)) bodies rest offset at text old mid new printed none end now line = absurd line
 end_printed format (Err (Damaged number begin)) bodies rest offset at text old mid new printed none end now line = absurd line
 
--- the flush behind the lines was answered
+-- the flush after the lines was answered
 prints_ended : {X E : Type 0} (format : Format) (printed : Result X ScanFault) (flushed : Result X E) (damaged : Bool) (count end : ℕ) (bodies : List (List ℕ)) (text : List ℕ) → PrintsLines format printed bodies text →
     Prints format (ended printed flushed (damage_behind damaged count end)) bodies text
 prints_ended format (Ok x) (Ok y) true count end bodies text h = h

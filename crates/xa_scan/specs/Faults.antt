@@ -14,7 +14,7 @@ abbrev pub damage_behind : Bool → ℕ → ℕ → Option ScanFault
 damage_behind true count end = Some (Damaged (count + 1) end)
 damage_behind false count end = None
 
--- A printing whose lines failed ends so, whatever the flush behind them was answered, and where the flush failed, so.
+-- A printing whose lines failed ends so, whatever the flush after them was answered, and where the flush failed, so.
 -- Else the log's damage is told, if it has one.
 abbrev pub ended : {X E : Type 0} → Result X ScanFault → Result X E → Option ScanFault → Result X ScanFault
 ended (Err fault) flushed damage = Err fault

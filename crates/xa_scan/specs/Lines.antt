@@ -22,7 +22,7 @@ abbrev pub line_at : Format → ℕ → List ℕ → List ℕ
 line_at Text offset body = decimal offset ++ 32 ∷ body_text body ++ 10 ∷ []
 line_at Json offset body = object_line offset (record_at body)
 
--- A record has its body, a length and a digest, and the next one stands behind it.
+-- A record has its body, a length and a digest, and the next one stands after it.
 abbrev pub behind : ℕ → List (List ℕ) → ℕ
 behind offset [] = offset
 behind offset (body ∷ bodies) = behind (offset + (AROUND_BODY + length body)) bodies

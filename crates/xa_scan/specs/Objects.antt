@@ -14,7 +14,7 @@ use Rattle.xa_xid.specs.Triple.{Triple}
 abbrev pub quoted : List ℕ → List ℕ
 quoted text = 34 ∷ text ++ 34 ∷ []
 
--- a name and its number, or its text, behind a comma
+-- a name and its number, or its text, after a comma
 abbrev pub number_member : List ℕ → ℕ → List ℕ
 number_member name n = (44 ∷ quoted name) ++ 58 ∷ decimal n
 

@@ -28,7 +28,7 @@ PrintsLines format (Err Write) bodies text = IsFront text (scan_text format bodi
 PrintsLines format (Err (Log fault)) bodies text = ⊥
 PrintsLines format (Err (Damaged number at)) bodies text = ⊥
 
--- the same, or nothing, where there is no log; all, where it is damaged behind them
+-- the same, or nothing, where there is no log; all, where it is damaged after them
 abbrev pub Prints : {X : Type 0} → Format → Result X ScanFault → List (List ℕ) → List ℕ → Type 0
 Prints format (Err (Log fault)) bodies text = text ≡ []
 Prints format (Err (Damaged number at)) bodies text = text ≡ scan_text format bodies
@@ -54,7 +54,7 @@ AddsLine end line output output' = (text : List ℕ) × Appends output output' t
 abbrev pub IsLogOf : List (List ℕ) → List ℕ → Type 0
 IsLogOf bodies file = (fault_of MOST_LOG file ≡ None) × (logged file ≡ bodies)
 
--- By the end, what the file is: a log that isn't damaged, where its lines were printed; one that is, behind its last
+-- By the end, what the file is: a log that isn't damaged, where its lines were printed; one that is, after its last
 -- record, where that is told; a log, where they couldn't be written; none, for the reason that is told.
 abbrev pub IsFound : {X : Type 0} → Result X ScanFault → List ℕ → List (List ℕ) → Type 0
 IsFound (Ok x) file bodies = IsLogOf bodies file × (is_damaged file ≡ false)

@@ -105,6 +105,6 @@ OtherObjects =
     ++ ended (codes "{\"record\":\"malformed\",\"offset\":203}")
     ++ ended (codes "{\"end\":240}")
 
--- The offset behind some records is the length of the file that has them, in each format.
+-- The offset after some records is the length of the file that has them, in each format.
 abbrev pub OffsetsInTheFile : Type 0
 OffsetsInTheFile = (format : Format) (bodies : List (List ℕ)) → behind FIRST_OFFSET bodies ≡ length (text format bodies)

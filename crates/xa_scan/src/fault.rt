@@ -5,7 +5,7 @@ use std::alloc::AllocError;
 use thiserror::Error;
 use xa_log::OpenFault;
 
-/// Why a log wasn't printed to its end. Its text is what `xarm` prints behind its name.
+/// Why a log wasn't printed to its end. Its text is what `xarm` prints after its name.
 #[derive(Clone, Copy, Debug, PartialEq, Eq, Error)]
 pub enum ScanFault {
     #[error("no memory")]
@@ -15,7 +15,7 @@ pub enum ScanFault {
     /// The disk's bytes weren't taken as a log.
     #[error("{0}")]
     Log(OpenFault),
-    /// All lines were printed of a log that is damaged behind them: the record that isn't as it was written, from 1, and
+    /// All lines were printed of a log that is damaged after them: the record that isn't as it was written, from 1, and
     /// the byte at which it begins.
     #[error("log damaged: record {number} at byte {at}")]
     Damaged { number: usize, at: u64 },

@@ -1,4 +1,4 @@
-//! The line of a record, and the line behind the last one, in a format.
+//! The line of a record, and the line after the last one, in a format.
 ghost use Rattle.std.specs.Prelude.{◌≡◌, ◌++◌, IfOk, OnOk};
 ghost use Rattle.xa_scan.specs.Lines.{body_text, end_line, line_at};
 

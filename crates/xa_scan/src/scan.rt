@@ -51,7 +51,7 @@ fn damage_behind(damaged: bool, bodies: &[Vec<u8>], end: u64) -> Option<ScanFaul
     None
 }
 
-/// The end of a printing, by how its lines ended, by what the flush behind them was answered, and by the log's damage.
+/// The end of a printing, by how its lines ended, by what the flush after them was answered, and by the log's damage.
 fn ended(
     written: Result<(), ScanFault>,
     flushed: io::Result<()>,

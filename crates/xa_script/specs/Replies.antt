@@ -26,6 +26,7 @@ name_of detail.Late = codes "Late"
 name_of detail.Limit = codes "Limit"
 name_of detail.Frame = codes "Frame"
 name_of detail.LogFull = codes "LogFull"
+name_of detail.Access = codes "Access"
 
 -- bytes in lower case hexadecimal; the empty value is a dash
 abbrev pub value_text : List ℕ → List ℕ

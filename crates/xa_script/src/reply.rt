@@ -241,5 +241,6 @@ fn detail_name(detail: Detail) -> &'static str
         Detail::Limit => "Limit",
         Detail::Frame => "Frame",
         Detail::LogFull => "LogFull",
+        Detail::Access => "Access",
     }
 }

@@ -74,7 +74,7 @@ module _ {M : Type 0} (m : Behaviour (GroupManager M)) (start : State → Type 0
       (omega (arith, sessions))
 
   module _ (is_group : M → PendingGroup → Type 0) where
-    -- a sequencer with none pending, behind more entries
+    -- a sequencer with none pending, after more entries
     pub keeps_none : (then : M) (p : Option PendingGroup) (count : ℕ) → calls_in p ≡ None → HasHistory m start base (at then p count)
         → Keeps m (HasItsGroup is_group) start base (calls_in p) (at then p count)
     keeps_none then p count none h =

@@ -28,7 +28,7 @@ use Rattle.xa_sequencer.proofs.Adding.{has_more, stayed}
 use Rattle.xa_sequencer.proofs.Few.{few}
 use Rattle.xa_sequencer.proofs.Placing.{whole}
 
--- ---- histories behind one another
+-- ---- histories one after another
 
 leads_append : (s : State) (es : List Entry) (t : State) (more : List Entry) (u : State) → Leads s (plain_entries es) t → Leads t (plain_entries more) u
     → Leads s (plain_entries (es ++ more)) u
@@ -109,7 +109,7 @@ all_plain : (calls : List Asked) (o : Outcome) (k : ℕ) (rs : List (ℕ × Repl
 all_plain calls o k [] h = refl
 all_plain calls o k (r ∷ rs) h = λ i. one_plain calls o (k + 1) r h.0 i ∷ all_plain calls o (k + 1) rs h.1 i
 
--- the group, with the places behind k
+-- the group, with the places after k
 abbrev group_from : ℕ → List Asked → Appending → ℕ × Reply → List (ℕ × Reply) → List Entry
 group_from k calls a r rs = entries_for calls a (r.0, placed (k + 1) r.1) (placed_from (k + 1) rs)
 

@@ -18,7 +18,7 @@ module _ {M : Type 0} (m : Behaviour M) (has : M → Type 0) (start : State → 
   keeps_alone None c group e h = (h, record { group = group; asked = tt; reserved = omega (arith, h.1.upholds.reserved, h.1.count_is) })
   keeps_alone (Some calls) c group e h = absurd (cc e)
 
-  -- behind more entries, with the same calls pending
+  -- after more entries, with the same calls pending
   pub keeps_on : (p p' : Option (List Asked)) (old new : Numbered M) (more : List Entry) → GoesOn m start base old more new → has new.now → p' ≡ p
       → new.count + m.sessions new.now + pending_count p ≤ most_numbers → Keeps p old → Keeps p' new
   keeps_on p p' old new more goes group same room (history, k) = (

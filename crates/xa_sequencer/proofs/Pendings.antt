@@ -58,7 +58,7 @@ some_failed : (v : DiskFault) (more p q : ℕ) (c c' : Counts) → WritesAhead {
 some_failed v more p q c c' (inl h) = let e : q ≡ plus p 1 = h.0 in omega (arith, e)
 some_failed v more p q c c' (inr h) = let e : q ≡ plus (plus p 1) 1 = h.1 in omega (arith, e)
 
--- what the count says that there is behind a group that was settled
+-- what the count says that there is after a group that was settled
 finish_one : (w : Result (Unit {0}) DiskFault) (a : Appending) (more p q r : ℕ) (c c' : Counts) → WritesAhead more w p q c c' → SettlesBy w (as_appended a) q r → r < top
     → (before_write w q < top) × (before_write w q + failures_of_append a ≤ r)
 finish_one (Ok u) Kept more p q r c c' h x lt = let e : r ≡ q = x in (omega (arith, lt, e), omega (arith, e))

@@ -1,4 +1,4 @@
--- Replies get the places behind a count, one after another.
+-- Replies get the places after a count, one after another.
 use Rattle.std.proofs.Common.{◌≡◌, ℕ, ◌+◌, ◌≤◌, ◌<◌, suc, zero, List, [], ◌∷◌, length, get_or, set, take, drop, ◌++◌, ◌∙◌, take_all, drop_of_length-le, append-nil, refl, ap, subst, arith}
 use Rattle.xa_frame.specs.declared.reply.Reply.{Reply}
 use Rattle.xa_history.specs.Believed.Book.{placed}

@@ -80,7 +80,7 @@ RisesBy failures (Some Kept) old new = NoneRises failures old new
 RisesBy failures (Some Refused) old new = OneRises failures old new
 RisesBy failures (Some Lost) old new = OneRises failures old new
 
--- An outcome that reports a failure has one behind it. After a record that is kept there may be one, if zeros were
+-- An outcome that reports a failure has one after it. After a record that is kept there may be one, if zeros were
 -- due: of the write with them. No single call joins the append of another.
 abbrev pub HasCalled : {D : Type 0} → Ghosts D → Outcome → LogView D → LogView D → Type 0
 HasCalled disks outcome.Quiet old new = new ≡ old

@@ -39,7 +39,7 @@ pub record Posts {D : Type 0} (posted : ℕ → D → D → Type 0) (old new : T
   pub posts : posted session d e
   pub same : old ≡ new
 
--- one thing behind the other, with the table and the door before each, the last one's first
+-- one thing after the other, with the table and the door before each, the last one's first
 abbrev pub DoesAll : {D : Type 0} → (Table → Table → D → D → Type 0) → Table → D → List (Table × D) → Table → D → Type 0
 DoesAll does old d [] new e = (old ≡ new) × (d ≡ e)
 DoesAll does old d (m ∷ ms) new e = DoesAll does old d ms m.0 m.1 × does m.0 new m.1 e
@@ -85,7 +85,7 @@ module _ {D : Type 0} (connected : D → Result ℕ ConnectFault → D → Type 
   abbrev pub Does : Table → Table → D → D → Type 0
   Does old new d e = Connects old new d e ⊎ (Refuses old new d e ⊎ (Converses old new d e ⊎ Leaves old new d e))
 
-  -- Whatever the loop did where it posts nothing, it was one of these things behind the other.
+  -- Whatever the loop did where it posts nothing, it was one of these things after the other.
   abbrev pub Tends : Table → D → Table → D → Type 0
   Tends old d new e = DoesSome Does old d new e
 
@@ -95,7 +95,7 @@ module _ {D : Type 0} (posted : ℕ → D → D → Type 0) (connected : D → R
   abbrev pub DoesOrPosts : Table → Table → D → D → Type 0
   DoesOrPosts old new d e = Does connected called left old new d e ⊎ Posts posted old new d e
 
-  -- Whatever the loop did, it was one of these things behind the other. So from nobody to nobody each session that was
+  -- Whatever the loop did, it was one of these things after the other. So from nobody to nobody each session that was
   -- connected was hung up, once, and only in between it was answered, and its calls were posted.
   abbrev pub TendsPosting : Table → D → Table → D → Type 0
   TendsPosting old d new e = DoesSome DoesOrPosts old d new e

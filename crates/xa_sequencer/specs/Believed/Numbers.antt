@@ -33,7 +33,7 @@ pub record Adds {M : Type 0} (m : Behaviour M) (start : State → Type 0) (base 
 abbrev pub IsFull : {M : Type 0} → Behaviour M → Numbered M → ℕ → Type 0
 IsFull m c more = most_numbers < c.count + m.sessions c.now + more
 
--- There was no memory, as the reply says, or there is no number left; and there is no entry. What stands behind the
+-- There was no memory, as the reply says, or there is no number left; and there is no entry. What backs the
 -- manager stays.
 pub record Leaves {M : Type 0} (m : Behaviour M) (start : State → Type 0) (base : ℕ × ℕ) (old : Numbered M)
     (event : Event) (reply : Reply) (new : Numbered M) : Type 0 where

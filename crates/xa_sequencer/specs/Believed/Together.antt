@@ -49,7 +49,7 @@ pub record AddsTogether {M : Type 0} (m : Behaviour M) (start : State → Type 0
   pub counted : (s : State) → m.stands old.now s
       → RiseBy (failures_in (Appended appending)) (m.failures old.now) (m.failures new.now)
 
--- no call was answered, and what stands behind the manager stays
+-- no call was answered, and what backs the manager stays
 pub record Rests {M : Type 0} (m : Behaviour M) (start : State → Type 0) (base : ℕ × ℕ) (old new : Numbered M)
     : Type 0 where
   pub count : new.count ≡ old.count

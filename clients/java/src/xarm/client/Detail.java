@@ -19,7 +19,9 @@ public enum Detail {
     /** The server read no request. */
     FRAME,
     /** The log has no room for the branch's record; the branch is rolled back. */
-    LOG_FULL;
+    LOG_FULL,
+    /** The connection may not ask for this; nothing changed. */
+    ACCESS;
 
     /** The detail of this number. One that a later server has is taken for what leaves as much open: DEVICE with XAER_RMFAIL, else NOTHING. */
     static Detail of(int number, int code) {

@@ -6,7 +6,7 @@ use borrow.Rule.Slice.PartMut.{put_mid}
 use Rattle.xa_desk.proofs.Known.{consumes-twice}
 use Rattle.xa_desk.proofs.connection.fill.Goals as goal
 
--- a piece of n bytes behind the first k
+-- a piece of n bytes after the first k
 more : (x y z : Option (List ℕ)) (k n : ℕ) (xs ys : List ℕ) → k ≤ length xs → length ys ≡ length xs - k → n ≤ length ys
     → Consumes x y (take k xs) → Consumes y z (take n ys)
     → (k + n ≤ length (put_mid k (length xs - k) xs ys)) × Consumes x z (take (k + n) (put_mid k (length xs - k) xs ys))

@@ -9,7 +9,7 @@ use Rattle.xa_reactor.specs.declared.ask.Ask.{Ask}
 use Rattle.xa_reactor.specs.declared.peer.Step.{Step}
 use Rattle.xa_reactor.proofs.together.send_all.Goals as goal
 
--- one more behind those that came later
+-- one more after those that came later
 one_later : {A : Type 0} (xs ys zs : List A) (one : A) → zs ≡ ys ++ one ∷ [] → (later : List A) → ys ≡ xs ++ later
     → (more : List A) × (zs ≡ xs ++ more)
 one_later xs ys zs one is later was = (later ++ one ∷ [], is ∙ (ap (λ l. l ++ one ∷ []) was ∙ append_assoc xs later (one ∷ [])))

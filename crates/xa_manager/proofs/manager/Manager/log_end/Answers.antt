@@ -13,6 +13,6 @@ pub returns-clause-alone : goal.returns-clause-alone
 returns-clause-alone g c = λ s stands is.
     c.end.ensures ∙ stands.end (up_of c.args.self.now.up (view c.args.self.now) s stands.tables is)
 
--- the group is written behind the end, where it stays
+-- the group is written after the end, where it stays
 pub returns-clause-beside : goal.returns-clause-beside
 returns-clause-beside g c = λ f s pends. c.end.ensures ∙ pends.1.written.ends.0 ∙ pends.1.stands.end pends.1.up

@@ -9,7 +9,7 @@ use Rattle.xa_reactor.proofs.Asking.{lent_more, lent_still}
 use Rattle.xa_reactor.proofs.Doing.{posting_posted, posting_tended}
 use Rattle.xa_reactor.proofs.together.Together.open_turn.Goals as goal
 
--- an ask that was lent in the turn is lent in the table behind it, which holds the sessions that there were
+-- an ask that was lent in the turn is lent in the table after it, which holds the sessions that there were
 lent_one : (old turned new : Table) (ask : Ask) → new ≡ turned → turned ≡ old → IsLent turned ask → (new ≡ old) × IsLent new ask
 lent_one old turned new ask same is one = (same ∙ is, subst (λ (t : Table). IsLent t ask) (sym same) one)
 
