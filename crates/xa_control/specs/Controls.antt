@@ -5,8 +5,9 @@ use Rattle.xa_xid.specs.Triple.{IsWithinLimits}
 use Rattle.xa_xid.specs.Spelling.{bytes_of}
 use Rattle.xa_frame.specs.Spelling.{Spells}
 use Rattle.xa_control.specs.declared.control.Control.{Control}
-use Rattle.xa_control.specs.declared.control.Control.TheVariants.{Shutdown, Hello as Greeting, Disconnect, Metrics, Sessions}
+use Rattle.xa_control.specs.declared.control.Control.TheVariants.{Shutdown, Hello as Greeting, Disconnect, Metrics, Sessions, First, Final}
 use Rattle.xa_control.specs.declared.hello.Hello.{Hello}
+use Rattle.xa_control.specs.Messages.{IsMessage}
 use Rattle.xa_control.specs.Shutdown.{shutdown_content}
 
 -- the revision, the features
@@ -20,8 +21,10 @@ bytes_of_control (Greeting hello) = 1 ∷ 70 ∷ hello_bytes hello
 bytes_of_control (Disconnect session) = 1 ∷ 71 ∷ to_be_bytes w64 session
 bytes_of_control Metrics = 1 ∷ 72 ∷ []
 bytes_of_control (Sessions xid) = 1 ∷ 73 ∷ bytes_of xid
+bytes_of_control (First message) = 1 ∷ 74 ∷ message
+bytes_of_control (Final message) = 1 ∷ 75 ∷ message
 
--- what the types of a program hold anyway: numbers with a fixed number of bits, and XIDs
+-- what the types of a program hold anyway: numbers with a fixed number of bits, XIDs, and messages of few bytes
 
 abbrev pub HoldsHello : Hello → Type 0
 HoldsHello hello = (hello.revision < 2 ^ 32) × (hello.features < 2 ^ 64)
@@ -30,6 +33,8 @@ abbrev pub HoldsControl : Control → Type 0
 HoldsControl (Greeting hello) = HoldsHello hello
 HoldsControl (Disconnect session) = session < 2 ^ 64
 HoldsControl (Sessions xid) = IsWithinLimits xid
+HoldsControl (First message) = IsMessage message
+HoldsControl (Final message) = IsMessage message
 HoldsControl _ = Unit {0}
 
 -- these bytes are the content of this

@@ -1,4 +1,5 @@
 pub mod Shutdown
+pub mod Messages
 pub mod Controls
 pub mod Answers
 pub mod Laws

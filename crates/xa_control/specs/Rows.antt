@@ -24,6 +24,10 @@ SpelledSo =
     × (bytes_of_control (control.Disconnect 4294967299) ≡ 1 ∷ 71 ∷ 0 ∷ 0 ∷ 0 ∷ 1 ∷ 0 ∷ 0 ∷ 0 ∷ 3 ∷ [])
     × (bytes_of_control control.Metrics ≡ 1 ∷ 72 ∷ [])
     × (bytes_of_control (control.Sessions branch) ≡ 1 ∷ 73 ∷ 255 ∷ 255 ∷ 255 ∷ 254 ∷ 2 ∷ 1 ∷ 170 ∷ 187 ∷ 204 ∷ [])
+    -- "n,,n=u", no message, and "c=biws"
+    × (bytes_of_control (control.First (110 ∷ 44 ∷ 44 ∷ 110 ∷ 61 ∷ 117 ∷ [])) ≡ 1 ∷ 74 ∷ 110 ∷ 44 ∷ 44 ∷ 110 ∷ 61 ∷ 117 ∷ [])
+    × (bytes_of_control (control.First []) ≡ 1 ∷ 74 ∷ [])
+    × (bytes_of_control (control.Final (99 ∷ 61 ∷ 98 ∷ 105 ∷ 119 ∷ 115 ∷ [])) ≡ 1 ∷ 75 ∷ 99 ∷ 61 ∷ 98 ∷ 105 ∷ 119 ∷ 115 ∷ [])
     × (bytes_of_answer answer.Done ≡ 1 ∷ 0 ∷ 0 ∷ 0 ∷ 0 ∷ 0 ∷ 0 ∷ 0 ∷ 0 ∷ 0 ∷ 0 ∷ 0 ∷ 0 ∷ 0 ∷ 0 ∷ [])
     -- no connection has that session, and no memory
     × (bytes_of_answer (answer.Refused XAER_INVAL detail.Nothing)
@@ -41,3 +45,9 @@ SpelledSo =
     × (bytes_of_answer (answer.Sessions (3 ∷ 4294967299 ∷ []))
     ≡ 1 ∷ 0 ∷ 0 ∷ 0 ∷ 0 ∷ 0 ∷ 0 ∷ 0 ∷ 0 ∷ 0 ∷ 0 ∷ 0 ∷ 0 ∷ 0 ∷ 10 ∷ 0 ∷ 2 ∷ 0 ∷ 0 ∷ 0 ∷ 0 ∷ 0 ∷ 0 ∷ 0 ∷ 3 ∷ 0 ∷ 0 ∷ 0 ∷ 1
     ∷ 0 ∷ 0 ∷ 0 ∷ 3 ∷ [])
+    -- "i=4096", no message, and "v=6r"
+    × (bytes_of_answer (answer.Challenge (105 ∷ 61 ∷ 52 ∷ 48 ∷ 57 ∷ 54 ∷ []))
+    ≡ 1 ∷ 0 ∷ 0 ∷ 0 ∷ 0 ∷ 0 ∷ 0 ∷ 0 ∷ 0 ∷ 0 ∷ 0 ∷ 0 ∷ 0 ∷ 0 ∷ 11 ∷ 105 ∷ 61 ∷ 52 ∷ 48 ∷ 57 ∷ 54 ∷ [])
+    × (bytes_of_answer (answer.Challenge []) ≡ 1 ∷ 0 ∷ 0 ∷ 0 ∷ 0 ∷ 0 ∷ 0 ∷ 0 ∷ 0 ∷ 0 ∷ 0 ∷ 0 ∷ 0 ∷ 0 ∷ 11 ∷ [])
+    × (bytes_of_answer (answer.Welcome (118 ∷ 61 ∷ 54 ∷ 114 ∷ []))
+    ≡ 1 ∷ 0 ∷ 0 ∷ 0 ∷ 0 ∷ 0 ∷ 0 ∷ 0 ∷ 0 ∷ 0 ∷ 0 ∷ 0 ∷ 0 ∷ 0 ∷ 12 ∷ 118 ∷ 61 ∷ 54 ∷ 114 ∷ [])

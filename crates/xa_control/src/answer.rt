@@ -5,6 +5,7 @@ ghost use Rattle.xa_control.specs.Answers.{HoldsAnswer, IsAnswer, bytes_of_answe
 ghost use Rattle.xa_frame.specs.Spelling.{counted_bytes};
 
 use crate::hello::{Hello, put_hello};
+use crate::message::{Message, put_message};
 use crate::numbers::Numbers;
 use std::alloc::AllocError;
 use xa_bytes::{put_u16, put_u64};
@@ -24,6 +25,10 @@ pub enum Answer {
     Metrics(Numbers),
     /// The sessions that were asked for.
     Sessions(Numbers),
+    /// What a login goes on with: the server-first-message (RFC 7677).
+    Challenge(Message),
+    /// The login is done: the server-final-message, by which the server proves itself to the client (RFC 5802).
+    Welcome(Message),
 }
 
 /// What the content of a hello begins with: the version, code 0, detail 0, place 0, the kind.
@@ -34,6 +39,12 @@ pub(crate) const COUNTED: [u8; 15] = [1, 0, 0, 0, 0, 0, 0, 0, 0, 0, 0, 0, 0, 0, 
 
 /// The same of sessions.
 pub(crate) const LISTED: [u8; 15] = [1, 0, 0, 0, 0, 0, 0, 0, 0, 0, 0, 0, 0, 0, 10];
+
+/// The same of what a login goes on with.
+pub(crate) const CHALLENGED: [u8; 15] = [1, 0, 0, 0, 0, 0, 0, 0, 0, 0, 0, 0, 0, 0, 11];
+
+/// The same of a login that is done.
+pub(crate) const WELCOMED: [u8; 15] = [1, 0, 0, 0, 0, 0, 0, 0, 0, 0, 0, 0, 0, 0, 12];
 
 fn put_numbers(out: &mut Vec<u8>, numbers: &[u64]) -> Result<(), AllocError>
     ensures bytes { OnOk result (out.new.items ≡ out.old.items ++ flat_map (to_be_bytes w64) numbers.now) }
@@ -75,6 +86,14 @@ pub fn put_answer(out: &mut Vec<u8>, answer: &Answer) -> Result<(), AllocError>
         Answer::Sessions(sessions) => {
             out.extend_from_slice(&LISTED)?;
             put_counted(out, sessions)
+        }
+        Answer::Challenge(message) => {
+            out.extend_from_slice(&CHALLENGED)?;
+            put_message(out, message)
+        }
+        Answer::Welcome(message) => {
+            out.extend_from_slice(&WELCOMED)?;
+            put_message(out, message)
         }
     }
 }

@@ -1,11 +1,12 @@
 ghost use Rattle.std.specs.Int.{to_be_bytes, w64};
-ghost use Rattle.std.specs.Prelude.{◌≡◌, ◌<◌, ◌^◌, ◌*◌, ◌++◌, ◌∷◌, ◌≤◌, ℕ, List, All, IfOk, IfSome, Some, length};
+ghost use Rattle.std.specs.Prelude.{◌≡◌, ◌≢◌, ◌<◌, ◌^◌, ◌*◌, ◌++◌, ◌∷◌, ◌≤◌, ℕ, List, [], All, IfOk, IfSome, Some, length};
 ghost use Rattle.std.specs.List.{flat_map};
 ghost use Rattle.xa_control.specs.Answers.{IsCounted, Says, SpellsAnswer, well_bytes};
 ghost use Rattle.xa_control.specs.declared.answer.Answer.{Answer};
 
-use crate::answer::{Answer, COUNTED, GREETED, LISTED};
+use crate::answer::{Answer, CHALLENGED, COUNTED, GREETED, LISTED, WELCOMED};
 use crate::hello::hello_of;
+use crate::message::message_of;
 use crate::numbers::{MOST_NUMBERS, Numbers};
 use std::alloc::{AllocError, Global};
 use xa_bytes::{take_u16, take_u64};
@@ -19,9 +20,6 @@ pub fn answer_of(alloc: Global, content: &[u8]) -> Result<Option<Answer>, AllocE
     // What has this spelling is found.
     ensures only { (a : Answer) → SpellsAnswer content.now a → IfOk result (λ answer. answer ≡ Some a) }
 {
-    if content.len() == 15 {
-        return bare(alloc, content);
-    }
     if content.len() < 15 {
         return Ok(None);
     }
@@ -35,12 +33,22 @@ pub fn answer_of(alloc: Global, content: &[u8]) -> Result<Option<Answer>, AllocE
     if front == LISTED.as_slice() {
         return listed(alloc, rest);
     }
+    if front == CHALLENGED.as_slice() {
+        return Ok(challenged(rest));
+    }
+    if front == WELCOMED.as_slice() {
+        return Ok(welcomed(rest));
+    }
+    if rest.is_empty() {
+        return bare(alloc, front);
+    }
     Ok(None)
 }
 
 // That it was done, or refused: what is spelled as a reply is.
 fn bare(alloc: Global, content: &[u8]) -> Result<Option<Answer>, AllocError>
-    requires { length content.now ≡ 15 }
+    requires long { length content.now ≡ 15 }
+    requires plain { (content.now ≢ well_bytes ++ 11 ∷ []) × (content.now ≢ well_bytes ++ 12 ∷ []) }
     ensures found { IfOk result (λ answer. IfSome answer (SpellsAnswer content.now)) }
     ensures only { (a : Answer) → SpellsAnswer content.now a → IfOk result (λ answer. answer ≡ Some a) }
 {
@@ -97,6 +105,22 @@ fn listed(alloc: Global, rest: &[u8]) -> Result<Option<Answer>, AllocError>
         Some(sessions) => Ok(Some(Answer::Sessions(sessions))),
         None => Ok(None),
     }
+}
+
+// What a login goes on with, after the kind of the body.
+fn challenged(rest: &[u8]) -> Option<Answer>
+    ensures found { IfSome result (SpellsAnswer (well_bytes ++ 11 ∷ rest.now)) }
+    ensures only { (a : Answer) → SpellsAnswer (well_bytes ++ 11 ∷ rest.now) a → result ≡ Some a }
+{
+    Some(Answer::Challenge(message_of(rest)?))
+}
+
+// What the server ends a login with, after the kind of the body.
+fn welcomed(rest: &[u8]) -> Option<Answer>
+    ensures found { IfSome result (SpellsAnswer (well_bytes ++ 12 ∷ rest.now)) }
+    ensures only { (a : Answer) → SpellsAnswer (well_bytes ++ 12 ∷ rest.now) a → result ≡ Some a }
+{
+    Some(Answer::Welcome(message_of(rest)?))
 }
 
 // The numbers after how many they are.

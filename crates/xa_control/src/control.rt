@@ -3,6 +3,7 @@ ghost use Rattle.xa_control.specs.Controls.{HoldsControl, SpellsControl, bytes_o
 ghost use Rattle.xa_control.specs.declared.control.Control.{Control};
 
 use crate::hello::{Hello, hello_of, put_hello};
+use crate::message::{MOST_MESSAGE, Message, message_of, put_message};
 use crate::whole::{u64_of, xid_of};
 use std::alloc::{AllocError, Global};
 use xa_bytes::put_u64;
@@ -22,7 +23,14 @@ pub enum Control {
     Metrics,
     /// Which sessions have an association of their own with this branch: are at work for it, or have suspended that.
     Sessions(Xid),
+    /// To begin a login by SCRAM-SHA-256 (RFC 7677): the client-first-message.
+    First(Message),
+    /// To finish the login that was begun: the client-final-message.
+    Final(Message),
 }
+
+// The most bytes of what is asked: the version, the operation and a message.
+const MOST_ASKED: usize = 2 + MOST_MESSAGE;
 
 impl Control {
     /// A copy. Takes no memory.
@@ -35,6 +43,8 @@ impl Control {
             Control::Disconnect(session) => Control::Disconnect(*session),
             Control::Metrics => Control::Metrics,
             Control::Sessions(xid) => Control::Sessions(xid.copied()),
+            Control::First(message) => Control::First(message.copied()),
+            Control::Final(message) => Control::Final(message.copied()),
         }
     }
 }
@@ -52,6 +62,8 @@ pub fn control_of(content: &[u8]) -> Option<Control>
         [1, 71, fields @ ..] => cut(fields),
         [1, 72] => Some(Control::Metrics),
         [1, 73, fields @ ..] => listing(fields),
+        [1, 74, message @ ..] => first_message(message),
+        [1, 75, message @ ..] => final_message(message),
         _ => None,
     }
 }
@@ -77,6 +89,20 @@ fn listing(fields: &[u8]) -> Option<Control>
     Some(Control::Sessions(xid_of(fields)?))
 }
 
+fn first_message(message: &[u8]) -> Option<Control>
+    ensures found { IfSome result (SpellsControl (1 ∷ 74 ∷ message.now)) }
+    ensures only { (k : Control) → SpellsControl (1 ∷ 74 ∷ message.now) k → result ≡ Some k }
+{
+    Some(Control::First(message_of(message)?))
+}
+
+fn final_message(message: &[u8]) -> Option<Control>
+    ensures found { IfSome result (SpellsControl (1 ∷ 75 ∷ message.now)) }
+    ensures only { (k : Control) → SpellsControl (1 ∷ 75 ∷ message.now) k → result ≡ Some k }
+{
+    Some(Control::Final(message_of(message)?))
+}
+
 /// Appends the content that asks for this.
 pub fn put_control(out: &mut Vec<u8>, control: &Control) -> Result<(), AllocError>
     ensures bytes { OnOk result (out.new.items ≡ out.old.items ++ bytes_of_control control.now) }
@@ -97,6 +123,14 @@ pub fn put_control(out: &mut Vec<u8>, control: &Control) -> Result<(), AllocErro
             out.extend_from_slice(&[1, 73])?;
             put_xid(out, xid)
         }
+        Control::First(message) => {
+            out.extend_from_slice(&[1, 74])?;
+            put_message(out, message)
+        }
+        Control::Final(message) => {
+            out.extend_from_slice(&[1, 75])?;
+            put_message(out, message)
+        }
     }
 }
 
@@ -104,7 +138,7 @@ pub fn put_control(out: &mut Vec<u8>, control: &Control) -> Result<(), AllocErro
 pub fn control_content(alloc: Global, control: &Control) -> Result<Vec<u8>, AllocError>
     ensures { IfOk result (λ v. SpellsControl v.items control.now) }
 {
-    let mut content = Vec::with_capacity(alloc, 14)?;
+    let mut content = Vec::with_capacity(alloc, MOST_ASKED)?;
     put_control(&mut content, control)?;
     Ok(content)
 }

@@ -25,6 +25,9 @@ pub const MEASURES: u64 = 2;
 /// The feature of listing the sessions of a branch.
 pub const LISTS: u64 = 4;
 
+/// The feature of taking logins by SCRAM-SHA-256 (RFC 7677).
+pub const LOGINS: u64 = 8;
+
 /// The features that this server has.
 pub const FEATURES: u64 = DISCONNECTS + MEASURES + LISTS;
 

@@ -130,7 +130,10 @@ fn begin<D: Reception, R: Wait>(
             Ok(counts) => Outcome::Answered(Answer::Metrics(counts)),
             Err(detail) => Outcome::Answered(Answer::Refused(XAER_RMFAIL, detail)),
         },
-        Control::Shutdown => Outcome::Answered(Answer::Refused(XAER_INVAL, Detail::Frame)),
+        // nobody logs in here
+        Control::First(_) | Control::Final(_) | Control::Shutdown => {
+            Outcome::Answered(Answer::Refused(XAER_INVAL, Detail::Frame))
+        }
     }
 }
 

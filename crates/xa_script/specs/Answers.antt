@@ -4,7 +4,7 @@ use Rattle.std.specs.Fmt.{decimal}
 use Rattle.xa_codes.specs.declared.detail.Detail.{Detail}
 use Rattle.xa_codes.specs.declared.detail.Detail.TheVariants as detail
 use Rattle.xa_control.specs.declared.answer.Answer.{Answer}
-use Rattle.xa_control.specs.declared.answer.Answer.TheVariants.{Refused, Hello, Metrics, Sessions}
+use Rattle.xa_control.specs.declared.answer.Answer.TheVariants.{Refused, Hello, Metrics, Sessions, Challenge, Welcome}
 use Rattle.xa_script.specs.Replies.{code_text, name_of}
 
 abbrev pub code_of : Answer → ℤ
@@ -19,11 +19,13 @@ detail_of _ = detail.Nothing
 abbrev pub numbers_text : List ℕ → List ℕ
 numbers_text numbers = flat_map (λ n. 32 ∷ decimal n) numbers
 
--- the revision and the features, what was measured, or the sessions that were asked for
+-- the revision and the features, what was measured, or the sessions that were asked for; a login's messages aren't shown
 abbrev pub answer_text : Answer → List ℕ
 answer_text (Hello hello) = codes " hello" ++ (32 ∷ decimal hello.revision) ++ (32 ∷ decimal hello.features)
 answer_text (Metrics numbers) = codes " metrics" ++ numbers_text numbers
 answer_text (Sessions numbers) = codes " sessions" ++ numbers_text numbers
+answer_text (Challenge message) = codes " challenge"
+answer_text (Welcome message) = codes " welcome"
 answer_text _ = []
 
 -- the code's text, a blank, the detail's name, what the answer carries and the line's end

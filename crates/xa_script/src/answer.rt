@@ -54,6 +54,8 @@ fn push_answer(alloc: Global, line: &mut Vec<u8>, answer: &Answer) -> Result<(),
             line.extend_from_slice(b" sessions")?;
             push_numbers(alloc, line, sessions.as_slice())
         }
+        Answer::Challenge(_) => line.extend_from_slice(b" challenge"),
+        Answer::Welcome(_) => line.extend_from_slice(b" welcome"),
     }
 }
 

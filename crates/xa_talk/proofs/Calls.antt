@@ -5,7 +5,7 @@ use Rattle.xa_frame.specs.declared.reply.Reply.{Reply}
 use Rattle.xa_talk.specs.declared.fault.TalkFault.{TalkFault}
 use Rattle.xa_control.specs.declared.answer.Answer.{Answer}
 use Rattle.xa_control.specs.declared.control.Control.{Control as Asking}
-use Rattle.xa_control.specs.declared.control.Control.TheVariants.{Shutdown, Hello as Greeting, Disconnect, Metrics, Sessions}
+use Rattle.xa_control.specs.declared.control.Control.TheVariants.{Shutdown, Hello as Greeting, Disconnect, Metrics, Sessions, First, Final}
 use Rattle.xa_talk.specs.declared.answered.Answered.{Answered}
 use Rattle.xa_talk.specs.Answers.{AnsweredOver, AskAnswered, ControlAnswered, EndAnswered, EndAsked, left_open, told}
 use Rattle.xa_talk.specs.Numbers.{connection_at, index_of, there, with_at}
@@ -55,3 +55,5 @@ control_answered sent left n (Greeting hello) own answer numbered numbered' othe
 control_answered sent left n (Disconnect session) own answer numbered numbered' other shows asks = (own, shows, asks)
 control_answered sent left n Metrics own answer numbered numbered' other shows asks = (own, shows, asks)
 control_answered sent left n (Sessions xid) own answer numbered numbered' other shows asks = (own, shows, asks)
+control_answered sent left n (First message) own answer numbered numbered' other shows asks = (own, shows, asks)
+control_answered sent left n (Final message) own answer numbered numbered' other shows asks = (own, shows, asks)

@@ -24,8 +24,12 @@ pub(crate) fn control<R: Read + Drop, W: Write + Drop>(
 {
     match control {
         Control::Shutdown => shown(end(alloc, connections, number)),
-        Control::Hello(_) | Control::Disconnect(_) | Control::Metrics | Control::Sessions(_) =>
-            told(ask(alloc, connections, number, control)),
+        Control::Hello(_)
+        | Control::Disconnect(_)
+        | Control::Metrics
+        | Control::Sessions(_)
+        | Control::First(_)
+        | Control::Final(_) => told(ask(alloc, connections, number, control)),
     }
 }
 

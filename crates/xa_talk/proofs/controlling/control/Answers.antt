@@ -11,7 +11,13 @@ returns-in-Hello g c =
         | inl disconnect ↦ absurd (cc (sym disconnect.1 ∙ e))
         | inr more ↦ elim more [
           | inl metrics ↦ absurd (cc (sym metrics ∙ e))
-          | inr sessions ↦ absurd (cc (sym sessions.1 ∙ e))
+          | inr rest ↦ elim rest [
+            | inl sessions ↦ absurd (cc (sym sessions.1 ∙ e))
+            | inr messages ↦ elim messages [
+              | inl first ↦ absurd (cc (sym first.1 ∙ e))
+              | inr final ↦ absurd (cc (sym final.1 ∙ e))
+            ]
+          ]
         ]
       ]
     ]) c.told.ensures c.ask.ensures
