@@ -1,0 +1,2 @@
+pub mod Believed
+pub mod Rows
