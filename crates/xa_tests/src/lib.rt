@@ -1,11 +1,12 @@
 //! Tests of what no clause says and the program doesn't show, of the crates below the manager: faults, records, versions,
-//! and readers, writers and clocks that fail. What is asked of the program is in tests/ (its README.md).
+//! logins, and readers, writers and clocks that fail. What is asked of the program is in tests/ (its README.md).
 //!
 //! - `faults`: the first fault of contents
 //! - `records`: bodies of records; `record_limits`: those at their limits
 //! - `chains`, `versions`: one key's versions, and all keys'
 //! - `connections`: one connection whose reader or writer breaks; `doors`: what it is served by
 //! - `ticks`: a clock that can't be read
+//! - `scram`: exchanges of SCRAM-SHA-256, and rows of the RFCs that it stands on
 //! - `rows`: `none_wrong`
 #![tactic(auto)]
 

@@ -4,5 +4,6 @@ mod faults;
 mod record_limits;
 mod records;
 mod rows;
+mod scram;
 mod ticks;
 mod versions;

@@ -1,0 +1,12 @@
+pub mod Xored
+pub mod Coded
+pub mod Decimals
+pub mod Exits
+pub mod Cuts
+pub mod Openings
+pub mod Texts
+pub mod Challenges
+pub mod Exchanges
+pub mod Worked
+pub mod MutualLemmas
+pub mod Lengths
