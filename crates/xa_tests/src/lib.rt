@@ -7,6 +7,7 @@
 //! - `connections`: one connection whose reader or writer breaks; `doors`: what it is served by
 //! - `ticks`: a clock that can't be read
 //! - `scram`: exchanges of SCRAM-SHA-256, and rows of the RFCs that it stands on
+//! - `users`: documents of users, their faults, and logins
 //! - `rows`: `none_wrong`
 #![tactic(auto)]
 

@@ -6,4 +6,5 @@ mod records;
 mod rows;
 mod scram;
 mod ticks;
+mod users;
 mod versions;

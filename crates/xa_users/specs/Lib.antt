@@ -1,0 +1,3 @@
+pub mod Believed
+pub mod Faults
+pub mod Rows
