@@ -13,7 +13,9 @@ use Rattle.xa_frame.specs.Made.{bad_frame}
 use Rattle.xa_desk.specs.declared.served.Served.{Served}
 use Rattle.xa_desk.specs.declared.served.Served.TheVariants.{Ended, ReadFault, WriteFault, TooLong, Memory}
 use Rattle.xa_desk.specs.Believed.Frames.{frame, reply_frame}
-use Rattle.xa_desk.specs.Believed.Serving.{AnswersAll, IsShort, frames_of}
+use Rattle.xa_desk.specs.Believed.Serving.{IsShort, frames_of}
+use Rattle.xa_roles.specs.declared.role.Role.{Role}
+use Rattle.xa_connection.specs.Believed.Access.{AnswersAllTo}
 use Rattle.xa_desk.proofs.Talking.{frames-behind}
 use Rattle.xa_connection.specs.declared.answering.Answering.{Answering}
 use Rattle.xa_connection.specs.declared.answering.Answering.TheVariants as answering
@@ -142,33 +144,33 @@ none-answered contents replies fed sent c c' h same sends =
     }))
 
 -- what was answered is one content, or a length that is too great, which is none
-front-answered : {D : Type 0} (called : D → Question → Reply → D → Type 0) (contents : List (List ℕ)) (replies : List Reply) (fed sent : List ℕ) (c c' : Connection) (d e : D) (reply : Reply) (end : Option Served)
-    → Carries contents replies fed sent c → AnswersFront called c d reply end c'.input e
+front-answered : {D : Type 0} (standing : Option Role) (called : D → Question → Reply → D → Type 0) (contents : List (List ℕ)) (replies : List Reply) (fed sent : List ℕ) (c c' : Connection) (d e : D) (reply : Reply) (end : Option Served)
+    → Carries contents replies fed sent c → AnswersFront standing called c d reply end c'.input e
     → (end ≡ None → Sends c'.end (replies ++ reply ∷ []) c'.input sent c'.output)
     → (BeginsTooLong c'.input → reply ≡ bad_frame → end ≡ Some TooLong → Sends c'.end replies c'.input sent c'.output)
-    → (asked : List (List ℕ)) × (answered : List Reply) × AnswersAll called d asked answered e × Carries (contents ++ asked) (replies ++ answered) fed sent c'
-front-answered called contents replies fed sent c c' d e reply end h (inl k) one none =
+    → (asked : List (List ℕ)) × (answered : List Reply) × AnswersAllTo standing called d asked answered e × Carries (contents ++ asked) (replies ++ answered) fed sent c'
+front-answered standing called contents replies fed sent c c' d e reply end h (inl k) one none =
     (k.0 ∷ [], reply ∷ [], (e, k.3, refl), frame-answered contents replies fed sent c c' k.0 reply h k.1 k.2 (one k.4))
-front-answered called contents replies fed sent c c' d e reply end h (inr k) one none =
+front-answered standing called contents replies fed sent c c' d e reply end h (inr k) one none =
     ([], [], sym k.2, none-answered contents replies fed sent c c' h k.1 (none (subst BeginsTooLong (sym k.1) k.0) k.3 k.4))
 
-carries-answered : {D : Type 0} (called : D → Question → Reply → D → Type 0) (contents : List (List ℕ)) (replies : List Reply) (fed sent : List ℕ) (answering : Answering) (c c' : Connection) (d e : D)
-    → Carries contents replies fed sent c → Turns called c d answering c' e
-    → (asked : List (List ℕ)) × (answered : List Reply) × AnswersAll called d asked answered e × Carries (contents ++ asked) (replies ++ answered) fed sent c'
-carries-answered called contents replies fed sent answering.Idle c c' d e h t = (
+carries-answered : {D : Type 0} (standing : Option Role) (called : D → Question → Reply → D → Type 0) (contents : List (List ℕ)) (replies : List Reply) (fed sent : List ℕ) (answering : Answering) (c c' : Connection) (d e : D)
+    → Carries contents replies fed sent c → Turns standing called c d answering c' e
+    → (asked : List (List ℕ)) × (answered : List Reply) × AnswersAllTo standing called d asked answered e × Carries (contents ++ asked) (replies ++ answered) fed sent c'
+carries-answered standing called contents replies fed sent answering.Idle c c' d e h t = (
   [],
   [],
   sym t.2,
   subst (λ (x : Connection). Carries (contents ++ []) (replies ++ []) fed sent x) (sym t.1) (none-answered contents replies fed sent c c h refl h.sends),
 )
-carries-answered called contents replies fed sent answering.Answered c c' d e h t =
+carries-answered standing called contents replies fed sent answering.Answered c c' d e h t =
     let told : sent ≡ frames_of replies = all-sent c.end replies c.input sent c.output t.0.0 t.0.1 h.sends in
-    front-answered called contents replies fed sent c c' d e t.1 c'.end h t.2
+    front-answered standing called contents replies fed sent c c' d e t.1 c'.end h t.2
     (λ goes. sends-by c'.end None (replies ++ t.1 ∷ []) c'.input sent c'.output (reply_frame t.1) goes t.3 (more-delivers replies t.1 sent told))
     (λ b is shut. sends-by c'.end (Some TooLong) replies c'.input sent c'.output (reply_frame bad_frame) shut (t.3 ∙ ap reply_frame is) (b, more-delivers replies bad_frame sent told))
-carries-answered called contents replies fed sent answering.Memory c c' d e h t =
+carries-answered standing called contents replies fed sent answering.Memory c c' d e h t =
     let told : sent ≡ frames_of replies = all-sent c.end replies c.input sent c.output t.0.0 t.0.1 h.sends in
-    front-answered called contents replies fed sent c c' d e t.1 t.2 h t.3
+    front-answered standing called contents replies fed sent c c' d e t.1 t.2 h t.3
     (λ goes. sends-by c'.end (Some Memory) (replies ++ t.1 ∷ []) c'.input sent c'.output [] t.5 t.4 (replies, t.1, [], c'.input, refl, inl (refl, refl), told, refl))
     (λ b is shut. sends-by c'.end (Some Memory) replies c'.input sent c'.output [] t.5 t.4 (replies, t.1, b.0, b.1, b.3, inr (b.2, ap (λ (r : Reply). replies ++ r ∷ []) is), told, refl))
 
@@ -216,11 +218,11 @@ carries-anew c ready few = record {
   bounded = few;
 }
 
-pub carries-law : {D : Type 0} (called : D → Question → Reply → D → Type 0) → CarriesLaw called
-carries-law called = record {
+pub carries-law : {D : Type 0} (standing : Option Role) (called : D → Question → Reply → D → Type 0) → CarriesLaw standing called
+carries-law standing called = record {
   begins = record { short = All-nil IsShort; fed_is = refl; sends = idle-delivers [] [] refl; bounded = omega arith };
   fed = carries-fed;
-  answered = carries-answered called;
+  answered = carries-answered standing called;
   sent = carries-sent;
   controlled = carries-controlled;
   anew = carries-anew;

@@ -1,3 +1,4 @@
+pub mod Allowing
 pub mod Carrying
 pub mod Ending
 pub mod Fronts

@@ -1,5 +1,5 @@
 -- What each call does to a connection.
-use Rattle.std.specs.Prelude.{ℕ, ◌≡◌, ◌≢◌, ◌⊎◌, ◌+◌, ◌-◌, List, [], ◌∷◌, ◌++◌, length, take, drop, min, Option, Some, None, IsSome}
+use Rattle.std.specs.Prelude.{ℕ, Bool, true, ◌≡◌, ◌≢◌, ◌⊎◌, ◌+◌, ◌-◌, List, [], ◌∷◌, ◌++◌, length, take, drop, min, Option, Some, None, IsSome}
 use Rattle.xa_control.specs.declared.answer.Answer.{Answer}
 use Rattle.xa_control.specs.declared.control.Control.{Control}
 use Rattle.xa_control.specs.Answers.{bytes_of_answer}
@@ -16,7 +16,10 @@ use Rattle.xa_frame.specs.Questions.{IsQuestion, SpellsQuestion, fault_of_questi
 use Rattle.xa_desk.specs.declared.served.Served.{Served}
 use Rattle.xa_desk.specs.declared.served.Served.TheVariants as served
 use Rattle.xa_desk.specs.Believed.Frames.{frame, reply_frame, without_memory}
-use Rattle.xa_desk.specs.Believed.Serving.{Answers, IsShort, IsCut}
+use Rattle.xa_desk.specs.Believed.Serving.{IsShort, IsCut}
+use Rattle.xa_roles.specs.declared.role.Role.{Role}
+use Rattle.xa_roles.specs.Believed.Roles.{may_ask, may_order}
+use Rattle.xa_connection.specs.Believed.Access.{AnswersTo, IsDenied, no_access}
 use Rattle.xa_connection.specs.declared.answering.Answering.{Answering}
 use Rattle.xa_connection.specs.declared.answering.Answering.TheVariants.{Idle, Answered, Memory}
 use Rattle.xa_connection.specs.declared.connection.Connection.{Connection}
@@ -59,26 +62,27 @@ IsIdle c = IsSome c.end ⊎ ((c.output ≢ []) ⊎ IsCut c.input)
 abbrev pub AsksServer : List ℕ → ℕ → Control → Type 0
 AsksServer input count control = BeginsWhole input count × SpellsControl (take count (drop 4 input)) control
 
--- it asks something of the server itself
-abbrev pub IsForServer : List ℕ → Type 0
-IsForServer input = (count : ℕ) × (control : Control) × AsksServer input count control
+-- it asks something of the server itself, which may be asked by who has shown this
+abbrev pub IsForServer : Option Role → List ℕ → Type 0
+IsForServer standing input =
+    (count : ℕ) × (control : Control) × AsksServer input count control × (may_order standing control ≡ true)
 
 -- what is at the front is owed this reply: a content, which is taken with its length; or a length that is too great,
 -- which stays, and after whose reply it has to end
-abbrev pub AnswersFront : {D : Type 0} → (D → Question → Reply → D → Type 0) → Connection → D → Reply → Option Served → List ℕ → D → Type 0
-AnswersFront called c d reply end input e =
-    ((content : List ℕ) × IsShort content × (c.input ≡ frame content ++ input) × Answers called d content reply e
+abbrev pub AnswersFront : {D : Type 0} → Option Role → (D → Question → Reply → D → Type 0) → Connection → D → Reply → Option Served → List ℕ → D → Type 0
+AnswersFront standing called c d reply end input e =
+    ((content : List ℕ) × IsShort content × (c.input ≡ frame content ++ input) × AnswersTo standing called d content reply e
     × (end ≡ None))
     ⊎ (BeginsTooLong c.input × (input ≡ c.input) × (e ≡ d) × (reply ≡ bad_frame) × (end ≡ Some served.TooLong))
 
 -- an answer: one reply was owed, and has to be sent, or found no memory; none is owed if
 -- the server itself is asked
-abbrev pub Turns : {D : Type 0} → (D → Question → Reply → D → Type 0) → Connection → D → Answering → Connection → D → Type 0
-Turns called c d Idle c' e = (IsIdle c ⊎ IsForServer c.input) × (c' ≡ c) × (e ≡ d)
-Turns called c d Answered c' e =
-    IsReady c × (reply : Reply) × AnswersFront called c d reply c'.end c'.input e × (c'.output ≡ reply_frame reply)
-Turns called c d Memory c' e =
-    IsReady c × (reply : Reply) × (end : Option Served) × AnswersFront called c d reply end c'.input e × (c'.output ≡ [])
+abbrev pub Turns : {D : Type 0} → Option Role → (D → Question → Reply → D → Type 0) → Connection → D → Answering → Connection → D → Type 0
+Turns standing called c d Idle c' e = (IsIdle c ⊎ IsForServer standing c.input) × (c' ≡ c) × (e ≡ d)
+Turns standing called c d Answered c' e =
+    IsReady c × (reply : Reply) × AnswersFront standing called c d reply c'.end c'.input e × (c'.output ≡ reply_frame reply)
+Turns standing called c d Memory c' e =
+    IsReady c × (reply : Reply) × (end : Option Served) × AnswersFront standing called c d reply end c'.input e × (c'.output ≡ [])
     × (c'.end ≡ Some served.Memory)
 
 -- a content that reaches no door, and the reply that it is owed: it has a fault, or decoding it found no memory
@@ -87,24 +91,29 @@ IsRefused content reply =
     ((f : FrameFault) × (f ≢ faults.Memory) × (fault_of_question content ≡ Some f) × (reply ≡ bad_frame))
     ⊎ ((fault_of_question content ≡ None) × (reply ≡ without_memory))
 
--- what a content asks for, of this many bytes: something of the server itself, the question that it spells, or nothing for
--- a door
-abbrev pub AsksBy : ℕ → List ℕ → Asked → Type 0
-AsksBy count content (One n q) = (n ≡ count) × SpellsQuestion content q
-AsksBy count content (Refused (Whole n) reply) = (n ≡ count) × IsRefused content reply × IsNoControl content
-AsksBy count content (Controls n control) = (n ≡ count) × SpellsControl content control
-AsksBy count content _ = ⊥
+-- a content that reaches no door, and the reply that it is owed: it asks for nothing, or for what may not be asked
+abbrev pub IsOwed : Option Role → List ℕ → Reply → Type 0
+IsOwed standing content reply =
+    (IsRefused content reply × IsNoControl content) ⊎ (IsDenied standing content × (reply ≡ no_access))
+
+-- what a content asks for, of this many bytes, where who asks has shown this: something of the server itself, the question
+-- that it spells, or nothing for a door
+abbrev pub AsksBy : Option Role → ℕ → List ℕ → Asked → Type 0
+AsksBy standing count content (One n q) = (n ≡ count) × SpellsQuestion content q × (may_ask standing q ≡ true)
+AsksBy standing count content (Refused (Whole n) reply) = (n ≡ count) × IsOwed standing content reply
+AsksBy standing count content (Controls n control) = (n ≡ count) × SpellsControl content control × (may_order standing control ≡ true)
+AsksBy standing count content _ = ⊥
 
 -- what the front asks for: what the content of a frame does, or nothing for a door
-abbrev pub Asks : Connection → Asked → Type 0
-Asks c asked.Idle = IsIdle c
-Asks c (One count q) = IsReady c × BeginsWhole c.input count × SpellsQuestion (take count (drop 4 c.input)) q
-Asks c (Refused (Whole count) reply) =
-    IsReady c × BeginsWhole c.input count × IsRefused (take count (drop 4 c.input)) reply
-    × IsNoControl (take count (drop 4 c.input))
-Asks c (Refused front.TooLong reply) = IsReady c × BeginsTooLong c.input × (reply ≡ bad_frame)
-Asks c (Refused Cut reply) = ⊥
-Asks c (Controls count control) = IsReady c × AsksServer c.input count control
+abbrev pub Asks : Option Role → Connection → Asked → Type 0
+Asks standing c asked.Idle = IsIdle c
+Asks standing c (One count q) =
+    IsReady c × BeginsWhole c.input count × SpellsQuestion (take count (drop 4 c.input)) q × (may_ask standing q ≡ true)
+Asks standing c (Refused (Whole count) reply) =
+    IsReady c × BeginsWhole c.input count × IsOwed standing (take count (drop 4 c.input)) reply
+Asks standing c (Refused front.TooLong reply) = IsReady c × BeginsTooLong c.input × (reply ≡ bad_frame)
+Asks standing c (Refused Cut reply) = ⊥
+Asks standing c (Controls count control) = IsReady c × AsksServer c.input count control × (may_order standing control ≡ true)
 
 -- what is asked is within the limits
 abbrev pub IsAsked : Asked → Type 0

@@ -10,7 +10,9 @@ use Rattle.xa_frame.specs.Made.{bad_frame}
 use Rattle.xa_desk.specs.declared.served.Served.{Served}
 use Rattle.xa_desk.specs.declared.served.Served.TheVariants.{TooLong, Memory}
 use Rattle.xa_desk.specs.Believed.Frames.{frame, reply_frame}
-use Rattle.xa_desk.specs.Believed.Serving.{AnswersAll, IsShort, Owes, frames_of}
+use Rattle.xa_desk.specs.Believed.Serving.{IsShort, Owes, frames_of}
+use Rattle.xa_roles.specs.declared.role.Role.{Role}
+use Rattle.xa_connection.specs.Believed.Access.{AnswersAllTo}
 use Rattle.xa_connection.specs.declared.answering.Answering.{Answering}
 use Rattle.xa_connection.specs.declared.answering.Answering.TheVariants.{Idle, Answered, Memory as Wanted}
 use Rattle.xa_connection.specs.declared.connection.Connection.{Connection}
@@ -61,17 +63,17 @@ pub record CarriesControl (contents : List (List ℕ)) (replies : List Reply) (f
   pub owed : Owed answering answer c
   pub bounded : length c.input ≤ MOST_INPUT
 
--- so it begins, and stays with each call; an answer adds what the door was asked and has answered, if anything; an answer
+-- so it begins, and stays with each call of who has shown this; an answer adds what the door was asked and has answered, if anything; an answer
 -- of the server's own comes after all that was carried, and what is carried may be told anew from any moment at which
 -- nothing has to be sent, as once that answer was
-pub record CarriesLaw {D : Type 0} (called : D → Question → Reply → D → Type 0) : Type 0 where
+pub record CarriesLaw {D : Type 0} (standing : Option Role) (called : D → Question → Reply → D → Type 0) : Type 0 where
   pub begins : Carries [] [] [] [] new_connection
   pub fed : (contents : List (List ℕ)) (replies : List Reply) (fed sent bytes : List ℕ) (count : ℕ) (c c' : Connection)
       → Carries contents replies fed sent c → Feeds c bytes count c'
       → Carries contents replies (fed ++ take count bytes) sent c'
   pub answered : (contents : List (List ℕ)) (replies : List Reply) (fed sent : List ℕ) (answering : Answering)
-      (c c' : Connection) (d e : D) → Carries contents replies fed sent c → Turns called c d answering c' e
-      → (asked : List (List ℕ)) × (answered : List Reply) × AnswersAll called d asked answered e
+      (c c' : Connection) (d e : D) → Carries contents replies fed sent c → Turns standing called c d answering c' e
+      → (asked : List (List ℕ)) × (answered : List Reply) × AnswersAllTo standing called d asked answered e
       × Carries (contents ++ asked) (replies ++ answered) fed sent c'
   pub sent : (contents : List (List ℕ)) (replies : List Reply) (fed sent : List ℕ) (count : ℕ) (c : Connection)
       → Carries contents replies fed sent c

@@ -1,3 +1,4 @@
+pub mod Believed
 pub mod Fronts
 pub mod Calls
 pub mod Carries

@@ -1,20 +1,21 @@
 ghost use Rattle.std.specs.Prelude.{◌≡◌, ◌↔◌, [], drop, length, IfOk, IfErr, OnErr, IsSome, IsTrue};
+ghost use Rattle.xa_connection.specs.Believed.Access.{no_access};
 ghost use Rattle.xa_control.specs.Answers.{IsAnswer};
 ghost use Rattle.xa_frame.specs.{Limits.IsReply, Questions.IsQuestion, Questions.SpellsQuestion};
-ghost use Rattle.xa_connection.specs.Calls.{AnswersServer, Asks, AsksBy, Feeds, IsAsked, IsPut, IsRefused, Replies, Turns, new_connection, room_of};
+ghost use Rattle.xa_connection.specs.Calls.{AnswersServer, AsksServer, IsReady, Asks, AsksBy, Feeds, IsAsked, IsPut, IsRefused, Replies, Turns, new_connection, room_of};
 ghost use Rattle.xa_connection.specs.Fronts.{IsInsideFrame, IsShortFront};
-ghost use Rattle.xa_connection.specs.declared.asked.Asked.TheVariants.{Control as Controls};
 
 use crate::answering::Answering;
 use crate::asked::Asked;
 use crate::buffer::Buffer;
 use crate::front::{Front, front_of};
 use std::alloc::{AllocError, Global};
-use xa_codes::{Detail, XAER_RMFAIL};
+use xa_codes::{Detail, XAER_INVAL, XAER_RMFAIL};
 use xa_control::{Answer, Control, control_of};
 use xa_desk::{Door, Served};
 use xa_frame::{Body, FrameFault, Question, Reply, decode_question};
 use xa_limits::MOST_CONTENT;
+use xa_roles::{Role, may_ask, may_order};
 
 /// The most bytes that are kept of what came in: those of the longest frame.
 pub const MOST_INPUT: usize = 4 + MOST_CONTENT;
@@ -65,20 +66,33 @@ impl Connection {
         Ok(count)
     }
 
-    /// Answers the frame at the front, if it is whole and nothing has to be sent. A length above `MOST_CONTENT` is
-    /// answered as a bad frame, and the connection has to end after that.
-    pub fn answer<D: Door>(&mut self, alloc: Global, door: &mut D, session: u64) -> Answering
-        ensures { Turns (D.called session) self.old door.old result self.new door.new }
+    /// Answers the frame at the front, if it is whole and nothing has to be sent, to who has shown this role, or none: what
+    /// may not be asked is answered -5 Access, and reaches no door. A length above `MOST_CONTENT` is answered as a bad frame,
+    /// and the connection has to end after that.
+    pub fn answer<D: Door>(
+        &mut self,
+        alloc: Global,
+        standing: Option<Role>,
+        door: &mut D,
+        session: u64,
+    ) -> Answering
+        ensures { Turns standing (D.called session) self.old door.old result self.new door.new }
     {
-        let asked = self.asked(alloc);
-        self.answer_asked(door, session, asked)
+        let asked = self.asked(alloc, standing);
+        self.answer_asked(standing, door, session, asked)
     }
 
-    /// Answers what the front asks for.
-    pub fn answer_asked<D: Door>(&mut self, door: &mut D, session: u64, asked: Asked) -> Answering
-        requires asks { Asks self.old asked }
+    /// Answers what the front asks for, to who has shown this.
+    pub fn answer_asked<D: Door>(
+        &mut self,
+        _standing: Option<Role>,
+        door: &mut D,
+        session: u64,
+        asked: Asked,
+    ) -> Answering
+        requires asks { Asks _standing self.old asked }
         requires limits { IsAsked asked }
-        ensures { Turns (D.called session) self.old door.old result self.new door.new }
+        ensures { Turns _standing (D.called session) self.old door.old result self.new door.new }
     {
         match asked {
             Asked::Idle | Asked::Control(_, _) => Answering::Idle,
@@ -90,9 +104,10 @@ impl Connection {
         }
     }
 
-    /// What the front asks for, if it is whole and nothing has to be sent. It stays until it is replied to.
-    pub fn asked(&self, alloc: Global) -> Asked
-        ensures asks { Asks self.now result }
+    /// What the front asks for, if it is whole and nothing has to be sent, where who asks has shown this role, or none. It
+    /// stays until it is replied to.
+    pub fn asked(&self, alloc: Global, standing: Option<Role>) -> Asked
+        ensures asks { Asks standing self.now result }
         ensures limits { IsAsked result }
     {
         if self.is_closing() || self.output.len() > 0 {
@@ -102,7 +117,7 @@ impl Connection {
         match front_of(input) {
             Front::Cut => Asked::Idle,
             Front::TooLong => Asked::Refused(Front::TooLong, Reply::bad_frame()),
-            Front::Whole(count) => asked_by(alloc, count, &input[4..4 + count]),
+            Front::Whole(count) => asked_by(alloc, standing, count, &input[4..4 + count]),
         }
     }
 
@@ -128,7 +143,7 @@ impl Connection {
     /// Answers what the front asks of the server itself: its frame is taken, and the answer's has to be sent. Where there is
     /// no memory for that, the connection has to end.
     pub fn answer_control(&mut self, count: usize, _control: Control, answer: &Answer) -> Answering
-        requires asks { Asks self.old (Controls count _control) }
+        requires asks { AsksServer self.old.input count _control × IsReady self.old }
         requires limits { IsAnswer answer.now }
         ensures { AnswersServer self.old _control answer.now result self.new }
     {
@@ -183,19 +198,37 @@ impl Connection {
     }
 }
 
-// What a content of `count` bytes at the front asks for.
-fn asked_by(alloc: Global, count: usize, content: &[u8]) -> Asked
+// What a content of `count` bytes at the front asks for, where who asks has shown this.
+fn asked_by(alloc: Global, standing: Option<Role>, count: usize, content: &[u8]) -> Asked
     requires { count ≡ length content.now }
-    ensures asks { AsksBy count content.now result }
+    ensures asks { AsksBy standing count content.now result }
     ensures limits { IsAsked result }
 {
     if let Some(control) = control_of(content) {
-        return Asked::Control(count, control);
+        return if may_order(standing, &control) {
+            Asked::Control(count, control)
+        } else {
+            Asked::Refused(Front::Whole(count), no_access())
+        };
     }
     match question_of(alloc, content) {
-        Ok(question) => Asked::One(count, question),
+        Ok(question) => {
+            if may_ask(standing, &question) {
+                Asked::One(count, question)
+            } else {
+                Asked::Refused(Front::Whole(count), no_access())
+            }
+        }
         Err(reply) => Asked::Refused(Front::Whole(count), reply),
     }
+}
+
+// What is answered where it may not be asked.
+fn no_access() -> Reply
+    ensures is { result ≡ no_access }
+    ensures limits { IsReply result }
+{
+    Reply::detailed(XAER_INVAL, Detail::Access)
 }
 
 // The reply to a question.

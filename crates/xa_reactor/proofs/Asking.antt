@@ -1,5 +1,5 @@
 -- Asks that are answered together.
-use Rattle.std.proofs.Common.{◌≡◌, ◌∙◌, ℕ, List, [], ◌∷◌, ◌++◌, drop, get_or, set, take, Option, Some, None, Result, refl, sym, ap, inl, subst}
+use Rattle.std.proofs.Common.{◌≡◌, ◌∙◌, ℕ, Bool, true, List, [], ◌∷◌, ◌++◌, drop, get_or, set, take, Option, Some, None, Result, refl, sym, ap, inl, subst}
 use Rattle.std.specs.Prelude.{All, IsSomeAnd, MatchOption}
 use Rattle.std.proofs.lemmas.List.Elements.{All-cons, All-get_or, All-head, All-nil, All-push, All-same, All-set, All-tail, All-weaker}
 use Rattle.xa_assoc.specs.declared.fault.ConnectFault.{ConnectFault}
@@ -13,10 +13,12 @@ use Rattle.xa_frame.specs.declared.question.Question.{Question}
 use Rattle.xa_frame.specs.declared.question.Question.TheVariants.{Call}
 use Rattle.xa_frame.specs.declared.reply.Reply.{Reply}
 use Rattle.xa_frame.specs.declared.request.Request.{Request}
+use Rattle.xa_roles.specs.declared.role.Role.{Role}
+use Rattle.xa_roles.specs.Believed.Roles.{may_ask}
 use Rattle.xa_reactor.specs.declared.ask.Ask.{Ask}
-use Rattle.xa_reactor.specs.Asking.{HasRequest, IsAnswered, IsAsking, IsLeft, IsLent, IsOpen, MayBeTold, Puts, PutsAll, Tells, TellsEach, TellsOne, TellsSome, TurnedSome}
+use Rattle.xa_reactor.specs.Asking.{HasRequest, IsAnswered, IsAsking, IsLeft, IsLent, IsBrought, MayBeTold, Puts, PutsAll, Tells, TellsEach, TellsOne, TellsSome, TurnedSome}
 use Rattle.xa_reactor.specs.Opening.{Opens, OpensAt}
-use Rattle.xa_reactor.specs.Believed.Tending.{Table, Tends}
+use Rattle.xa_reactor.specs.Believed.Tending.{Seat, Table, Tends, seat_of}
 use Rattle.xa_reactor.specs.Turning.{HasAnswered}
 use Rattle.xa_reactor.specs.declared.peer.Opened.{Opened}
 use Rattle.xa_reactor.specs.declared.peer.Opened.TheVariants.{Asks, Over}
@@ -24,19 +26,37 @@ use Rattle.xa_reactor.specs.declared.peer.Peer.{Peer}
 use Rattle.xa_reactor.proofs.Doing.{tends_answered, tends_none, tends_twice}
 
 -- what a connection asked was answered at the door
-asked : {D : Type 0} (called : D → Question → Reply → D → Type 0) (front : Front) (request : Option Request) (q : Request) (reply : Reply) (c : Connection) (d e : D)
-    → IsAsking c front request → request ≡ Some q → called d (Call q) reply e → HasAnswered called d e
-asked called (Whole count) (Some r) q reply c d e asks is told =
+asked : {D : Type 0} (standing : Option Role) (called : D → Question → Reply → D → Type 0) (front : Front) (request : Option Request) (q : Request) (reply : Reply) (c : Connection) (d e : D)
+    → IsAsking standing c front request → request ≡ Some q → called d (Call q) reply e → HasAnswered standing called d e
+asked standing called (Whole count) (Some r) q reply c d e asks is told =
     let same : q ≡ r = cc is in
-    let spells : SpellsQuestion (take count (drop 4 c.input)) (Call r) = asks.2 in
-    (take count (drop 4 c.input) ∷ [], reply ∷ [], (e, inl (r, spells, subst (λ (x : Request). called d (Call x) reply e) same told), refl))
-asked called (Whole count) None q reply c d e asks is told = absurd asks
-asked called Cut request q reply c d e asks is told = absurd asks
-asked called TooLong request q reply c d e asks is told = absurd asks
+    let spells : SpellsQuestion (take count (drop 4 c.input)) (Call r) = asks.2 in (
+      take count (drop 4 c.input) ∷ [],
+      reply ∷ [],
+      (e, inl (inl (r, spells, (asks.3, subst (λ (x : Request). called d (Call x) reply e) same told))), refl),
+    )
+asked standing called (Whole count) None q reply c d e asks is told = absurd asks
+asked standing called Cut request q reply c d e asks is told = absurd asks
+asked standing called TooLong request q reply c d e asks is told = absurd asks
+
+-- so it may be asked
+pub may_of : (standing : Option Role) (c : Connection) (front : Front) (request : Option Request) → IsAsking standing c front request
+    → (q : Request) → request ≡ Some q → may_ask standing (Call q) ≡ true
+may_of standing c (Whole count) (Some r) asks q is =
+    let same : q ≡ r = cc is in
+    subst (λ (x : Request). may_ask standing (Call x) ≡ true) (sym same) asks.3
+may_of standing c (Whole count) None asks q is = absurd asks
+may_of standing c Cut request asks q is = absurd asks
+may_of standing c TooLong request asks q is = absurd asks
+
+abbrev pub seat_with : Ask → Option Role → Seat
+seat_with a standing = record { session = a.session; standing = standing }
 
 -- the session is served under its key, and as long as its request is left, the connection asks so
 abbrev Stays : Table → Ask → Type 0
-Stays table a = (table a.key ≡ Some a.session) × ((q : Request) → a.request ≡ Some q → IsAsking a.connection a.front a.request)
+Stays table a =
+    (standing : Option Role) × (table a.key ≡ Some (seat_with a standing))
+    × ((q : Request) → a.request ≡ Some q → IsAsking standing a.connection a.front a.request)
 
 -- its reply may be put to its connection, once its request is gone
 abbrev Ready : Ask → Type 0
@@ -57,31 +77,34 @@ module _ {D : Type 0} (called : ℕ → D → Question → Reply → D → Type 
       left_true P one m.0 told m.1 e tells.1 (all_left_true P one asks m.0 d m.1 ms tells.0 all)
 
   still_stays : (table : Table) (d e : D) (a b : Ask) → Stays table a → Tells called d a b e → Stays table b
-  still_stays table d e a b stays tells =
-      (ap table tells.key ∙ stays.0 ∙ ap Some (sym tells.session), λ q is. absurd (cc (sym tells.gone ∙ is)))
+  still_stays table d e a b stays tells = (
+    stays.0,
+    ap table tells.key ∙ stays.1 ∙ ap (λ (n : ℕ). Some (record { session = n; standing = stays.0 })) (sym tells.session),
+    λ q is. absurd (cc (sym tells.gone ∙ is)),
+  )
 
   still_ready : (d e : D) (a b : Ask) → Ready a → Tells called d a b e → Ready b
   still_ready d e a b ready tells = (subst IsShortFront (sym tells.front) ready.0, λ _. tells.limits)
 
   -- the connections are those of sessions that are served
-  module _ (connected : D → Result ℕ ConnectFault → D → Type 0) (left : ℕ → D → D → Type 0) where
+  module _ (lets_in : D → Option Role → Type 0) (connected : D → Result ℕ ConnectFault → D → Type 0) (left : ℕ → D → D → Type 0) where
     tends_told : (table : Table) (asks told : List Ask) (d e : D) (before : List (List Ask × D)) → TellsEach called d asks before told e
-        → All (Stays table) asks → Tends connected called left table d table e
-    tends_told table asks told d e [] tells stay = subst (λ (x : D). Tends connected called left table d table x) tells.1 (tends_none connected called left table table d refl)
+        → All (Stays table) asks → Tends lets_in connected called left table d table e
+    tends_told table asks told d e [] tells stay = subst (λ (x : D). Tends lets_in connected called left table d table x) tells.1 (tends_none lets_in connected called left table table d refl)
     tends_told table asks told d e (m ∷ ms) tells stay =
         let one : TellsOne called m.1 m.0 told e = tells.1 in
         let a : Ask = get_or m.0 one.place one.ask in
         let now : Stays table a = All-get_or (Stays table) m.0 one.place one.ask one.within (all_left_true (Stays table) (still_stays table) asks m.0 d m.1 ms tells.0 stay) in
-        tends_twice connected called left table table table d m.1 e
+        tends_twice lets_in connected called left table table table d m.1 e
         (tends_told table asks m.0 d m.1 ms tells.0 stay)
-        (tends_answered connected called left table table m.1 e a.key a.session now.0
-        (asked (called a.session) a.front a.request one.tells.request one.ask.reply a.connection m.1 e
-        (now.1 one.tells.request one.tells.asked) one.tells.asked one.tells.told) refl)
+        (tends_answered lets_in connected called left table table m.1 e a.key (seat_with a now.0) now.1
+        (asked now.0 (called a.session) a.front a.request one.tells.request one.ask.reply a.connection m.1 e
+        (now.2 one.tells.request one.tells.asked) one.tells.asked one.tells.told) refl)
 
     pub tends_turned : (table : Table) (asks told : List Ask) (d e : D) → All (IsLent table) asks → TellsSome called d asks told e
-        → Tends connected called left table d table e
+        → Tends lets_in connected called left table d table e
     tends_turned table asks told d e lent tells =
-        let stay : All (Stays table) asks = All-weaker (IsLent table) (Stays table) (λ a h. (h.0, λ q is. h.1.1)) asks lent in
+        let stay : All (Stays table) asks = All-weaker (IsLent table) (Stays table) (λ a h. (h.standing, h.at, λ q is. h.opened.1)) asks lent in
         tends_told table asks told d e tells.0 tells.1 stay
 
   -- what was answered, or is lent still, is so when the replies are put
@@ -128,15 +151,20 @@ pub lent_left : (table : Table) (a : Ask) → (IsAnswered a → ⊥) → IsLeft 
 lent_left table a some h = left_lent table a a.request some h
 
 -- a turn was opened of a connection whose session is served
-pub opens_at : {D : Type 0} (called : ℕ → D → Question → Reply → D → Type 0) (connected : D → Result ℕ ConnectFault → D → Type 0) (left : ℕ → D → D → Type 0)
-    (table : Table) (old : Peer) (key : ℕ) (result : Opened) (new : Peer) (d e : D) → table key ≡ Some old.session
-    → Opens (called old.session) old d key result new e → OpensAt connected called left table d result e
-opens_at called connected left table old key (Asks ask) new d e has (lends, same) = (
-  (ap table lends.key ∙ has ∙ ap Some (sym lends.session), lends.asks),
+pub opens_at : {D : Type 0} (called : ℕ → D → Question → Reply → D → Type 0) (lets_in : D → Option Role → Type 0)
+    (connected : D → Result ℕ ConnectFault → D → Type 0) (left : ℕ → D → D → Type 0)
+    (table : Table) (old : Peer) (key : ℕ) (result : Opened) (new : Peer) (d e : D) → table key ≡ Some (seat_of old)
+    → Opens (called old.session) old d key result new e → OpensAt lets_in connected called left table d result e
+opens_at called lets_in connected left table old key (Asks ask) new d e has (lends, same) = (
+  record {
+    standing = old.standing;
+    at = ap table lends.key ∙ has ∙ ap (λ (n : ℕ). Some (record { session = n; standing = old.standing })) (sym lends.session);
+    opened = lends.asks;
+  },
   same,
 )
-opens_at called connected left table old key (Over step) new d e has (answered, carried) =
-    tends_answered connected called left table table d e key old.session has answered refl
+opens_at called lets_in connected left table old key (Over step) new d e has (answered, carried) =
+    tends_answered lets_in connected called left table table d e key (seat_of old) has answered refl
 
 -- those that are lent stay so while the table stays
 pub lent_still : (old new : Table) (asks : List Ask) → new ≡ old → All (IsLent old) asks → All (IsLent new) asks
@@ -148,26 +176,26 @@ pub lent_more : (old new : Table) (asks more : List Ask) (ask : Ask) → new ≡
 lent_more old new asks more ask same is lent one =
     All-same (IsLent new) more (asks ++ ask ∷ []) is (All-push (IsLent new) asks ask (lent_still old new asks same lent) one)
 
-pub are_open : (table : Table) (asks : List Ask) → All (IsLent table) asks → All IsOpen asks
-are_open table asks lent = All-weaker (IsLent table) IsOpen (λ a h. h.1) asks lent
+pub are_open : (table : Table) (asks : List Ask) → All (IsLent table) asks → All IsBrought asks
+are_open table asks lent = All-weaker (IsLent table) IsBrought (λ a h. record { standing = h.standing; opened = h.opened }) asks lent
 
-pub have_requests : (asks : List Ask) → All IsOpen asks → All HasRequest asks
-have_requests asks opened = All-weaker IsOpen HasRequest (λ a h. h.0) asks opened
+pub have_requests : (asks : List Ask) → All IsBrought asks → All HasRequest asks
+have_requests asks opened = All-weaker IsBrought HasRequest (λ a h. h.opened.0) asks opened
 
-short : (c : Connection) (front : Front) (request : Option Request) → IsAsking c front request → IsShortFront front
-short c (Whole count) (Some q) h = h.1.short
-short c (Whole count) None h = absurd h
-short c Cut request h = absurd h
-short c TooLong request h = absurd h
+short : (standing : Option Role) (c : Connection) (front : Front) (request : Option Request) → IsAsking standing c front request → IsShortFront front
+short standing c (Whole count) (Some q) h = h.1.short
+short standing c (Whole count) None h = absurd h
+short standing c Cut request h = absurd h
+short standing c TooLong request h = absurd h
 
 opened_ready : (a : Ask) (request : Option Request) → a.request ≡ request → IsSomeAnd request IsRequest → IsShortFront a.front → Ready a
 opened_ready a (Some q) is has is_short = (is_short, λ gone. absurd (cc (sym is ∙ gone)))
 opened_ready a None is has is_short = absurd has
 
-pub are_told : {D : Type 0} (called : ℕ → D → Question → Reply → D → Type 0) (asks told : List Ask) (d e : D) → All IsOpen asks
+pub are_told : {D : Type 0} (called : ℕ → D → Question → Reply → D → Type 0) (asks told : List Ask) (d e : D) → All IsBrought asks
     → TellsSome called d asks told e → All MayBeTold told
 are_told called asks told d e opened tells =
-    let ready : All Ready asks = All-weaker IsOpen Ready (λ a h. opened_ready a a.request refl h.0 (short a.connection a.front a.request h.1)) asks opened in
+    let ready : All Ready asks = All-weaker IsBrought Ready (λ a h. opened_ready a a.request refl h.opened.0 (short h.standing a.connection a.front a.request h.opened.1)) asks opened in
     All-weaker Ready MayBeTold (λ a h gone. (h.0, h.1 gone)) told
     (all_left_true called Ready (still_ready called) asks told d e tells.0 tells.1 ready)
 

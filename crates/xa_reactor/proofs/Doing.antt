@@ -2,30 +2,35 @@
 use Rattle.std.proofs.Common.{◌≡◌, ◌∙◌, ◌<◌, ◌≤◌, ℕ, zero, suc, Bool, true, false, arith, length, map, List, [], ◌∷◌, ◌++◌, Option, Some, None, Result, Ok, Err, get_or, set, refl, sym, ap, subst, inl, inr, ◌⊎◌}
 use Rattle.std.proofs.Math.Path.{fun_ext}
 use Rattle.std.specs.Option.{option_map}
-use Rattle.std.specs.Prelude.{nat_lt}
+use Rattle.std.specs.Prelude.{nat_lt, IsSomeAnd}
 use Rattle.std.proofs.lemmas.Bool.Decides.{nat_tests}
 use Rattle.std.proofs.lemmas.List.{get_or_past, length-map}
 use Rattle.slab.specs.Slab.{Slab, Updates, get, with_value}
 use Rattle.xa_assoc.specs.declared.fault.ConnectFault.{ConnectFault}
 use Rattle.xa_frame.specs.declared.reply.Reply.{Reply}
 use Rattle.xa_frame.specs.declared.question.Question.{Question}
+use Rattle.xa_frame.specs.declared.question.Question.TheVariants.{Call}
+use Rattle.xa_frame.specs.declared.request.Request.{Request}
+use Rattle.xa_roles.specs.declared.role.Role.{Role}
+use Rattle.xa_roles.specs.Believed.Roles.{may_ask}
 use Rattle.xa_reactor.specs.declared.loops.Ended.{Ended}
 use Rattle.xa_reactor.specs.declared.loops.Seed.{Seed}
 use Rattle.xa_reactor.specs.declared.peer.Peer.{Peer}
+use Rattle.xa_reactor.specs.Aside.{Visits}
 use Rattle.xa_reactor.specs.Turning.{HasAnswered}
-use Rattle.xa_reactor.specs.Believed.Tending.{Does, DoesAll, DoesOrPosts, DoesSome, Puts, Table, Tends, TendsPosting, HasTended, HaveTended, SeedsHaveTended, nobody, sessions_of}
+use Rattle.xa_reactor.specs.Believed.Tending.{Does, DoesAll, DoesOrPosts, DoesSome, IsOwn, Puts, Table, Tends, TendsPosting, HasTended, HaveTended, Seat, SeedsHaveTended, nobody, seat_of, sessions_of}
 
 pub same_table : (a b : Table) → ((key : ℕ) → b key ≡ a key) → a ≡ b
 same_table a b h = fun_ext (λ (key : ℕ). sym (h key))
 
 -- ---- the slab
 
--- the session under a key
-abbrev session_in : Option Peer → Option ℕ
-session_in slot = option_map (λ p. p.session) slot
+-- what is served under a key
+abbrev pub session_in : Option Peer → Option Seat
+session_in slot = option_map seat_of slot
 
 -- a peer with a session more, or one less
-pub puts_slot : (old new : Slab Peer) (key : ℕ) (slot : Option Peer) (session : Option ℕ) → Updates old new key slot
+pub puts_slot : (old new : Slab Peer) (key : ℕ) (slot : Option Peer) (session : Option Seat) → Updates old new key slot
     → session_in slot ≡ session → Puts (sessions_of old) (sessions_of new) key session
 puts_slot old new key slot session updates is = record {
   changed = ap session_in updates.changed ∙ is;
@@ -33,7 +38,7 @@ puts_slot old new key slot session updates is = record {
 }
 
 -- a peer with the same session in place of one
-in_place : (slots : List (Option Peer)) (key : ℕ) (old new : Peer) → get_or slots key None ≡ Some old → new.session ≡ old.session
+in_place : (slots : List (Option Peer)) (key : ℕ) (old new : Peer) → get_or slots key None ≡ Some old → seat_of new ≡ seat_of old
     → (other : ℕ) → session_in (get_or (set slots key (Some new)) other None) ≡ session_in (get_or slots other None)
 in_place [] key old new there same other = refl
 in_place (slot ∷ slots) zero old new there same zero = ap Some same ∙ sym (ap session_in there)
@@ -41,7 +46,7 @@ in_place (slot ∷ slots) zero old new there same (suc other) = refl
 in_place (slot ∷ slots) (suc key) old new there same zero = refl
 in_place (slot ∷ slots) (suc key) old new there same (suc other) = in_place slots key old new there same other
 
-pub same_sessions : (peers : Slab Peer) (key : ℕ) (old new : Peer) → get peers key ≡ Some old → new.session ≡ old.session
+pub same_sessions : (peers : Slab Peer) (key : ℕ) (old new : Peer) → get peers key ≡ Some old → seat_of new ≡ seat_of old
     → sessions_of peers ≡ sessions_of (with_value peers key new)
 same_sessions peers key old new there same =
     same_table (sessions_of peers) (sessions_of (with_value peers key new)) (in_place peers.slots key old new there same)
@@ -114,41 +119,41 @@ module _ {D E : Type 0} (f : D → E) (does : Table → Table → D → D → Ty
 
 -- ---- where nothing is posted
 
-module _ {D : Type 0} (connected : D → Result ℕ ConnectFault → D → Type 0)
+module _ {D : Type 0} (lets_in : D → Option Role → Type 0) (connected : D → Result ℕ ConnectFault → D → Type 0)
     (called : ℕ → D → Question → Reply → D → Type 0) (left : ℕ → D → D → Type 0) where
-  pub tends_none : (a b : Table) (d : D) → a ≡ b → Tends connected called left a d b d
-  tends_none a b d same = does_none (Does connected called left) a b d d same refl
+  pub tends_none : (a b : Table) (d : D) → a ≡ b → Tends lets_in connected called left a d b d
+  tends_none a b d same = does_none (Does lets_in connected called left) a b d d same refl
 
-  tends_one : (a b : Table) (d e : D) → Does connected called left a b d e → Tends connected called left a d b e
-  tends_one a b d e one = does_one (Does connected called left) a b d e one
+  tends_one : (a b : Table) (d e : D) → Does lets_in connected called left a b d e → Tends lets_in connected called left a d b e
+  tends_one a b d e one = does_one (Does lets_in connected called left) a b d e one
 
-  pub tends_twice : (a b c : Table) (d e f : D) → Tends connected called left a d b e → Tends connected called left b e c f
-      → Tends connected called left a d c f
-  tends_twice a b c d e f h k = does_twice (Does connected called left) a b c d e f h k
+  pub tends_twice : (a b c : Table) (d e f : D) → Tends lets_in connected called left a d b e → Tends lets_in connected called left b e c f
+      → Tends lets_in connected called left a d c f
+  tends_twice a b c d e f h k = does_twice (Does lets_in connected called left) a b c d e f h k
 
-  pub tends_thrice : (a b c t : Table) (d e f x : D) → Tends connected called left a d b e → Tends connected called left b e c f
-      → Tends connected called left c f t x → Tends connected called left a d t x
-  tends_thrice a b c t d e f x h k l = does_thrice (Does connected called left) a b c t d e f x h k l
+  pub tends_thrice : (a b c t : Table) (d e f x : D) → Tends lets_in connected called left a d b e → Tends lets_in connected called left b e c f
+      → Tends lets_in connected called left c f t x → Tends lets_in connected called left a d t x
+  tends_thrice a b c t d e f x h k l = does_thrice (Does lets_in connected called left) a b c t d e f x h k l
 
   -- a session was connected
-  pub tends_connected : (a b : Table) (d e : D) (key session : ℕ) → a key ≡ None → connected d (Ok session) e
-      → Puts a b key (Some session) → Tends connected called left a d b e
-  tends_connected a b d e key session free connects puts =
-      tends_one a b d e (inl (record { key = key; session = session; free = free; connects = connects; puts = puts }))
+  pub tends_connected : (a b : Table) (d e : D) (key : ℕ) (seat : Seat) → a key ≡ None → lets_in d seat.standing
+      → connected d (Ok seat.session) e → Puts a b key (Some seat) → Tends lets_in connected called left a d b e
+  tends_connected a b d e key seat free lets connects puts =
+      tends_one a b d e (inl (record { key = key; seat = seat; free = free; lets = lets; connects = connects; puts = puts }))
 
   -- none was
   pub tends_refused : (a b : Table) (d e : D) (fault : ConnectFault) → connected d (Err fault) e → a ≡ b
-      → Tends connected called left a d b e
+      → Tends lets_in connected called left a d b e
   tends_refused a b d e fault refuses same =
       tends_one a b d e (inr (inl (record { fault = fault; refuses = refuses; same = same })))
 
   -- a session was answered
-  pub tends_answered : (a b : Table) (d e : D) (key session : ℕ) → a key ≡ Some session → HasAnswered (called session) d e
-      → a ≡ b → Tends connected called left a d b e
-  tends_answered a b d e key session has answered same =
+  pub tends_answered : (a b : Table) (d e : D) (key : ℕ) (seat : Seat) → a key ≡ Some seat
+      → HasAnswered seat.standing (called seat.session) d e → a ≡ b → Tends lets_in connected called left a d b e
+  tends_answered a b d e key seat has answered same =
       tends_one a b d e (inr (inr (inl (record {
         key = key;
-        session = session;
+        seat = seat;
         has = has;
         contents = answered.0;
         replies = answered.1;
@@ -157,46 +162,56 @@ module _ {D : Type 0} (connected : D → Result ℕ ConnectFault → D → Type 
       }))))
 
   -- a session was hung up
-  pub tends_left : (a b : Table) (d e : D) (key session : ℕ) → a key ≡ Some session → left session d e → Puts a b key None
-      → Tends connected called left a d b e
-  tends_left a b d e key session has leaves puts =
-      tends_one a b d e (inr (inr (inr (record { key = key; session = session; has = has; leaves = leaves; puts = puts }))))
+  pub tends_left : (a b : Table) (d e : D) (key : ℕ) (seat : Seat) → a key ≡ Some seat → left seat.session d e → Puts a b key None
+      → Tends lets_in connected called left a d b e
+  tends_left a b d e key seat has leaves puts =
+      tends_one a b d e (inr (inr (inr (inl (record { key = key; seat = seat; has = has; leaves = leaves; puts = puts })))))
+
+  -- the loop asked something of its own accord
+  pub tends_own : (a : Table) (d e : D) (content : List ℕ) (reply : Reply) → IsOwn content → Visits connected called left content d reply e
+      → Tends lets_in connected called left a d a e
+  tends_own a d e content reply own visits =
+      tends_one a a d e (inr (inr (inr (inr (record { content = content; own = own; reply = reply; visits = visits; same = refl })))))
 
 -- ---- where calls are posted
 
-module _ {D : Type 0} (posted : ℕ → D → D → Type 0) (connected : D → Result ℕ ConnectFault → D → Type 0)
-    (called : ℕ → D → Question → Reply → D → Type 0) (left : ℕ → D → D → Type 0) where
-  pub posting_none : (a b : Table) (d : D) → a ≡ b → TendsPosting posted connected called left a d b d
-  posting_none a b d same = does_none (DoesOrPosts posted connected called left) a b d d same refl
+module _ {D : Type 0} (posts : ℕ → Request → D → D → Type 0) (lets_in : D → Option Role → Type 0)
+    (connected : D → Result ℕ ConnectFault → D → Type 0) (called : ℕ → D → Question → Reply → D → Type 0) (left : ℕ → D → D → Type 0) where
+  pub posting_none : (a b : Table) (d : D) → a ≡ b → TendsPosting posts lets_in connected called left a d b d
+  posting_none a b d same = does_none (DoesOrPosts posts lets_in connected called left) a b d d same refl
 
-  pub posting_twice : (a b c : Table) (d e f : D) → TendsPosting posted connected called left a d b e
-      → TendsPosting posted connected called left b e c f → TendsPosting posted connected called left a d c f
-  posting_twice a b c d e f h k = does_twice (DoesOrPosts posted connected called left) a b c d e f h k
+  pub posting_twice : (a b c : Table) (d e f : D) → TendsPosting posts lets_in connected called left a d b e
+      → TendsPosting posts lets_in connected called left b e c f → TendsPosting posts lets_in connected called left a d c f
+  posting_twice a b c d e f h k = does_twice (DoesOrPosts posts lets_in connected called left) a b c d e f h k
 
-  pub posting_thrice : (a b c t : Table) (d e f x : D) → TendsPosting posted connected called left a d b e
-      → TendsPosting posted connected called left b e c f → TendsPosting posted connected called left c f t x
-      → TendsPosting posted connected called left a d t x
-  posting_thrice a b c t d e f x h k l = does_thrice (DoesOrPosts posted connected called left) a b c t d e f x h k l
+  pub posting_thrice : (a b c t : Table) (d e f x : D) → TendsPosting posts lets_in connected called left a d b e
+      → TendsPosting posts lets_in connected called left b e c f → TendsPosting posts lets_in connected called left c f t x
+      → TendsPosting posts lets_in connected called left a d t x
+  posting_thrice a b c t d e f x h k l = does_thrice (DoesOrPosts posts lets_in connected called left) a b c t d e f x h k l
 
   -- nothing was posted
-  pub posting_tended : (a b : Table) (d e : D) → Tends connected called left a d b e → TendsPosting posted connected called left a d b e
+  pub posting_tended : (a b : Table) (d e : D) → Tends lets_in connected called left a d b e → TendsPosting posts lets_in connected called left a d b e
   posting_tended a b d e h =
-      does_by (λ (x : D). x) (Does connected called left) (DoesOrPosts posted connected called left) (λ a b d e one. inl one) a b d e h
+      does_by (λ (x : D). x) (Does lets_in connected called left) (DoesOrPosts posts lets_in connected called left) (λ a b d e one. inl one) a b d e h
 
   -- a call was posted, or none
-  pub posting_posted : (a b : Table) (d e : D) (key session : ℕ) → a key ≡ Some session → (e ≡ d) ⊎ posted session d e → a ≡ b
-      → TendsPosting posted connected called left a d b e
-  posting_posted a b d e key session has (inl is) same = does_none (DoesOrPosts posted connected called left) a b d e same (sym is)
-  posting_posted a b d e key session has (inr posts) same =
-      does_one (DoesOrPosts posted connected called left) a b d e
-      (inr (record { key = key; session = session; has = has; posts = posts; same = same }))
+  pub posting_posted : (a b : Table) (d e : D) (key : ℕ) (seat : Seat) (asked : Option Request) → a key ≡ Some seat
+      → ((q : Request) → asked ≡ Some q → may_ask seat.standing (Call q) ≡ true)
+      → (e ≡ d) ⊎ IsSomeAnd asked (λ request. posts seat.session request d e) → a ≡ b
+      → TendsPosting posts lets_in connected called left a d b e
+  posting_posted a b d e key seat asked has may (inl is) same =
+      does_none (DoesOrPosts posts lets_in connected called left) a b d e same (sym is)
+  posting_posted a b d e key seat (Some request) has may (inr posted) same =
+      does_one (DoesOrPosts posts lets_in connected called left) a b d e
+      (inr (record { key = key; seat = seat; has = has; request = request; may = may request refl; posted = posted; same = same }))
+  posting_posted a b d e key seat None has may (inr posted) same = absurd posted
 
   -- of each seed's door
   pub have_tended : (is_settled : D → Type 0) (seeds : List (Seed D)) (doors : List D) (ended : List (Ended D)) → map (λ s. s.door) seeds ≡ doors
-      → SeedsHaveTended posted connected called left is_settled seeds ended
-      → HaveTended posted connected called left is_settled doors ended
+      → SeedsHaveTended posts lets_in connected called left is_settled seeds ended
+      → HaveTended posts lets_in connected called left is_settled doors ended
   have_tended is_settled seeds doors ended is tended i d e lt =
       let within : i < length seeds = omega (arith, lt, ap (λ (xs : List D). length xs) is, length-map seeds (λ (s : Seed D). s.door)) in
       let seed : Seed D = one_of seeds i within in
-      subst (λ (x : D). HasTended posted connected called left is_settled x (get_or ended i e).door)
+      subst (λ (x : D). HasTended posts lets_in connected called left is_settled x (get_or ended i e).door)
       (sym (at_map (λ (s : Seed D). s.door) seeds i seed d within) ∙ ap (λ (xs : List D). get_or xs i d) is) (tended i seed e within)

@@ -13,6 +13,7 @@ use Rattle.xa_frame.specs.declared.question.Question.{Question}
 use Rattle.xa_frame.specs.declared.question.Question.TheVariants.{Call}
 use Rattle.xa_frame.specs.declared.reply.Reply.{Reply}
 use Rattle.xa_frame.specs.declared.request.Request.{Request}
+use Rattle.xa_roles.specs.declared.role.Role.{Role}
 use Rattle.xa_reactor.specs.declared.ask.Ask.{Ask}
 use Rattle.xa_reactor.specs.Believed.Tending.{Table}
 
@@ -20,18 +21,25 @@ use Rattle.xa_reactor.specs.Believed.Tending.{Table}
 abbrev pub HasRequest : Ask → Type 0
 HasRequest a = IsSomeAnd a.request IsRequest
 
--- the connection asks so at its front
-abbrev pub IsAsking : Connection → Front → Option Request → Type 0
-IsAsking c (Whole count) (Some q) = Asks c (One count (Call q))
-IsAsking c front request = ⊥
+-- the connection asks so at its front, and may, by what it has shown
+abbrev pub IsAsking : Option Role → Connection → Front → Option Request → Type 0
+IsAsking standing c (Whole count) (Some q) = Asks standing c (One count (Call q))
+IsAsking standing c front request = ⊥
 
 -- an ask whose request its connection brought in, and nobody has answered
-abbrev pub IsOpen : Ask → Type 0
-IsOpen a = HasRequest a × IsAsking a.connection a.front a.request
+abbrev pub IsOpen : Option Role → Ask → Type 0
+IsOpen standing a = HasRequest a × IsAsking standing a.connection a.front a.request
+
+-- so it is, by whatever its connection has shown
+pub record IsBrought (a : Ask) : Type 0 where
+  pub standing : Option Role
+  pub opened : IsOpen standing a
 
 -- an open one of the connection of a session that is served under its key
-abbrev pub IsLent : Table → Ask → Type 0
-IsLent table a = (table a.key ≡ Some a.session) × IsOpen a
+pub record IsLent (table : Table) (a : Ask) : Type 0 where
+  pub standing : Option Role
+  pub at : table a.key ≡ Some (record { session = a.session; standing = standing })
+  pub opened : IsOpen standing a
 
 -- the request of an ask was answered at the door, and is gone; whose it is stays
 pub record Tells {D : Type 0} (called : ℕ → D → Question → Reply → D → Type 0) (d : D) (a b : Ask) (e : D) : Type 0 where

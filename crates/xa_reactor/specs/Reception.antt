@@ -3,11 +3,6 @@ use Rattle.std.specs.Prelude.{ℕ, Result}
 use Rattle.xa_assoc.specs.declared.fault.ConnectFault.{ConnectFault}
 use Rattle.xa_frame.specs.declared.question.Question.{Question}
 use Rattle.xa_frame.specs.declared.reply.Reply.{Reply}
-use Rattle.xa_frame.specs.declared.request.Request.{Request}
-
--- a call of a session that was posted is one of the session's
-abbrev pub IsPosted : {D : Type 0} → (ℕ → Request → D → D → Type 0) → (ℕ → D → D → Type 0) → Type 0
-IsPosted {D} posts posted = (session : ℕ) (request : Request) (d e : D) → posts session request d e → posted session d e
 
 -- Where nothing that was posted was left to be answered, nothing is after a connect, after a call and after a hang-up.
 pub record KeepsSettled {D : Type 0} (connected : D → Result ℕ ConnectFault → D → Type 0)

@@ -1,13 +1,14 @@
 -- What a turn of a connection does.
-use Rattle.std.specs.Prelude.{ℕ, ◌≡◌, ◌⊎◌, ◌==◌, ◌<◌, false, true, not, List, ◌++◌, drop, length}
+use Rattle.std.specs.Prelude.{ℕ, Option, ◌≡◌, ◌⊎◌, ◌==◌, ◌<◌, false, true, not, List, ◌++◌, drop, length}
 use Rattle.xa_connection.specs.declared.connection.Connection.{Connection}
 use Rattle.xa_connection.specs.declared.connection.TheConstants.{MOST_INPUT}
 use Rattle.xa_connection.specs.Calls.{Feeds, room_of}
 use Rattle.xa_connection.specs.Carries.{Carries}
 use Rattle.xa_connection.specs.Fronts.{IsInsideFrame}
-use Rattle.xa_desk.specs.Believed.Serving.{AnswersAll}
+use Rattle.xa_connection.specs.Believed.Access.{AnswersAllTo}
 use Rattle.xa_frame.specs.declared.reply.Reply.{Reply}
 use Rattle.xa_frame.specs.declared.question.Question.{Question}
+use Rattle.xa_roles.specs.declared.role.Role.{Role}
 use Rattle.xa_reactor.specs.declared.peer.Peer.{Peer}
 use Rattle.xa_reactor.specs.declared.peer.Step.{Step}
 use Rattle.xa_reactor.specs.declared.peer.Step.TheVariants.{Waits, Goes, Ends, Stops, Asks}
@@ -24,17 +25,18 @@ HasSent c c' = (c' ≡ c) ⊎ ((count : ℕ) × (c' ≡ record c { output = drop
 abbrev pub HasTaken : Connection → Connection → Type 0
 HasTaken c c' = (between : Connection) × HasSent c between × HasFed between c'
 
--- contents were answered at a door, in order
-abbrev pub HasAnswered : {D : Type 0} → (D → Question → Reply → D → Type 0) → D → D → Type 0
-HasAnswered called d e = (contents : List (List ℕ)) × (replies : List Reply) × AnswersAll called d contents replies e
+-- contents were answered, in order, to who has shown this
+abbrev pub HasAnswered : {D : Type 0} → Option Role → (D → Question → Reply → D → Type 0) → D → D → Type 0
+HasAnswered standing called d e =
+    (contents : List (List ℕ)) × (replies : List Reply) × AnswersAllTo standing called d contents replies e
 
--- Whatever a connection has carried, it has carried more: more bytes came in, of which these contents were answered at
--- the door, in order, and more bytes of the frames of the replies were sent.
-abbrev pub CarriesOn : {D : Type 0} → (D → Question → Reply → D → Type 0) → Connection → D → Connection → D → Type 0
-CarriesOn called c d c' e =
+-- Whatever a connection has carried, it has carried more: more bytes came in, of which these contents were answered to who
+-- has shown this, in order, and more bytes of the frames of the replies were sent.
+abbrev pub CarriesOn : {D : Type 0} → Option Role → (D → Question → Reply → D → Type 0) → Connection → D → Connection → D → Type 0
+CarriesOn standing called c d c' e =
     (contents : List (List ℕ)) (replies : List Reply) (fed sent : List ℕ) → Carries contents replies fed sent c
     → (asked : List (List ℕ)) × (answered : List Reply) × (more : List ℕ) × (gone : List ℕ)
-    × AnswersAll called d asked answered e
+    × AnswersAllTo standing called d asked answered e
     × Carries (contents ++ asked) (replies ++ answered) (fed ++ more) (sent ++ gone) c'
 
 -- ---- what comes after a turn

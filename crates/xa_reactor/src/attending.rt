@@ -28,7 +28,7 @@ pub(crate) fn attend<D: Reception, R: Clock + Eprint + Wait>(
     peers: &mut Peers,
     door: &mut D,
 )
-    ensures { Tends D.connected D.called D.left (sessions_of peers.old.all) door.old (sessions_of peers.new.all) door.new }
+    ensures { Tends D.lets_in D.connected D.called D.left (sessions_of peers.old.all) door.old (sessions_of peers.new.all) door.new }
 {
     attend_all(rt, common, round, clock, peers, door);
     cut_all(rt, common, index, peers, door);
@@ -45,7 +45,7 @@ fn attend_all<D: Reception, R: Clock + Eprint + Wait>(
     peers: &mut Peers,
     door: &mut D,
 )
-    ensures { Tends D.connected D.called D.left (sessions_of peers.old.all) door.old (sessions_of peers.new.all) door.new }
+    ensures { Tends D.lets_in D.connected D.called D.left (sessions_of peers.old.all) door.old (sessions_of peers.new.all) door.new }
 {
     for _ in 0..peers.orders.len() {
         let Some(wish) = peers.orders.next() else {
@@ -74,7 +74,7 @@ fn attend_one<D: Reception, R: Clock + Eprint + Wait>(
     door: &mut D,
     wish: Wish,
 )
-    ensures { Tends D.connected D.called D.left (sessions_of peers.old.all) door.old (sessions_of peers.new.all) door.new }
+    ensures { Tends D.lets_in D.connected D.called D.left (sessions_of peers.old.all) door.old (sessions_of peers.new.all) door.new }
 {
     let outcome = match wish.cut {
         Some(number) => outcome_of(rt, common, number),
@@ -182,7 +182,7 @@ fn cut_all<D: Reception, R: Wait>(
     peers: &mut Peers,
     door: &mut D,
 )
-    ensures { Tends D.connected D.called D.left (sessions_of peers.old.all) door.old (sessions_of peers.new.all) door.new }
+    ensures { Tends D.lets_in D.connected D.called D.left (sessions_of peers.old.all) door.old (sessions_of peers.new.all) door.new }
 {
     let given = common.cuts.given();
     let mut looked = common.looked(index);

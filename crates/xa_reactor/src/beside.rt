@@ -64,7 +64,7 @@ pub(crate) fn look<D: Reception>(
     door: &mut D,
     is_look: bool,
 )
-    ensures tends { Tends D.connected D.called D.left (sessions_of peers.old.all) door.old (sessions_of peers.new.all) door.new }
+    ensures tends { Tends D.lets_in D.connected D.called D.left (sessions_of peers.old.all) door.old (sessions_of peers.new.all) door.new }
     ensures looks { is_look ≡ true → LooksAll D.ties common.now.settings now peers.old.all peers.new.all }
     ensures none { is_look ≡ false → peers.new ≡ peers.old }
 {
@@ -102,7 +102,7 @@ pub(crate) fn take_in<D: Reception, R: Clock + Wait>(
     peers: &mut Peers,
     door: &mut D,
 )
-    ensures { Tends D.connected D.called D.left (sessions_of peers.old.all) door.old (sessions_of peers.new.all) door.new }
+    ensures { Tends D.lets_in D.connected D.called D.left (sessions_of peers.old.all) door.old (sessions_of peers.new.all) door.new }
 {
     for _ in 0..u32::MAX {
         let Some(socket) = common.take(rt, index) else {

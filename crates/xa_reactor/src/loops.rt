@@ -87,7 +87,7 @@ pub fn run_loops<
     settings: Settings,
 ) -> Result<Vec<Ended<D>>, LoopFault>
     ensures count { IfOk result (λ ended. length ended.items ≡ length doors.items) }
-    ensures tended { IfOk result (λ ended. HaveTended D.posted D.connected D.called D.left D.is_settled
+    ensures tended { IfOk result (λ ended. HaveTended D.posts D.lets_in D.connected D.called D.left D.is_settled
         doors.items ended.items) }
     ensures asked { IfOk result (λ ended. HaveObeyed settings ended.items) }
 {
@@ -106,7 +106,7 @@ fn run_all<D: Reception + Send + Drop, R: AllocGlobal + Clock + Eprint + Threads
     seeds: Vec<Seed<D>>,
 ) -> Result<Vec<Ended<D>>, AllocError>
     ensures count { IfOk result (λ ended. length ended.items ≡ length seeds.items) }
-    ensures tended { IfOk result (λ ended. SeedsHaveTended D.posted D.connected D.called D.left D.is_settled
+    ensures tended { IfOk result (λ ended. SeedsHaveTended D.posts D.lets_in D.connected D.called D.left D.is_settled
         seeds.items ended.items) }
     ensures asked { IfOk result (λ ended. HaveObeyed common.now.settings ended.items) }
 {
@@ -114,7 +114,7 @@ fn run_all<D: Reception + Send + Drop, R: AllocGlobal + Clock + Eprint + Threads
         rt,
         seeds,
         &|seed: Seed<D>| -> Ended<D>
-            ensures { HasTended D.posted D.connected D.called D.left D.is_settled seed.door result.door
+            ensures { HasTended D.posts D.lets_in D.connected D.called D.left D.is_settled seed.door result.door
                 × (result.settings ≡ common.entry.now.settings) }
         { run_loop(rt, common, seed) },
     )
@@ -125,7 +125,7 @@ fn run_loop<D: Reception, R: AllocGlobal + Clock + Eprint + Wait>(
     common: &Common<'_>,
     seed: Seed<D>,
 ) -> Ended<D>
-    ensures tended { HasTended D.posted D.connected D.called D.left D.is_settled seed.door result.door }
+    ensures tended { HasTended D.posts D.lets_in D.connected D.called D.left D.is_settled seed.door result.door }
     ensures asked { result.settings ≡ common.now.settings }
 {
     let Seed {

@@ -19,7 +19,7 @@ pub(crate) const WAKER: Token = Token(usize::MAX - 1);
 pub(crate) fn notice_all<D: Reception>(peers: &mut Peers, door: &mut D, events: &Events) -> bool
     ensures accepts { result ≡ tells_of LISTENER (items events.now) }
     ensures noticed { NoticesAll peers.old (items events.now) peers.new }
-    ensures tends { Tends D.connected D.called D.left (sessions_of peers.old.all) door.old (sessions_of peers.new.all) door.new }
+    ensures tends { Tends D.lets_in D.connected D.called D.left (sessions_of peers.old.all) door.old (sessions_of peers.new.all) door.new }
 {
     let mut accepts = false;
     for event in events.iter() {

@@ -1,6 +1,7 @@
 ghost use Rattle.std.specs.Prelude.{◌≡◌, ◌-◌, ◌↔◌, IsTrue, None, not, false, true};
 ghost use Rattle.xa_connection.specs.Calls.{Asks, IsAsked, Turns, new_connection};
 ghost use Rattle.xa_connection.specs.declared.answering.Answering.{Answering};
+ghost use Rattle.xa_reactor.specs.Believed.Tending.{seat_of};
 ghost use Rattle.xa_reactor.specs.{Asking.IsAnswered, Opening.Opens, Opening.OpensTo, Timing.IsRead, Timing.after_wait};
 ghost use Rattle.xa_reactor.specs.{Allowance.after_noted, Noted.MayBeFrom, Noted.Notes, Peers.noticed};
 ghost use Rattle.xa_reactor.specs.Since.{FedAt, OwesFrame, SentAt, TakenAt};
@@ -23,6 +24,7 @@ use xa_codes::{Code, XA_OK};
 use xa_connection::{Asked, Connection, Front, MOST_INPUT};
 use xa_desk::Door;
 use xa_frame::{Question, Reply};
+use xa_roles::Role;
 
 /// A connection with its socket, and the session that is served on it.
 #[derive(Drop)]
@@ -30,6 +32,8 @@ pub(crate) struct Peer {
     pub(crate) socket: Socket,
     pub(crate) connection: Connection,
     pub(crate) session: u64,
+    /// The role that it has shown, or that all have.
+    pub(crate) standing: Option<Role>,
     /// Whether there may be bytes to read of which no further event tells.
     reads: bool,
     /// Whether the peer sends no more: what it sent is read to its end.
@@ -73,8 +77,16 @@ pub(crate) enum Opened {
 }
 
 impl Peer {
-    pub(crate) fn new(alloc: Global, socket: Socket, session: u64, serial: u64, now: u64) -> Peer
-        ensures new { (result.session ≡ session) × (result.connection ≡ new_connection) }
+    pub(crate) fn new(
+        alloc: Global,
+        socket: Socket,
+        session: u64,
+        standing: Option<Role>,
+        serial: u64,
+        now: u64,
+    ) -> Peer
+        ensures seat { seat_of result ≡ record { session = session; standing = standing } }
+        ensures new { result.connection ≡ new_connection }
         ensures counted { (result.serial ≡ serial) × (result.order ≡ None) × (result.noted ≡ None) }
         ensures since { result.since ≡ now }
         ensures waits { (result.is_queued ≡ false) × (result.reads ≡ false) × (result.writes ≡ false) × (result.is_ending ≡ false) }
@@ -83,6 +95,7 @@ impl Peer {
             socket,
             connection: Connection::new(alloc),
             session,
+            standing,
             reads: false,
             is_ending: false,
             writes: false,
@@ -122,15 +135,16 @@ impl Peer {
         scratch: &mut [u8],
         key: usize,
     ) -> Step
-        ensures session { self.new.session ≡ self.old.session }
-        ensures answers { HasAnswered (D.called self.old.session) door.old door.new }
-        ensures carries { CarriesOn (D.called self.old.session) self.old.connection door.old self.new.connection door.new }
+        ensures session { seat_of self.new ≡ seat_of self.old }
+        ensures answers { HasAnswered self.old.standing (D.called self.old.session) door.old door.new }
+        ensures carries { CarriesOn self.old.standing (D.called self.old.session) self.old.connection door.old self.new.connection
+            door.new }
         ensures steps { StepsTo result self.new }
     {
         if !self.take_turn(rt, clock, scratch) {
             return Step::Ends;
         }
-        let asked = self.connection.asked(round.alloc);
+        let asked = self.connection.asked(round.alloc, self.standing);
         let control = control_in(&asked);
         self.answer(clock, door, asked);
         let step = self.send(rt, round, clock, key);
@@ -148,7 +162,7 @@ impl Peer {
         scratch: &mut [u8],
         key: usize,
     ) -> Opened
-        ensures session { self.new.session ≡ self.old.session }
+        ensures session { seat_of self.new ≡ seat_of self.old }
         ensures opens { Opens (D.called self.old.session) self.old door.old key result self.new door.new }
         ensures noted { Notes result self.new }
         ensures steps { OpensTo result self.new }
@@ -156,7 +170,7 @@ impl Peer {
         if !self.take_turn(rt, clock, scratch) {
             return Opened::Over(Step::Ends);
         }
-        match self.connection.asked(round.alloc) {
+        match self.connection.asked(round.alloc, self.standing) {
             Asked::One(count, Question::Call(request)) => {
                 // no event opens another turn while the connection is lent
                 self.is_queued = true;
@@ -189,7 +203,7 @@ impl Peer {
         ask: Ask,
     ) -> Step
         requires { IsAnswered ask }
-        ensures session { self.new.session ≡ self.old.session }
+        ensures session { seat_of self.new ≡ seat_of self.old }
         ensures sent { HasSent ask.connection self.new.connection }
         ensures steps { StepsTo result self.new }
         ensures since { SentAt clock.new.now ask.connection self.old.since self.new.connection self.new.since }
@@ -217,23 +231,25 @@ impl Peer {
 
     // Answers what was asked, for which it may wait.
     fn answer<D: Door>(&mut self, clock: &mut LoopClock, door: &mut D, asked: Asked)
-        requires asks { Asks self.old.connection asked }
+        requires asks { Asks self.old.standing self.old.connection asked }
         requires limits { IsAsked asked }
-        ensures session { self.new.session ≡ self.old.session }
+        ensures session { seat_of self.new ≡ seat_of self.old }
         ensures turns { (answering : Answering)
-            × Turns (D.called self.old.session) self.old.connection door.old answering self.new.connection door.new }
+            × Turns self.old.standing (D.called self.old.session) self.old.connection door.old answering self.new.connection door.new }
         ensures since { self.new.since ≡ self.old.since }
         ensures queued { self.new.is_queued ≡ self.old.is_queued }
         ensures waited { clock.new ≡ after_wait clock.old }
     {
-        let _answering = self.connection.answer_asked(door, self.session, asked);
+        let _answering = self
+            .connection
+            .answer_asked(self.standing, door, self.session, asked);
         clock.pass();
     }
 
     // The beginning of a turn: what is to be sent is sent, and one read, where no whole frame came in. Whether the connection
     // goes on.
     fn take_turn<R: Clock>(&mut self, rt: &R, clock: &mut LoopClock, scratch: &mut [u8]) -> bool
-        ensures session { self.new.session ≡ self.old.session }
+        ensures session { seat_of self.new ≡ seat_of self.old }
         ensures taken { HasTaken self.old.connection self.new.connection }
         ensures queued { self.new.is_queued ≡ false }
         ensures since { TakenAt clock.new.now self.old.connection self.old.since self.new.connection self.new.since }
@@ -255,7 +271,7 @@ impl Peer {
         clock: &mut LoopClock,
         key: usize,
     ) -> Step
-        ensures session { self.new.session ≡ self.old.session }
+        ensures session { seat_of self.new ≡ seat_of self.old }
         ensures sent { HasSent self.old.connection self.new.connection }
         ensures since { SentAt clock.new.now self.old.connection self.old.since self.new.connection self.new.since }
         ensures read { IsRead clock.new }
@@ -282,7 +298,7 @@ impl Peer {
 
     // Writes once what is to be sent. Whether the socket is whole.
     fn flush(&mut self, now: u64) -> bool
-        ensures session { self.new.session ≡ self.old.session }
+        ensures session { seat_of self.new ≡ seat_of self.old }
         ensures sent { HasSent self.old.connection self.new.connection }
         ensures since { SentAt now self.old.connection self.old.since self.new.connection self.new.since }
         ensures queued { self.new.is_queued ≡ self.old.is_queued }
@@ -305,7 +321,7 @@ impl Peer {
     // less than it was asked for is the last, as an event tells of what comes then; but not where the peer sends no
     // more, of which there was an event already.
     fn receive(&mut self, scratch: &mut [u8], now: u64) -> bool
-        ensures session { self.new.session ≡ self.old.session }
+        ensures session { seat_of self.new ≡ seat_of self.old }
         ensures fed { HasFed self.old.connection self.new.connection }
         ensures since { FedAt now self.old.connection self.old.since self.new.connection self.new.since }
         ensures queued { self.new.is_queued ≡ self.old.is_queued }

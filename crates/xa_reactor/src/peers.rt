@@ -76,7 +76,7 @@ impl Peers {
         door: &mut D,
         socket: Socket,
     ) -> bool
-        ensures tends { Tends D.connected D.called D.left (sessions_of self.old.all) door.old (sessions_of self.new.all) door.new }
+        ensures tends { Tends D.lets_in D.connected D.called D.left (sessions_of self.old.all) door.old (sessions_of self.new.all) door.new }
         ensures count { slab_len self.new.all ≡ (if result then slab_len self.old.all + 1 else slab_len self.old.all) }
         ensures turns { (turns_of self.new ≡ turns_of self.old) × (self.new.orders ≡ self.old.orders) }
     {
@@ -87,22 +87,28 @@ impl Peers {
         if !socket.register(round.registry, Token(self.all.vacant_key())) {
             return false;
         }
+        let standing = door.standing();
         let Ok(session) = connect(clock, door) else {
             return false;
         };
         // counted once it is connected: an order of before that means another connection of this session
         let serial = common.cuts.count();
         let now = clock.now(rt);
-        let _key = self
-            .all
-            .insert_reserved(Peer::new(round.alloc, socket, session, serial, now));
+        let _key = self.all.insert_reserved(Peer::new(
+            round.alloc,
+            socket,
+            session,
+            standing,
+            serial,
+            now,
+        ));
         true
     }
 
     /// An event told of a connection, which has a turn.
     pub(crate) fn notice<D: Reception>(&mut self, door: &mut D, event: &Event)
         ensures turn { IsNoticed self.old event.now self.new }
-        ensures tends { Tends D.connected D.called D.left (sessions_of self.old.all) door.old (sessions_of self.new.all) door.new }
+        ensures tends { Tends D.lets_in D.connected D.called D.left (sessions_of self.old.all) door.old (sessions_of self.new.all) door.new }
     {
         if notice_in(&mut self.all, event) {
             self.go_on(door, event.token().0, Step::Goes);
@@ -151,7 +157,7 @@ impl Peers {
     ) -> Opened
         ensures same { sessions_of self.new.all ≡ sessions_of self.old.all }
         ensures turns { (self.new.queue ≡ self.old.queue) × (self.new.orders ≡ self.old.orders) }
-        ensures opens { OpensAt D.connected D.called D.left (sessions_of self.old.all) door.old result door.new }
+        ensures opens { OpensAt D.lets_in D.connected D.called D.left (sessions_of self.old.all) door.old result door.new }
         ensures opened { IsOpened self.old.all key result self.new.all }
     {
         match self.all.get_mut(key) {
@@ -188,7 +194,7 @@ impl Peers {
         scratch: &mut [u8],
         door: &mut D,
     )
-        ensures tends { Tends D.connected D.called D.left (sessions_of self.old.all) door.old (sessions_of self.new.all) door.new }
+        ensures tends { Tends D.lets_in D.connected D.called D.left (sessions_of self.old.all) door.old (sessions_of self.new.all) door.new }
         ensures none { turns_of self.old ≡ [] → (self.new.all ≡ self.old.all) × (turns_of self.new ≡ []) × (door.new ≡ door.old) }
         ensures turn { (key : ℕ) (rest : List ℕ) → turns_of self.old ≡ key ∷ rest → IsTurned self.old key rest self.new }
     {
@@ -202,7 +208,7 @@ impl Peers {
     /// Has a turn next, or ends, also where there is no memory for that.
     pub(crate) fn go_on<D: Reception>(&mut self, door: &mut D, key: usize, step: Step)
         ensures goes { GoesOn self.old key step self.new }
-        ensures tends { Tends D.connected D.called D.left (sessions_of self.old.all) door.old (sessions_of self.new.all) door.new }
+        ensures tends { Tends D.lets_in D.connected D.called D.left (sessions_of self.old.all) door.old (sessions_of self.new.all) door.new }
     {
         match step {
             Step::Waits => {}
@@ -272,7 +278,7 @@ impl Peers {
 
     /// Ends those that are overdue inside a frame, and those that were quiet for too long, by whether they have an association.
     pub(crate) fn end_overdue<D: Reception>(&mut self, door: &mut D, now: u64, settings: &Settings)
-        ensures tends { Tends D.connected D.called D.left (sessions_of self.old.all) door.old (sessions_of self.new.all) door.new }
+        ensures tends { Tends D.lets_in D.connected D.called D.left (sessions_of self.old.all) door.old (sessions_of self.new.all) door.new }
         ensures looks { LooksAll D.ties settings.now now self.old.all self.new.all }
         ensures turns { (self.new.queue ≡ self.old.queue) × (self.new.orders ≡ self.old.orders) }
     {
@@ -296,7 +302,7 @@ impl Peers {
 
     /// Hangs the session of one that asked the server to end up; its socket stays open until it is dropped.
     pub(crate) fn part_stopper<D: Reception>(&mut self, door: &mut D) -> Option<Socket>
-        ensures tends { Tends D.connected D.called D.left (sessions_of self.old.all) door.old (sessions_of self.new.all) door.new }
+        ensures tends { Tends D.lets_in D.connected D.called D.left (sessions_of self.old.all) door.old (sessions_of self.new.all) door.new }
         ensures parted { HasParted self.old result self.new }
     {
         part_in(&mut self.all, door, self.orders.stopper()?)
@@ -304,7 +310,7 @@ impl Peers {
 
     /// Ends all of them.
     pub(crate) fn end_all<D: Reception>(&mut self, door: &mut D)
-        ensures { Tends D.connected D.called D.left (sessions_of self.old.all) door.old nobody door.new }
+        ensures { Tends D.lets_in D.connected D.called D.left (sessions_of self.old.all) door.old nobody door.new }
     {
         for key in 0..self.all.capacity() {
             end_in(&mut self.all, door, key);
@@ -351,7 +357,7 @@ fn turn_in<D: Reception, R: Clock>(
     door: &mut D,
     key: usize,
 ) -> Step
-    ensures tends { Tends D.connected D.called D.left (sessions_of all.old) door.old (sessions_of all.new) door.new }
+    ensures tends { Tends D.lets_in D.connected D.called D.left (sessions_of all.old) door.old (sessions_of all.new) door.new }
     ensures turned { HadTurn all.old key result all.new }
 {
     match all.get_mut(key) {
@@ -367,7 +373,7 @@ fn end_if_overdue<D: Reception>(
     now: u64,
     settings: &Settings,
 )
-    ensures tends { Tends D.connected D.called D.left (sessions_of all.old) door.old (sessions_of all.new) door.new }
+    ensures tends { Tends D.lets_in D.connected D.called D.left (sessions_of all.old) door.old (sessions_of all.new) door.new }
     ensures looks { Looks (D.ties door.old) settings.now now key all.old all.new }
 {
     let ends = match all.get(key) {
@@ -387,7 +393,7 @@ fn end_if_overdue<D: Reception>(
 
 // Hangs the session of the connection under this key up, if there is one, and gives its socket.
 fn part_in<D: Reception>(all: &mut Slab<Peer>, door: &mut D, key: usize) -> Option<Socket>
-    ensures tends { Tends D.connected D.called D.left (sessions_of all.old) door.old (sessions_of all.new) door.new }
+    ensures tends { Tends D.lets_in D.connected D.called D.left (sessions_of all.old) door.old (sessions_of all.new) door.new }
     ensures updates { Updates all.old all.new key None }
     ensures socket { result ≡ option_map (λ p. p.socket) (get all.old key) }
 {
@@ -398,7 +404,7 @@ fn part_in<D: Reception>(all: &mut Slab<Peer>, door: &mut D, key: usize) -> Opti
 
 // Ends the connection under this key, if there is one, and hangs its session up.
 pub(crate) fn end_in<D: Reception>(all: &mut Slab<Peer>, door: &mut D, key: usize)
-    ensures tends { Tends D.connected D.called D.left (sessions_of all.old) door.old (sessions_of all.new) door.new }
+    ensures tends { Tends D.lets_in D.connected D.called D.left (sessions_of all.old) door.old (sessions_of all.new) door.new }
     ensures updates { Updates all.old all.new key None }
     ensures others { (other : ℕ) → get all.old other ≡ None → get all.new other ≡ None }
     ensures slots { length all.new.slots ≡ length all.old.slots }

@@ -41,7 +41,7 @@ pub(crate) fn tend<D: Reception, R: AllocGlobal + Clock + Eprint + Wait>(
     poll: Poll,
     door: &mut D,
 ) -> (bool, Option<Socket>)
-    ensures { HasTended D.posted D.connected D.called D.left D.is_settled door.old door.new }
+    ensures { HasTended D.posts D.lets_in D.connected D.called D.left D.is_settled door.old door.new }
 {
     let mut peers = Peers::new(rt.alloc());
     let is_whole = run(rt, common, index, poll, &mut peers, door).is_ok();
@@ -66,7 +66,7 @@ fn run<D: Reception, R: AllocGlobal + Clock + Eprint + Wait>(
     peers: &mut Peers,
     door: &mut D,
 ) -> io::Result<()>
-    ensures tends { TendsPosting D.posted D.connected D.called D.left
+    ensures tends { TendsPosting D.posts D.lets_in D.connected D.called D.left
         (sessions_of peers.old.all) door.old (sessions_of peers.new.all) door.new }
     ensures settled { D.is_settled door.old → D.is_settled door.new }
 {
@@ -130,7 +130,7 @@ impl Loop {
         peers: &mut Peers,
         door: &mut D,
     ) -> io::Result<bool>
-        ensures tends { TendsPosting D.posted D.connected D.called D.left
+        ensures tends { TendsPosting D.posts D.lets_in D.connected D.called D.left
             (sessions_of peers.old.all) door.old (sessions_of peers.new.all) door.new }
         ensures settled { D.is_settled door.old → D.is_settled door.new }
     {
@@ -178,7 +178,7 @@ impl Loop {
         peers: &mut Peers,
         door: &mut D,
     ) -> bool
-        ensures tends { TendsPosting D.posted D.connected D.called D.left
+        ensures tends { TendsPosting D.posts D.lets_in D.connected D.called D.left
             (sessions_of peers.old.all) door.old (sessions_of peers.new.all) door.new }
         ensures settled { D.is_settled door.old → D.is_settled door.new }
     {
@@ -202,7 +202,7 @@ impl Loop {
         door: &mut D,
     ) -> bool
         requires { HasLent (sessions_of peers.old.all) self.old.tools.together }
-        ensures tends { TendsPosting D.posted D.connected D.called D.left
+        ensures tends { TendsPosting D.posts D.lets_in D.connected D.called D.left
             (sessions_of peers.old.all) door.old (sessions_of peers.new.all) door.new }
         ensures over { IsOver self.new.tools.together }
         ensures settled { D.is_settled door.new }
@@ -231,7 +231,7 @@ impl Loop {
         door: &mut D,
     )
         requires { HasLent (sessions_of peers.old.all) self.old.tools.together }
-        ensures tends { TendsPosting D.posted D.connected D.called D.left
+        ensures tends { TendsPosting D.posts D.lets_in D.connected D.called D.left
             (sessions_of peers.old.all) door.old (sessions_of peers.new.all) door.new }
         ensures lent { HasLent (sessions_of peers.new.all) self.new.tools.together }
     {
@@ -250,7 +250,7 @@ impl Loop {
         door: &mut D,
     )
         requires { HasLent (sessions_of peers.old.all) self.old.tools.together }
-        ensures tends { TendsPosting D.posted D.connected D.called D.left
+        ensures tends { TendsPosting D.posts D.lets_in D.connected D.called D.left
             (sessions_of peers.old.all) door.old (sessions_of peers.new.all) door.new }
         ensures lent { HasLent (sessions_of peers.new.all) self.new.tools.together }
         ensures events { self.new.events ≡ self.old.events }
@@ -270,7 +270,7 @@ impl Loop {
         door: &mut D,
     ) -> bool
         requires { HasLent (sessions_of peers.old.all) self.old.tools.together }
-        ensures tends { TendsPosting D.posted D.connected D.called D.left
+        ensures tends { TendsPosting D.posts D.lets_in D.connected D.called D.left
             (sessions_of peers.old.all) door.old (sessions_of peers.new.all) door.new }
         ensures lent { HasLent (sessions_of peers.new.all) self.new.tools.together }
     {
@@ -306,7 +306,7 @@ impl Loop {
         door: &mut D,
     ) -> bool
         requires { HasLent (sessions_of peers.old.all) self.old.tools.together }
-        ensures tends { TendsPosting D.posted D.connected D.called D.left
+        ensures tends { TendsPosting D.posts D.lets_in D.connected D.called D.left
             (sessions_of peers.old.all) door.old (sessions_of peers.new.all) door.new }
         ensures lent { HasLent (sessions_of peers.new.all) self.new.tools.together }
     {
@@ -331,7 +331,7 @@ impl Loop {
         door: &mut D,
     ) -> bool
         requires { HasLent (sessions_of peers.old.all) self.old.tools.together }
-        ensures tends { TendsPosting D.posted D.connected D.called D.left
+        ensures tends { TendsPosting D.posts D.lets_in D.connected D.called D.left
             (sessions_of peers.old.all) door.old (sessions_of peers.new.all) door.new }
         ensures lent { HasLent (sessions_of peers.new.all) self.new.tools.together }
     {
@@ -358,7 +358,7 @@ impl Loop {
         looks: u32,
     ) -> (bool, bool)
         requires { HasLent (sessions_of peers.old.all) self.old.tools.together }
-        ensures tends { TendsPosting D.posted D.connected D.called D.left
+        ensures tends { TendsPosting D.posts D.lets_in D.connected D.called D.left
             (sessions_of peers.old.all) door.old (sessions_of peers.new.all) door.new }
         ensures lent { HasLent (sessions_of peers.new.all) self.new.tools.together }
     {
@@ -388,7 +388,7 @@ impl Loop {
         wait: Duration,
     ) -> io::Result<bool>
         requires { HasLent (sessions_of peers.old.all) self.old.tools.together }
-        ensures tends { TendsPosting D.posted D.connected D.called D.left
+        ensures tends { TendsPosting D.posts D.lets_in D.connected D.called D.left
             (sessions_of peers.old.all) door.old (sessions_of peers.new.all) door.new }
         ensures lent { HasLent (sessions_of peers.new.all) self.new.tools.together }
     {

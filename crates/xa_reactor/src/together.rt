@@ -1,7 +1,7 @@
 //! The turns of a round, with one call at the door for the requests that wait for no device, and another for the rest.
 ghost use Rattle.std.specs.Prelude.{ℕ, ◌≡◌, ◌⊎◌, ◌+◌, ◌++◌, ◌<◌, ◌≤◌, List, [], ◌∷◌, All, IfSome, nat_lt};
 ghost use Rattle.std.specs.{Vec.vec_capacity, Vec.vec_len, VecDeque.deque_len};
-ghost use Rattle.xa_reactor.specs.Asking.{IsAnswered, IsLeft, IsLent, IsOpen, MayBeTold, PutsAll, PutsIf, TurnedAll, TurnedSome};
+ghost use Rattle.xa_reactor.specs.Asking.{IsAnswered, IsLeft, IsLent, IsBrought, MayBeTold, PutsAll, PutsIf, TurnedAll, TurnedSome};
 ghost use Rattle.xa_reactor.specs.Believed.Tending.{Table, Tends, TendsPosting, sessions_of};
 ghost use Rattle.xa_reactor.specs.{Timing.after_wait, Together.HasLent, Together.HasRoomFor, Together.IsOver, Together.may_gather, Together.may_grow};
 ghost use Rattle.xa_reactor.specs.declared.peer.Step.{Step};
@@ -105,7 +105,7 @@ impl Together {
         door: &mut D,
     )
         requires { HasLent (sessions_of peers.old.all) self.old }
-        ensures tends { TendsPosting D.posted D.connected D.called D.left
+        ensures tends { TendsPosting D.posts D.lets_in D.connected D.called D.left
             (sessions_of peers.old.all) door.old (sessions_of peers.new.all) door.new }
         ensures lent { HasLent (sessions_of peers.new.all) self.new }
         ensures turns { KeepsTurns self.old peers.old self.new peers.new }
@@ -130,7 +130,7 @@ impl Together {
         door: &mut D,
     )
         requires { HasLent (sessions_of peers.old.all) self.old }
-        ensures tends { TendsPosting D.posted D.connected D.called D.left
+        ensures tends { TendsPosting D.posts D.lets_in D.connected D.called D.left
             (sessions_of peers.old.all) door.old (sessions_of peers.new.all) door.new }
         ensures lent { HasLent (sessions_of peers.new.all) self.new }
         ensures turns { KeepsTurns self.old peers.old self.new peers.new }
@@ -169,7 +169,7 @@ impl Together {
         door: &mut D,
     )
         requires { HasLent (sessions_of peers.old.all) self.old }
-        ensures tends { Tends D.connected D.called D.left (sessions_of peers.old.all) door.old (sessions_of peers.new.all) door.new }
+        ensures tends { Tends D.lets_in D.connected D.called D.left (sessions_of peers.old.all) door.old (sessions_of peers.new.all) door.new }
         ensures same { sessions_of peers.new.all ≡ sessions_of peers.old.all }
         ensures lent { HasLent (sessions_of peers.new.all) self.new }
         ensures waiting { self.new.waiting ≡ self.old.waiting }
@@ -203,7 +203,7 @@ impl Together {
         door: &mut D,
     )
         requires { HasLent (sessions_of peers.old.all) self.old }
-        ensures tends { Tends D.connected D.called D.left (sessions_of peers.old.all) door.old (sessions_of peers.new.all) door.new }
+        ensures tends { Tends D.lets_in D.connected D.called D.left (sessions_of peers.old.all) door.old (sessions_of peers.new.all) door.new }
         ensures over { IsOver self.new }
         ensures goes { HaveGone self.old peers.old peers.new }
         ensures settled { D.is_settled door.new }
@@ -241,7 +241,7 @@ fn give_quick<D: Reception, R: Clock + Eprint>(
     requires lent { All (IsLent (sessions_of peers.old.all)) asks.old.items }
     requires left { (left.old.items ≡ []) × (vec_len asks.old ≤ vec_capacity left.old) }
     requires room { HasRoomFor over.old asks.old }
-    ensures tends { Tends D.connected D.called D.left (sessions_of peers.old.all) door.old (sessions_of peers.new.all) door.new }
+    ensures tends { Tends D.lets_in D.connected D.called D.left (sessions_of peers.old.all) door.old (sessions_of peers.new.all) door.new }
     ensures same { sessions_of peers.new.all ≡ sessions_of peers.old.all }
     ensures lent { All (IsLent (sessions_of peers.new.all)) asks.new.items }
     ensures left { left.new.items ≡ [] }
@@ -268,7 +268,7 @@ fn give_waiting<D: Reception, R: Clock + Eprint>(
 )
     requires lent { All (IsLent (sessions_of peers.old.all)) asks.old.items }
     requires room { HasRoomFor over.old asks.old }
-    ensures tends { Tends D.connected D.called D.left (sessions_of peers.old.all) door.old (sessions_of peers.new.all) door.new }
+    ensures tends { Tends D.lets_in D.connected D.called D.left (sessions_of peers.old.all) door.old (sessions_of peers.new.all) door.new }
     ensures same { sessions_of peers.new.all ≡ sessions_of peers.old.all }
     ensures none { asks.new.items ≡ [] }
     ensures turns { (vec_len over.new ≡ vec_len over.old + vec_len asks.old) × (peers.new.queue ≡ peers.old.queue) }
@@ -380,7 +380,7 @@ fn go_on_or_keep(over: &mut Vec<(usize, Step)>, peers: &mut Peers, key: usize, s
 // What comes after turns.
 fn go_on_all<D: Reception>(over: &mut Vec<(usize, Step)>, peers: &mut Peers, door: &mut D)
     ensures goes { GoesOnAll peers.old over.old.items peers.new }
-    ensures tends { Tends D.connected D.called D.left (sessions_of peers.old.all) door.old (sessions_of peers.new.all) door.new }
+    ensures tends { Tends D.lets_in D.connected D.called D.left (sessions_of peers.old.all) door.old (sessions_of peers.new.all) door.new }
     ensures none { over.new.items ≡ [] }
 {
     for (key, step) in over.drain(..) {
@@ -391,7 +391,7 @@ fn go_on_all<D: Reception>(over: &mut Vec<(usize, Step)>, peers: &mut Peers, doo
 // Answers requests of which none was posted at a door, but for those that have to wait for another door, and puts the
 // replies to their connections.
 fn answer_quick<D: Reception>(asks: &mut [Ask], clock: &mut LoopClock, door: &mut D)
-    requires { All IsOpen asks.old }
+    requires { All IsBrought asks.old }
     ensures turned { TurnedSome D.called door.old asks.old asks.new door.new }
     ensures waited { clock.new ≡ after_wait clock.old }
 {
@@ -406,7 +406,7 @@ fn answer_quick<D: Reception>(asks: &mut [Ask], clock: &mut LoopClock, door: &mu
 // Answers requests at a door, for which it may wait, and puts the replies to their connections: none that was posted is
 // left.
 fn answer_all<D: Reception>(asks: &mut [Ask], clock: &mut LoopClock, door: &mut D)
-    requires { All IsOpen asks.old }
+    requires { All IsBrought asks.old }
     ensures turned { TurnedAll D.called door.old asks.old asks.new door.new }
     ensures answered { All IsAnswered asks.new }
     ensures settled { D.is_settled door.new }

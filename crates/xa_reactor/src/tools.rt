@@ -52,7 +52,7 @@ pub(crate) fn give_each<D: Reception, R: AllocGlobal + Clock + Eprint + Wait>(
     door: &mut D,
     turns: usize,
 )
-    ensures { Tends D.connected D.called D.left (sessions_of peers.old.all) door.old (sessions_of peers.new.all) door.new }
+    ensures { Tends D.lets_in D.connected D.called D.left (sessions_of peers.old.all) door.old (sessions_of peers.new.all) door.new }
 {
     for _ in 0..turns {
         peers.give_turn(rt, round, clock, &mut tools.scratch, door);

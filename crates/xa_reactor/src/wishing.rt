@@ -1,6 +1,7 @@
 //! A connection that asks something of the server itself.
 ghost use Rattle.std.specs.Prelude.{◌≡◌, IfSome, None, Some};
 ghost use Rattle.xa_control.specs.Answers.{IsAnswer};
+ghost use Rattle.xa_reactor.specs.Believed.Tending.{seat_of};
 ghost use Rattle.xa_reactor.specs.Orders.{HasTold};
 ghost use Rattle.xa_reactor.specs.Turning.{StepsTo};
 
@@ -21,7 +22,7 @@ impl Peer {
         if self.order.is_some() {
             return None;
         }
-        control_in(&self.connection.asked(alloc))
+        control_in(&self.connection.asked(alloc, self.standing))
     }
 
     /// It waits for an order of this number.
@@ -44,7 +45,7 @@ impl Peer {
         answer: &Answer,
     ) -> Option<Step>
         requires { IsAnswer answer.now }
-        ensures session { self.new.session ≡ self.old.session }
+        ensures session { seat_of self.new ≡ seat_of self.old }
         ensures answered { IfSome result (λ step. HasTold self.old.connection answer.now self.new.connection) }
         ensures steps { IfSome result (λ step. StepsTo step self.new) }
         ensures none { result ≡ None → self.new ≡ self.old }
@@ -52,7 +53,7 @@ impl Peer {
         if self.order != order {
             return None;
         }
-        match self.connection.asked(round.alloc) {
+        match self.connection.asked(round.alloc, self.standing) {
             Asked::Control(count, control) => {
                 let noted = Noted::of_control(&self.socket, &control);
                 let _answering = self.connection.answer_control(count, control, answer);
@@ -67,7 +68,7 @@ impl Peer {
 
     /// What comes after a turn in which this was asked of the server itself, or else this step.
     pub(crate) fn order_or(&mut self, control: Option<Control>, step: Step) -> Step
-        ensures same { (self.new.session ≡ self.old.session) × (self.new.connection ≡ self.old.connection) }
+        ensures same { (seat_of self.new ≡ seat_of self.old) × (self.new.connection ≡ self.old.connection) }
         ensures steps { StepsTo step self.old → StepsTo result self.new }
     {
         match control {

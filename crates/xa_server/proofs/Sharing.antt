@@ -1,11 +1,13 @@
 -- What loops did at their posts, said of their accounts.
-use Rattle.std.proofs.Common.{◌≡◌, ◌∙◌, ℕ, suc, arith, length, map, Bool, true, false, not, List, [], ◌∷◌, ◌++◌, Result, Ok, Err, refl, sym, ap, inl, inr}
+use Rattle.std.proofs.Common.{◌≡◌, ◌∙◌, ℕ, suc, arith, length, map, Bool, true, false, not, List, [], ◌∷◌, ◌++◌, Option, Result, Ok, Err, refl, sym, ap, inl, inr}
 use Rattle.std.specs.List.{AllByRecursion}
 use Rattle.std.specs.Prelude.{sum_by}
 use Rattle.std.proofs.lemmas.List.Sums.{sum_by-cons}
 use Rattle.xa_assoc.specs.Refusals.{is_memory}
 use Rattle.xa_assoc.specs.declared.fault.ConnectFault.{ConnectFault}
-use Rattle.xa_desk.specs.Believed.Serving.{Answers, AnswersAll}
+use Rattle.xa_desk.specs.Believed.Serving.{Answers}
+use Rattle.xa_connection.specs.Believed.Access.{AnswersAllTo, AnswersTo}
+use Rattle.xa_roles.specs.declared.role.Role.{Role}
 use Rattle.xa_frame.specs.declared.reply.Reply.{Reply}
 use Rattle.xa_frame.specs.declared.question.Question.{Question}
 use Rattle.xa_frame.specs.declared.question.Question.TheVariants.{Call, Status}
@@ -19,7 +21,7 @@ use Rattle.xa_reactor.specs.Believed.Tending.{Does, DoesOrPosts, HaveTended, Tab
 use Rattle.xa_reactor.proofs.Doing.{does_keep}
 use Rattle.xa_reactor.proofs.Parts.{has_tended_by}
 use Rattle.xa_history.specs.Believed.Manages.{Behaviour}
-use Rattle.xa_server.specs.Believed.Loops.{AllLoop, Called, Connected, HasLooped, IsFresh, Left, Posted}
+use Rattle.xa_server.specs.Believed.Loops.{AllLoop, Called, Connected, HasLooped, IsFresh, Left, LetsIn, Posted}
 use Rattle.xa_tokens.specs.Believed.Account.{Account, Owes}
 use Rattle.xa_tokens.specs.declared.ask.Ask.{Ask}
 use Rattle.xa_tokens.specs.declared.receipt.Receipt.{Receipt}
@@ -67,31 +69,45 @@ module _ {M : Type 0} (m : Behaviour M) (start : State → Type 0) (base : ℕ �
   parts_one session content reply a b (inr (inr (inl h))) = ap (λ (x : Account). x.parts) h.1
   parts_one session content reply a b (inr (inr (inr h))) = ap (λ (x : Account). x.parts) h.2
 
-  parts_answered : (session : ℕ) (contents : List (List ℕ)) (replies : List Reply) (a b : Account)
-      → AnswersAll (Called m start base session) a contents replies b → b.parts ≡ a.parts
-  parts_answered session [] [] a b h = ap (λ (x : Account). x.parts) (sym h)
-  parts_answered session [] (r ∷ rs) a b h = absurd h
-  parts_answered session (c ∷ cs) [] a b h = absurd h
-  parts_answered session (c ∷ cs) (r ∷ rs) a b h =
-      parts_answered session cs rs h.0 b h.2 ∙ parts_one session c r a h.0 h.1
+  parts_one_to : (standing : Option Role) (session : ℕ) (content : List ℕ) (reply : Reply) (a b : Account)
+      → AnswersTo standing (Called m start base session) a content reply b → b.parts ≡ a.parts
+  parts_one_to standing session content reply a b (inl (inl h)) = parts_called session a (Call h.0) reply b h.2.1
+  parts_one_to standing session content reply a b (inl (inr (inl h))) = ap (λ (x : Account). x.parts) h.3
+  parts_one_to standing session content reply a b (inl (inr (inr (inl h)))) = ap (λ (x : Account). x.parts) h.1
+  parts_one_to standing session content reply a b (inl (inr (inr (inr h)))) = ap (λ (x : Account). x.parts) h.2
+  parts_one_to standing session content reply a b (inr h) = ap (λ (x : Account). x.parts) h.2
+
+  parts_answered : (standing : Option Role) (session : ℕ) (contents : List (List ℕ)) (replies : List Reply) (a b : Account)
+      → AnswersAllTo standing (Called m start base session) a contents replies b → b.parts ≡ a.parts
+  parts_answered standing session [] [] a b h = ap (λ (x : Account). x.parts) (sym h)
+  parts_answered standing session [] (r ∷ rs) a b h = absurd h
+  parts_answered standing session (c ∷ cs) [] a b h = absurd h
+  parts_answered standing session (c ∷ cs) (r ∷ rs) a b h =
+      parts_answered standing session cs rs h.0 b h.2 ∙ parts_one_to standing session c r a h.0 h.1
 
   parts_connected : (a : Account) (result : Result ℕ ConnectFault) (b : Account) → Connected m start base a result b → b.parts ≡ a.parts
   parts_connected a result b h = parts_at_once (is_memory (connect_reply result).detail) a Connect h.reply b h.told
 
   parts_done : (x y : Table) (a b : Account)
-      → Does {D = Account} (Connected m start base) (Called m start base) (Left m start base) x y a b → b.parts ≡ a.parts
-  parts_done x y a b (inl h) = parts_connected a (Ok h.session) b h.connects
+      → Does {D = Account} LetsIn (Connected m start base) (Called m start base) (Left m start base) x y a b → b.parts ≡ a.parts
+  parts_done x y a b (inl h) = parts_connected a (Ok h.seat.session) b h.connects
   parts_done x y a b (inr (inl h)) = parts_connected a (Err h.fault) b h.refuses
-  parts_done x y a b (inr (inr (inl h))) = parts_answered h.session h.contents h.replies a b h.answers
-  parts_done x y a b (inr (inr (inr h))) =
-      parts_at_once (not h.leaves.0) a (Hangup h.session) h.leaves.1.reply b h.leaves.1.told
+  parts_done x y a b (inr (inr (inl h))) =
+      parts_answered h.seat.standing h.seat.session h.contents h.replies a b h.answers
+  parts_done x y a b (inr (inr (inr (inl h)))) =
+      parts_at_once (not h.leaves.0) a (Hangup h.seat.session) h.leaves.1.reply b h.leaves.1.told
+  parts_done x y a b (inr (inr (inr (inr h)))) =
+      let v = h.visits in
+      parts_at_once (not v.leaves.0) v.asked (Hangup v.session) v.leaves.1.reply b v.leaves.1.told
+      ∙ parts_one v.session h.content h.reply v.came v.asked v.answers
+      ∙ parts_connected a (Ok v.session) v.came v.connects
 
   abbrev Step : Table → Table → Account → Account → Type 0
-  Step x y a b = DoesOrPosts {D = Account} Posted (Connected m start base) (Called m start base) (Left m start base) x y a b
+  Step x y a b = DoesOrPosts {D = Account} Posted LetsIn (Connected m start base) (Called m start base) (Left m start base) x y a b
 
   parts_step : (x y : Table) (a b : Account) → Step x y a b → b.parts ≡ a.parts
   parts_step x y a b (inl h) = parts_done x y a b h
-  parts_step x y a b (inr h) = ap (λ (s : Account). s.parts) h.posts.1
+  parts_step x y a b (inr h) = ap (λ (s : Account). s.parts) h.posted
 
   parts_looped : (a b : Account) → HasLooped m start base a b → b.parts ≡ a.parts
   parts_looped a b h =
@@ -102,14 +118,14 @@ module _ {M : Type 0} (m : Behaviour M) (start : State → Type 0) (base : ℕ �
   -- by the accounts of doors of any type
   abbrev Tended : {D : Type 0} → (D → Account) → List D → List (Ended D) → Type 0
   Tended f doors ended =
-      HaveTended (λ s x y. Posted s (f x) (f y)) (λ x r y. Connected m start base (f x) r (f y))
+      HaveTended (λ s q x y. Posted s q (f x) (f y)) (λ x s. LetsIn (f x) s) (λ x r y. Connected m start base (f x) r (f y))
       (λ s x q r y. Called m start base s (f x) q r (f y)) (λ s x y. Left m start base s (f x) (f y)) (λ x. Owes (f x) 0) doors ended
 
   module _ {D : Type 0} (f : D → Account) where
     looped : (doors : List D) (ended : List (Ended D)) (d : D) (e : Ended D) → Tended f (d ∷ doors) (e ∷ ended)
         → HasLooped m start base (f d) (f e.door)
     looped doors ended d e each =
-        has_tended_by f Posted (Connected m start base) (Called m start base) (Left m start base) (λ (a : Account). Owes a 0) d e.door
+        has_tended_by f Posted LetsIn (Connected m start base) (Called m start base) (Left m start base) (λ (a : Account). Owes a 0) d e.door
         (each 0 d e (omega arith))
 
     rest : (doors : List D) (ended : List (Ended D)) (d : D) (e : Ended D) → Tended f (d ∷ doors) (e ∷ ended) → Tended f doors ended

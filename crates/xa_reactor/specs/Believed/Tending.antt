@@ -1,42 +1,60 @@
 -- What a loop does at its door, from one thing to the next.
-use Rattle.std.specs.Prelude.{ℕ, ◌≡◌, ◌≢◌, ◌⊎◌, ◌<◌, length, slice_index_or, List, [], ◌∷◌, Option, Some, None, Result, Ok, Err}
+use Rattle.std.specs.Prelude.{ℕ, Bool, true, ◌≡◌, ◌≢◌, ◌⊎◌, ◌<◌, length, slice_index_or, List, [], ◌∷◌, Option, Some, None, Result, Ok, Err}
 use Rattle.std.specs.Option.{option_map}
 use Rattle.slab.specs.Slab.{Slab, get}
 use Rattle.xa_assoc.specs.declared.fault.ConnectFault.{ConnectFault}
-use Rattle.xa_desk.specs.Believed.Serving.{AnswersAll}
+use Rattle.xa_connection.specs.Believed.Access.{AnswersAllTo}
 use Rattle.xa_frame.specs.declared.reply.Reply.{Reply}
 use Rattle.xa_frame.specs.declared.question.Question.{Question}
+use Rattle.xa_frame.specs.declared.question.Question.TheVariants.{Call}
+use Rattle.xa_frame.specs.declared.request.Request.{Request}
+use Rattle.xa_frame.specs.declared.request.Request.TheVariants.{Tick}
+use Rattle.xa_frame.specs.Spelling.{SpellsRequest}
+use Rattle.xa_roles.specs.declared.role.Role.{Role}
+use Rattle.xa_roles.specs.Believed.Roles.{may_ask}
+use Rattle.xa_reactor.specs.Aside.{Visits}
 use Rattle.xa_reactor.specs.declared.common.Settings.{Settings}
 use Rattle.xa_reactor.specs.declared.loops.Ended.{Ended}
 use Rattle.xa_reactor.specs.declared.loops.Seed.{Seed}
 use Rattle.xa_reactor.specs.declared.peer.Peer.{Peer}
+use Rattle.xa_reactor.specs.declared.trimming.TheConstants.{TRIM}
 
 -- each loop did what these settings ask
 abbrev pub HaveObeyed : {D : Type 0} → Settings → List (Ended D) → Type 0
 HaveObeyed {D} settings ended =
     (i : ℕ) (e : Ended D) → i < length ended → (slice_index_or ended i e).settings ≡ settings
 
--- the session that is served under each key
+-- a session that is served, and the role that its connection has shown, if any
+pub record Seat : Type 0 where
+  pub session : ℕ
+  pub standing : Option Role
+
+-- what is served under each key
 abbrev pub Table : Type 0
-Table = ℕ → Option ℕ
+Table = ℕ → Option Seat
 
 abbrev pub nobody : Table
 nobody key = None
 
+abbrev pub seat_of : Peer → Seat
+seat_of p = record { session = p.session; standing = p.standing }
+
 abbrev pub sessions_of : Slab Peer → Table
-sessions_of peers key = option_map (λ p. p.session) (get peers key)
+sessions_of peers key = option_map seat_of (get peers key)
 
 -- the new table has this under the key, and else what the old one had
-pub record Puts (old new : Table) (key : ℕ) (session : Option ℕ) : Type 0 where
-  pub changed : new key ≡ session
+pub record Puts (old new : Table) (key : ℕ) (seat : Option Seat) : Type 0 where
+  pub changed : new key ≡ seat
   pub others : (other : ℕ) → other ≢ key → new other ≡ old other
 
--- a call of a session that is served was posted, to be answered later
-pub record Posts {D : Type 0} (posted : ℕ → D → D → Type 0) (old new : Table) (d e : D) : Type 0 where
+-- a call of a session that is served, which its connection may ask, was posted, to be answered later
+pub record Posts {D : Type 0} (posts : ℕ → Request → D → D → Type 0) (old new : Table) (d e : D) : Type 0 where
   pub key : ℕ
-  pub session : ℕ
-  pub has : old key ≡ Some session
-  pub posts : posted session d e
+  pub seat : Seat
+  pub has : old key ≡ Some seat
+  pub request : Request
+  pub may : may_ask seat.standing (Call request) ≡ true
+  pub posted : posts seat.session request d e
   pub same : old ≡ new
 
 -- one thing after the other, with the table and the door before each, the last one's first
@@ -47,16 +65,21 @@ DoesAll does old d (m ∷ ms) new e = DoesAll does old d ms m.0 m.1 × does m.0 
 abbrev pub DoesSome : {D : Type 0} → (Table → Table → D → D → Type 0) → Table → D → Table → D → Type 0
 DoesSome {D} does old d new e = (before : List (Table × D)) × DoesAll does old d before new e
 
--- by what a connect, a call of a session and its hang-up do at the door
-module _ {D : Type 0} (connected : D → Result ℕ ConnectFault → D → Type 0)
+-- what a loop asks of its own accord: a Trim, or what the time is
+abbrev pub IsOwn : List ℕ → Type 0
+IsOwn content = (content ≡ TRIM) ⊎ ((moment : ℕ) × SpellsRequest content (Tick moment))
+
+-- by which roles a door lets connections in with, and by what a connect, a call of a session and its hang-up do there
+module _ {D : Type 0} (lets_in : D → Option Role → Type 0) (connected : D → Result ℕ ConnectFault → D → Type 0)
     (called : ℕ → D → Question → Reply → D → Type 0) (left : ℕ → D → D → Type 0) where
   -- a session was connected, and is served under a key that was free
   pub record Connects (old new : Table) (d e : D) : Type 0 where
     pub key : ℕ
-    pub session : ℕ
+    pub seat : Seat
     pub free : old key ≡ None
-    pub connects : connected d (Ok session) e
-    pub puts : Puts old new key (Some session)
+    pub lets : lets_in d seat.standing
+    pub connects : connected d (Ok seat.session) e
+    pub puts : Puts old new key (Some seat)
 
   -- no session was connected, and who asked is served under no key
   pub record Refuses (old new : Table) (d e : D) : Type 0 where
@@ -64,36 +87,45 @@ module _ {D : Type 0} (connected : D → Result ℕ ConnectFault → D → Type 
     pub refuses : connected d (Err fault) e
     pub same : old ≡ new
 
-  -- a session that is served was answered, frame by frame
+  -- a session that is served was answered, frame by frame: only what its connection may ask, at the door
   pub record Converses (old new : Table) (d e : D) : Type 0 where
     pub key : ℕ
-    pub session : ℕ
-    pub has : old key ≡ Some session
+    pub seat : Seat
+    pub has : old key ≡ Some seat
     pub contents : List (List ℕ)
     pub replies : List Reply
-    pub answers : AnswersAll (called session) d contents replies e
+    pub answers : AnswersAllTo seat.standing (called seat.session) d contents replies e
     pub same : old ≡ new
 
   -- a session that is served was hung up, and is served no more
   pub record Leaves (old new : Table) (d e : D) : Type 0 where
     pub key : ℕ
-    pub session : ℕ
-    pub has : old key ≡ Some session
-    pub leaves : left session d e
+    pub seat : Seat
+    pub has : old key ≡ Some seat
+    pub leaves : left seat.session d e
     pub puts : Puts old new key None
 
+  -- the loop asked something of its own accord, by a session that was connected for that and hung up
+  pub record Keeps (old new : Table) (d e : D) : Type 0 where
+    pub content : List ℕ
+    pub own : IsOwn content
+    pub reply : Reply
+    pub visits : Visits connected called left content d reply e
+    pub same : old ≡ new
+
   abbrev pub Does : Table → Table → D → D → Type 0
-  Does old new d e = Connects old new d e ⊎ (Refuses old new d e ⊎ (Converses old new d e ⊎ Leaves old new d e))
+  Does old new d e = Connects old new d e ⊎ (Refuses old new d e ⊎ (Converses old new d e ⊎ (Leaves old new d e ⊎ Keeps old new d e)))
 
   -- Whatever the loop did where it posts nothing, it was one of these things after the other.
   abbrev pub Tends : Table → D → Table → D → Type 0
   Tends old d new e = DoesSome Does old d new e
 
 -- by what a post does, too
-module _ {D : Type 0} (posted : ℕ → D → D → Type 0) (connected : D → Result ℕ ConnectFault → D → Type 0)
-    (called : ℕ → D → Question → Reply → D → Type 0) (left : ℕ → D → D → Type 0) where
+module _ {D : Type 0} (posts : ℕ → Request → D → D → Type 0) (lets_in : D → Option Role → Type 0)
+    (connected : D → Result ℕ ConnectFault → D → Type 0) (called : ℕ → D → Question → Reply → D → Type 0)
+    (left : ℕ → D → D → Type 0) where
   abbrev pub DoesOrPosts : Table → Table → D → D → Type 0
-  DoesOrPosts old new d e = Does connected called left old new d e ⊎ Posts posted old new d e
+  DoesOrPosts old new d e = Does lets_in connected called left old new d e ⊎ Posts posts old new d e
 
   -- Whatever the loop did, it was one of these things after the other. So from nobody to nobody each session that was
   -- connected was hung up, once, and only in between it was answered, and its calls were posted.

@@ -1,5 +1,5 @@
 -- What the loops of a server tell, and what holds of the history that they tell of.
-use Rattle.std.specs.Prelude.{ℕ, ◌≡◌, Bool, false, List, [], ◌∷◌, ◌++◌, length, map, Result}
+use Rattle.std.specs.Prelude.{ℕ, ◌≡◌, Bool, false, List, [], ◌∷◌, ◌++◌, length, map, Option, Some, Result}
 use Rattle.std.specs.List.{AllByRecursion}
 use Rattle.xa_assoc.specs.declared.fault.ConnectFault.{ConnectFault}
 use Rattle.xa_disk.specs.declared.disk.Disk as disk
@@ -17,6 +17,8 @@ use Rattle.xa_manager.specs.Believed.Opening.{HasBegun}
 use Rattle.xa_model.specs.State.{State}
 use Rattle.xa_model.specs.declared.event.Event.TheVariants.{Call}
 use Rattle.xa_reactor.specs.Believed.Tending.{HasTended}
+use Rattle.xa_roles.specs.declared.role.Role.{Role}
+use Rattle.xa_roles.specs.declared.role.Role.TheVariants.{Operator}
 use Rattle.xa_history.specs.Believed.Book.{receipt_of}
 use Rattle.xa_history.specs.declared.entry.Entry.{Entry}
 use Rattle.xa_history.specs.Believed.Manages.{Behaviour}
@@ -45,14 +47,18 @@ abbrev pub Left : {M : Type 0} → Behaviour M → (State → Type 0) → ℕ ×
 Left m start base session old new = (was : Bool) × LeftBy m start base session old was new
 
 -- a call of a session was posted: it is asked for, and nothing is told of it yet
-abbrev pub Posted : ℕ → Account → Account → Type 0
-Posted session old new = (request : Request) × Posts old (Call session request) new
+abbrev pub Posted : ℕ → Request → Account → Account → Type 0
+Posted session request old new = Posts old (Call session request) new
+
+-- whoever can connect may ask all
+abbrev pub LetsIn : Account → Option Role → Type 0
+LetsIn a standing = standing ≡ Some Operator
 
 -- A loop by its account: each session that it connected it hung up, once, and answered only in between, each call by one
 -- entry that it was told, or none where memory was wanted; it was told of nothing else. In the end it owes nothing.
 abbrev pub HasLooped : {M : Type 0} → Behaviour M → (State → Type 0) → ℕ × ℕ → Account → Account → Type 0
 HasLooped m start base old new =
-    HasTended {D = Account} Posted (Connected m start base) (Called m start base) (Left m start base) (λ a. Owes a 0) old new
+    HasTended {D = Account} Posted LetsIn (Connected m start base) (Called m start base) (Left m start base) (λ a. Owes a 0) old new
 
 -- each of them, one by one
 abbrev pub AllLoop : {M : Type 0} → Behaviour M → (State → Type 0) → ℕ × ℕ → List Account → List Account → Type 0

@@ -4,5 +4,5 @@ use Rattle.xa_reactor.proofs.attending.attend_all.Goals as goal
 
 pub loop-preserved : goal.loop-preserved
 loop-preserved g c =
-    tends_twice g.D.Reception.connected g.D.Door.called g.D.Door.left (sessions_of c.args.peers.now.all) (sessions_of c.loop.peers.all) (sessions_of c.attend_one.new.peers.all)
+    tends_twice g.D.Reception.lets_in g.D.Reception.connected g.D.Door.called g.D.Door.left (sessions_of c.args.peers.now.all) (sessions_of c.loop.peers.all) (sessions_of c.attend_one.new.peers.all)
     c.args.door.now c.loop.door c.attend_one.new.door c.loop.invariant c.attend_one.ensures

@@ -15,7 +15,7 @@ returns-clause-tended g c =
     IfOk-weaker c.map_vec.result _ _
     (λ ended gives i s e lt.
     let job = (gives i e lt).1 in
-    subst (λ (x : Seed g.row.D.Denot). HasTended g.D.Reception.posted g.D.Reception.connected g.D.Door.called g.D.Door.left g.D.Reception.is_settled x.door (slice_index_or ended.items i e).door)
+    subst (λ (x : Seed g.row.D.Denot). HasTended g.D.Reception.posts g.D.Reception.lets_in g.D.Reception.connected g.D.Door.called g.D.Door.left g.D.Reception.is_settled x.door (slice_index_or ended.items i e).door)
     (sym (job.job_is s)) job.call.met.0)
     c.map_vec.ensures.each
 

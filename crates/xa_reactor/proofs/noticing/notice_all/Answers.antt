@@ -11,7 +11,7 @@ use Rattle.xa_reactor.proofs.noticing.notice_all.Goals as goal
 
 pub loop-event-preserved : goal.loop-event-preserved
 loop-event-preserved g c = record {
-  tends = tends_twice g.D.Reception.connected g.D.Door.called g.D.Door.left (sessions_of c.args.peers.now.all) (sessions_of c.loop-event.peers.all) (sessions_of c.notice.new.self.all)
+  tends = tends_twice g.D.Reception.lets_in g.D.Reception.connected g.D.Door.called g.D.Door.left (sessions_of c.args.peers.now.all) (sessions_of c.loop-event.peers.all) (sessions_of c.notice.new.self.all)
       c.args.door.now c.loop-event.door c.notice.new.door c.loop-event.invariant.tends c.notice.ensures.tends;
   noticed = λ final later.
       c.loop-event.invariant.noticed final

@@ -7,16 +7,16 @@ use Rattle.xa_reactor.proofs.tending.tend.Goals as goal
 pub returns : goal.returns
 returns g c =
     let after : Table = sessions_of c.run.new.peers.all in
-    let ends : Tends g.D.Reception.connected g.D.Door.called g.D.Door.left after c.run.new.door nobody c.end_all.new.door =
-    tends_twice g.D.Reception.connected g.D.Door.called g.D.Door.left after (sessions_of c.part_stopper-stopper.new.self.all) nobody
+    let ends : Tends g.D.Reception.lets_in g.D.Reception.connected g.D.Door.called g.D.Door.left after c.run.new.door nobody c.end_all.new.door =
+    tends_twice g.D.Reception.lets_in g.D.Reception.connected g.D.Door.called g.D.Door.left after (sessions_of c.part_stopper-stopper.new.self.all) nobody
     c.run.new.door c.part_stopper-stopper.new.door c.end_all.new.door c.part_stopper-stopper.ensures.tends c.end_all.ensures in
     record {
       tends =
-          subst (λ (table : Table). TendsPosting g.D.Reception.posted g.D.Reception.connected g.D.Door.called g.D.Door.left table c.args.door.now nobody c.end_all.new.door) c.new-peers.ensures.nobody
-          (posting_twice g.D.Reception.posted g.D.Reception.connected g.D.Door.called g.D.Door.left (sessions_of c.new-peers.result.all) after nobody
+          subst (λ (table : Table). TendsPosting g.D.Reception.posts g.D.Reception.lets_in g.D.Reception.connected g.D.Door.called g.D.Door.left table c.args.door.now nobody c.end_all.new.door) c.new-peers.ensures.nobody
+          (posting_twice g.D.Reception.posts g.D.Reception.lets_in g.D.Reception.connected g.D.Door.called g.D.Door.left (sessions_of c.new-peers.result.all) after nobody
           c.args.door.now c.run.new.door c.end_all.new.door c.run.ensures.tends
-          (posting_tended g.D.Reception.posted g.D.Reception.connected g.D.Door.called g.D.Door.left after nobody c.run.new.door c.end_all.new.door ends));
+          (posting_tended g.D.Reception.posts g.D.Reception.lets_in g.D.Reception.connected g.D.Door.called g.D.Door.left after nobody c.run.new.door c.end_all.new.door ends));
       settled = λ was.
-          still_settled g.D.Reception.connected g.D.Door.called g.D.Door.left g.D.Reception.is_settled g.met.D.Reception.keeps_settled after nobody
+          still_settled g.D.Reception.lets_in g.D.Reception.connected g.D.Door.called g.D.Door.left g.D.Reception.is_settled g.met.D.Reception.keeps_settled after nobody
           c.run.new.door c.end_all.new.door ends (c.run.ensures.settled was);
     }

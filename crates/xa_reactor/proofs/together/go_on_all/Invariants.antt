@@ -7,5 +7,5 @@ use Rattle.xa_reactor.proofs.together.go_on_all.Given as goal
 abbrev pub invariant-loop-key : goal.invariant-loop-key
 invariant-loop-key g l = record {
   goes : (final : Peers) → GoesOnAll l.peers (drain_items l.key-iterator) final → GoesOnAll l.fn.peers l.fn.over.items final;
-  tends : Tends g.D.Reception.connected g.D.Door.called g.D.Door.left (sessions_of l.fn.peers.all) l.fn.door (sessions_of l.peers.all) l.door;
+  tends : Tends g.D.Reception.lets_in g.D.Reception.connected g.D.Door.called g.D.Door.left (sessions_of l.fn.peers.all) l.fn.door (sessions_of l.peers.all) l.door;
 }

@@ -1,29 +1,35 @@
-use Rattle.std.proofs.Common.{ℕ, subst, sym}
+use Rattle.std.proofs.Common.{subst, sym}
 use Rattle.xa_connection.specs.declared.connection.Connection.{Connection}
+use Rattle.xa_reactor.specs.Believed.Tending.{Seat}
 use Rattle.xa_reactor.specs.Turning.{CarriesOn, HasAnswered}
 use Rattle.xa_reactor.proofs.Turning.{carries_on, carries_on_fed, has_answered, none_answered}
 use Rattle.xa_reactor.proofs.peer.Peer.turn.Goals as goal
 
 pub returns-then-not-take_turn-clause-answers : goal.returns-then-not-take_turn-clause-answers
-returns-then-not-take_turn-clause-answers g c = none_answered (g.D.Door.called c.args.self.now.session) c.args.door.now
+returns-then-not-take_turn-clause-answers g c =
+    none_answered c.args.self.now.standing (g.D.Door.called c.args.self.now.session) c.args.door.now
 
 pub returns-then-not-take_turn-clause-carries : goal.returns-then-not-take_turn-clause-carries
 returns-then-not-take_turn-clause-carries g c =
     let taken = c.take_turn.ensures.taken in
-    carries_on_fed (g.D.Door.called c.args.self.now.session) c.args.self.now.connection taken.0 c.take_turn.new.self.connection c.args.door.now taken.1 taken.2
+    carries_on_fed c.args.self.now.standing (g.D.Door.called c.args.self.now.session) c.args.self.now.connection taken.0
+    c.take_turn.new.self.connection c.args.door.now taken.1 taken.2
 
 pub returns-clause-answers : goal.returns-clause-answers
 returns-clause-answers g c =
-    subst (λ (s : ℕ). HasAnswered (g.D.Door.called s) c.args.door.now c.answer.new.door) c.take_turn.ensures.session
-    (has_answered (g.D.Door.called c.take_turn.new.self.session) c.answer.ensures.turns.0 c.take_turn.new.self.connection c.answer.new.self.connection
+    let p = c.take_turn.new.self in
+    subst (λ (s : Seat). HasAnswered s.standing (g.D.Door.called s.session) c.args.door.now c.answer.new.door) c.take_turn.ensures.session
+    (has_answered p.standing (g.D.Door.called p.session) c.answer.ensures.turns.0 p.connection c.answer.new.self.connection
     c.args.door.now c.answer.new.door c.answer.ensures.turns.1)
 
 pub returns-clause-carries : goal.returns-clause-carries
 returns-clause-carries g c =
     let taken = c.take_turn.ensures.taken in
-    subst (λ (x : Connection). CarriesOn (g.D.Door.called c.args.self.now.session) c.args.self.now.connection c.args.door.now x c.answer.new.door)
+    let p = c.take_turn.new.self in
+    let old = c.args.self.now in
+    subst (λ (x : Connection). CarriesOn old.standing (g.D.Door.called old.session) old.connection c.args.door.now x c.answer.new.door)
     (sym c.order_or.ensures.same.1)
-    (subst (λ (s : ℕ). CarriesOn (g.D.Door.called s) c.args.self.now.connection c.args.door.now c.send-step.new.self.connection c.answer.new.door)
+    (subst (λ (s : Seat). CarriesOn s.standing (g.D.Door.called s.session) old.connection c.args.door.now c.send-step.new.self.connection c.answer.new.door)
     c.take_turn.ensures.session
-    (carries_on (g.D.Door.called c.take_turn.new.self.session) c.args.self.now.connection taken.0 c.take_turn.new.self.connection c.answer.new.self.connection c.send-step.new.self.connection
+    (carries_on p.standing (g.D.Door.called p.session) old.connection taken.0 p.connection c.answer.new.self.connection c.send-step.new.self.connection
     c.args.door.now c.answer.new.door c.answer.ensures.turns.0 taken.1 taken.2 c.answer.ensures.turns.1 c.send-step.ensures.sent))

@@ -14,7 +14,7 @@ loop-key-preserved g c =
     let next = c.end_if_overdue.new.all in
     let first = c.args.self.now.all in
     record {
-      tends = tends_twice g.D.Reception.connected g.D.Door.called g.D.Door.left (sessions_of first) (sessions_of last) (sessions_of next)
+      tends = tends_twice g.D.Reception.lets_in g.D.Reception.connected g.D.Door.called g.D.Door.left (sessions_of first) (sessions_of last) (sessions_of next)
           c.args.door.now c.loop-key.door c.end_if_overdue.new.door c.loop-key.invariant.tends c.end_if_overdue.ensures.tends;
       looked = below_more (λ key. IsLooked g.D.Reception.ties c.args.settings.now c.args.now (get first key) (get next key)) c.loop-key.key
           (λ key below.

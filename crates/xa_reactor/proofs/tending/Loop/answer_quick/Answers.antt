@@ -4,5 +4,5 @@ use Rattle.xa_reactor.proofs.tending.Loop.answer_quick.Goals as goal
 
 pub returns-clause-tends : goal.returns-clause-tends
 returns-clause-tends g c =
-    posting_tended g.D.Reception.posted g.D.Reception.connected g.D.Door.called g.D.Door.left
+    posting_tended g.D.Reception.posts g.D.Reception.lets_in g.D.Reception.connected g.D.Door.called g.D.Door.left
     (sessions_of c.args.peers.now.all) (sessions_of c.answer_quick.new.peers.all) c.args.door.now c.answer_quick.new.door c.answer_quick.ensures.tends

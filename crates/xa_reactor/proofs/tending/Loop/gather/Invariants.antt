@@ -4,6 +4,6 @@ use Rattle.xa_reactor.proofs.tending.Loop.gather.Given as goal
 
 abbrev pub invariant-loop-looks : goal.invariant-loop-looks
 invariant-loop-looks g l = record {
-  tends : TendsPosting g.D.Reception.posted g.D.Reception.connected g.D.Door.called g.D.Door.left (sessions_of l.initial.peers.all) l.initial.door (sessions_of l.peers.all) l.door;
+  tends : TendsPosting g.D.Reception.posts g.D.Reception.lets_in g.D.Reception.connected g.D.Door.called g.D.Door.left (sessions_of l.initial.peers.all) l.initial.door (sessions_of l.peers.all) l.door;
   lent : HasLent (sessions_of l.peers.all) l.self.tools.together;
 }

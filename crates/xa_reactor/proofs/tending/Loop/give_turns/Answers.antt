@@ -5,12 +5,12 @@ use Rattle.xa_reactor.proofs.tending.Loop.give_turns.Goals as goal
 
 pub returns-clause-tends : goal.returns-clause-tends
 returns-clause-tends g c =
-    posting_tended g.D.Reception.posted g.D.Reception.connected g.D.Door.called g.D.Door.left (sessions_of c.args.peers.now.all) (sessions_of c.give_each.new.peers.all)
+    posting_tended g.D.Reception.posts g.D.Reception.lets_in g.D.Reception.connected g.D.Door.called g.D.Door.left (sessions_of c.args.peers.now.all) (sessions_of c.give_each.new.peers.all)
     c.args.door.now c.give_each.new.door c.give_each.ensures
 
 pub returns-clause-settled : goal.returns-clause-settled
 returns-clause-settled g c was =
-    still_settled g.D.Reception.connected g.D.Door.called g.D.Door.left g.D.Reception.is_settled g.met.D.Reception.keeps_settled _ _
+    still_settled g.D.Reception.lets_in g.D.Reception.connected g.D.Door.called g.D.Door.left g.D.Reception.is_settled g.met.D.Reception.keeps_settled _ _
     c.args.door.now c.give_each.new.door c.give_each.ensures was
 
 pub give_together-requires : goal.give_together-requires

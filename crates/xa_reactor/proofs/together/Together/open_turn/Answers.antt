@@ -1,11 +1,9 @@
-use Rattle.std.proofs.Common.{◌≡◌, ◌∙◌, ◌⊎◌, ℕ, Option, None, Some, ap, arith, inl, inr, subst, sym}
+use Rattle.std.proofs.Common.{◌≡◌, ◌∙◌, ◌⊎◌, ap, arith, subst, sym}
 use Rattle.std.specs.Prelude.{IsSomeAnd}
-use Rattle.xa_frame.specs.declared.request.Request.{Request}
-use Rattle.xa_reactor.specs.Reception.{IsPosted}
 use Rattle.xa_reactor.specs.Asking.{IsLent}
 use Rattle.xa_reactor.specs.Believed.Tending.{Table, Tends, sessions_of}
 use Rattle.xa_reactor.specs.declared.ask.Ask.{Ask}
-use Rattle.xa_reactor.proofs.Asking.{lent_more, lent_still}
+use Rattle.xa_reactor.proofs.Asking.{lent_more, lent_still, may_of, seat_with}
 use Rattle.xa_reactor.proofs.Doing.{posting_posted, posting_tended}
 use Rattle.xa_reactor.proofs.together.Together.open_turn.Goals as goal
 
@@ -13,22 +11,17 @@ use Rattle.xa_reactor.proofs.together.Together.open_turn.Goals as goal
 lent_one : (old turned new : Table) (ask : Ask) → new ≡ turned → turned ≡ old → IsLent turned ask → (new ≡ old) × IsLent new ask
 lent_one old turned new ask same is one = (same ∙ is, subst (λ (t : Table). IsLent t ask) (sym same) one)
 
--- what was posted was a call of the session, whichever it was
-posted_one : {D : Type 0} (posts : ℕ → Request → D → D → Type 0) (posted : ℕ → D → D → Type 0) → IsPosted posts posted → (session : ℕ)
-    (asked : Option Request) (d e : D) → (e ≡ d) ⊎ IsSomeAnd asked (λ request. posts session request d e) → (e ≡ d) ⊎ posted session d e
-posted_one posts posted law session asked d e (inl same) = inl same
-posted_one posts posted law session (Some request) d e (inr one) = inr (law session request d e one)
-posted_one posts posted law session None d e (inr one) = absurd one
-
 pub returns-then-may_wait-clause-tends : goal.returns-then-may_wait-clause-tends
 returns-then-may_wait-clause-tends g c =
     let ask = c.in-Asks.ask in
     let opened = c.in-Asks.ensures.opens in
     let next = ap sessions_of c.next.ensures.same in
-    posting_posted g.D.Reception.posted g.D.Reception.connected g.D.Door.called g.D.Door.left (sessions_of c.args.peers.now.all) (sessions_of c.open_turn.new.self.all)
-    c.args.door.now c.post.new.self ask.key ask.session (ap (λ (t : Table). t ask.key) (sym next) ∙ opened.0.0)
-    (subst (λ d. (c.post.new.self ≡ d) ⊎ g.D.Reception.posted ask.session d c.post.new.self) opened.1
-    (posted_one g.D.Reception.posts g.D.Reception.posted g.met.D.Reception.is_posted ask.session ask.request c.open_turn.new.door c.post.new.self c.post.ensures))
+    posting_posted g.D.Reception.posts g.D.Reception.lets_in g.D.Reception.connected g.D.Door.called g.D.Door.left (sessions_of c.args.peers.now.all) (sessions_of c.open_turn.new.self.all)
+    c.args.door.now c.post.new.self ask.key (seat_with ask opened.0.standing) ask.request
+    (ap (λ (t : Table). t ask.key) (sym next) ∙ opened.0.at)
+    (may_of opened.0.standing ask.connection ask.front ask.request opened.0.opened.1)
+    (subst (λ d. (c.post.new.self ≡ d) ⊎ IsSomeAnd ask.request (λ request. g.D.Reception.posts ask.session request d c.post.new.self))
+    opened.1 c.post.ensures)
     (sym (c.open_turn.ensures.same ∙ next))
 
 pub returns-then-may_wait-clause-lent : goal.returns-then-may_wait-clause-lent
@@ -56,10 +49,10 @@ returns-in-Over-clause-tends g c =
     let before : Table = sessions_of c.args.peers.now.all in
     let after : Table = sessions_of c.go_on_or_keep.new.peers.all in
     let next = ap sessions_of c.next.ensures.same in
-    posting_tended g.D.Reception.posted g.D.Reception.connected g.D.Door.called g.D.Door.left before after c.args.door.now c.open_turn.new.door
-    (subst (λ (t : Table). Tends g.D.Reception.connected g.D.Door.called g.D.Door.left before c.args.door.now t c.open_turn.new.door)
+    posting_tended g.D.Reception.posts g.D.Reception.lets_in g.D.Reception.connected g.D.Door.called g.D.Door.left before after c.args.door.now c.open_turn.new.door
+    (subst (λ (t : Table). Tends g.D.Reception.lets_in g.D.Reception.connected g.D.Door.called g.D.Door.left before c.args.door.now t c.open_turn.new.door)
     (sym (ap sessions_of c.go_on_or_keep.ensures.same ∙ c.open_turn.ensures.same ∙ next))
-    (subst (λ (t : Table). Tends g.D.Reception.connected g.D.Door.called g.D.Door.left t c.args.door.now t c.open_turn.new.door) next c.in-Over.ensures.opens))
+    (subst (λ (t : Table). Tends g.D.Reception.lets_in g.D.Reception.connected g.D.Door.called g.D.Door.left t c.args.door.now t c.open_turn.new.door) next c.in-Over.ensures.opens))
 
 pub returns-in-Over-clause-lent : goal.returns-in-Over-clause-lent
 returns-in-Over-clause-lent g c =

@@ -7,14 +7,14 @@ pub loop-init : goal.loop-init
 loop-init g c =
     let table : Table = sessions_of c.args.peers.now.all in
     record {
-      tends = posting_none g.D.Reception.posted g.D.Reception.connected g.D.Door.called g.D.Door.left table table c.args.door.now refl;
+      tends = posting_none g.D.Reception.posts g.D.Reception.lets_in g.D.Reception.connected g.D.Door.called g.D.Door.left table table c.args.door.now refl;
       lent = c.reserve.ensures.lent table c.requires;
       turns = omega (arith, c.reserve.ensures.turns);
     }
 
 pub loop-preserved : goal.loop-preserved
 loop-preserved g c = record {
-  tends = posting_twice g.D.Reception.posted g.D.Reception.connected g.D.Door.called g.D.Door.left (sessions_of c.args.peers.now.all) (sessions_of c.loop.peers.all) (sessions_of c.open_turn.new.peers.all)
+  tends = posting_twice g.D.Reception.posts g.D.Reception.lets_in g.D.Reception.connected g.D.Door.called g.D.Door.left (sessions_of c.args.peers.now.all) (sessions_of c.loop.peers.all) (sessions_of c.open_turn.new.peers.all)
       c.args.door.now c.loop.door c.open_turn.new.door c.loop.invariant.tends c.open_turn.ensures.tends;
   lent = c.open_turn.ensures.lent;
   turns = c.open_turn.ensures.turns ∙ c.loop.invariant.turns;

@@ -4,7 +4,7 @@ use Rattle.xa_reactor.proofs.together.Together.open_turns.Given as goal
 
 abbrev pub invariant-loop : goal.invariant-loop
 invariant-loop g l = record {
-  tends : TendsPosting g.D.Reception.posted g.D.Reception.connected g.D.Door.called g.D.Door.left (sessions_of l.initial.peers.all) l.initial.door (sessions_of l.peers.all) l.door;
+  tends : TendsPosting g.D.Reception.posts g.D.Reception.lets_in g.D.Reception.connected g.D.Door.called g.D.Door.left (sessions_of l.initial.peers.all) l.initial.door (sessions_of l.peers.all) l.door;
   lent : HasLent (sessions_of l.peers.all) l.self;
   turns : KeepsTurns l.initial.self l.initial.peers l.self l.peers;
 }

@@ -1,0 +1,2 @@
+-- what must be believed (docs/BELIEVE.md)
+pub mod Access
