@@ -160,7 +160,7 @@ static bool read_body(const unsigned char *body, size_t length, struct reply *to
 /* The detail of this number. One that a later server has is taken for what leaves as much open. */
 static int detail_of(int number, int code)
 {
-    if (number <= DETAIL_LOG_FULL)
+    if (number <= DETAIL_ACCESS)
         return number;
     return code == XAER_RMFAIL ? DETAIL_DEVICE : DETAIL_NOTHING;
 }

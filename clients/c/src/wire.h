@@ -49,7 +49,7 @@ void request_text(struct request *to, size_t length_bytes, const void *text, siz
 void request_end(struct request *to);
 
 enum kind { NOTHING, NUMBER, VALUE, ABSENT, XIDS };
-enum detail { DETAIL_NOTHING, DETAIL_MEMORY, DETAIL_DEVICE, DETAIL_BUSY, DETAIL_LATE, DETAIL_LIMIT, DETAIL_FRAME, DETAIL_LOG_FULL };
+enum detail { DETAIL_NOTHING, DETAIL_MEMORY, DETAIL_DEVICE, DETAIL_BUSY, DETAIL_LATE, DETAIL_LIMIT, DETAIL_FRAME, DETAIL_LOG_FULL, DETAIL_ACCESS };
 
 /* The name of a detail, as "Busy". */
 const char *detail_name(int detail);
