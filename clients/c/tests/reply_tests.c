@@ -78,7 +78,7 @@ static void each_code(void)
 
 static void details(void)
 {
-    for (int detail = 0; detail <= 7; detail++) {
+    for (int detail = 0; detail <= 8; detail++) {
         answer(XAER_RMFAIL, detail);
         CODE(XAER_RMFAIL, put(RMID, "k", "v"));
         answer(XA_RETRY, detail);
@@ -96,7 +96,7 @@ static void details(void)
 /* Details that a later server may have. */
 static void later_details(void)
 {
-    static const int later[] = {8, 127, 128, 255};
+    static const int later[] = {9, 127, 128, 255};
     for (size_t at = 0; at < sizeof later / sizeof later[0]; at++) {
         answer(XA_OK, later[at]);
         CODE(XA_OK, put(RMID, "k", "v"));

@@ -267,7 +267,7 @@ class Broken:
         """a detail of a later server is taken for Nothing, or for Device with XAER_RMFAIL"""
         fake = Fake()
         one = fake.connection()
-        for number in (8, 127, 128, 255):
+        for number in (9, 127, 128, 255):
             fake.put(reply(0, number), reply(-5, number), reply(-7, number))
             one.xa_forget(name("k"))
             with refuses(Code.XAER_INVAL):

@@ -104,7 +104,7 @@ final class DeviceTests implements Suite {
             refusal(XAER_RMFAIL, detail, () -> connection.getRecords().put(text("k"), text("v")));
         }
         // those that a later server may have
-        for (int later : new int[] {8, 127, 128, 255}) {
+        for (int later : new int[] {9, 127, 128, 255}) {
             fake.answer(changed(Fake.reply(XAER_RMFAIL, Detail.NOTHING, 0, NO_BODY), 9, later));
             refusal(XAER_RMFAIL, Detail.DEVICE, () -> connection.getRecords().put(text("k"), text("v")));
             fake.answer(changed(Fake.reply(XAER_INVAL, Detail.NOTHING, 0, NO_BODY), 9, later));
