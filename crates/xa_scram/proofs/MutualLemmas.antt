@@ -44,7 +44,7 @@ xored_bytes (x ∷ xs) (y ∷ ys) a b =
     All-cons (λ b. b < 256) (bit_xor x y) (xor_bytes xs ys) (xor_of_8 x y (All-head (λ b. b < 256) x xs a) (All-head (λ b. b < 256) y ys b))
     (xored_bytes xs ys (All-tail (λ b. b < 256) x xs a) (All-tail (λ b. b < 256) y ys b))
 
-own_nonce : (own : List ℕ) → length own ≡ 18 → AreBytes own → IsNonce (base64 own)
+pub own_nonce : (own : List ℕ) → length own ≡ 18 → AreBytes own → IsNonce (base64 own)
 own_nonce own size are = record {
   least = omega (arith, length-base64 own);
   most = omega (arith, length-base64 own);

@@ -1,9 +1,10 @@
 ghost use Rattle.std.specs.Prelude.{◌≡◌, ◌↔◌, IfSome, IsSome, IsTrue};
 ghost use Rattle.std.specs.List.{list_all};
-ghost use Rattle.xa_scram.specs.Believed.{Limits.IsNonce, Limits.is_nonce_byte};
+ghost use Rattle.xa_scram.specs.Believed.{Limits.IsNonce, Limits.is_nonce_byte, Messages.base64};
 
-use crate::bytes::append;
-use crate::limits::MOST_NONCE;
+use crate::bytes::{append, hold};
+use crate::fields::{Message, put_base64};
+use crate::limits::{MOST_NONCE, OWN_BYTES};
 use arrayvec::ArrayVec;
 use std::marker::Model;
 
@@ -38,6 +39,16 @@ impl Nonce {
         Some(Nonce { bytes: all })
     }
 
+    /// The nonce that these bytes spell in Base64, of 24 characters. Takes no memory.
+    pub fn of_bytes(bytes: &[u8; OWN_BYTES]) -> Nonce
+        ensures { result ≡ base64 bytes.now }
+    {
+        hold(bytes);
+        Nonce {
+            bytes: spelled(bytes),
+        }
+    }
+
     /// The bytes.
     pub fn as_slice(&self) -> &[u8]
         ensures value { result.now ≡ self.now }
@@ -54,6 +65,17 @@ impl Nonce {
         append(&mut bytes, self.bytes.as_slice());
         Nonce { bytes }
     }
+}
+
+// The Base64 of these bytes.
+fn spelled(bytes: &[u8; OWN_BYTES]) -> ArrayVec<u8, MOST_NONCE>
+    ensures { result.items ≡ base64 bytes.now }
+{
+    let mut text: Message = ArrayVec::new();
+    put_base64(&mut text, bytes);
+    let mut all: ArrayVec<u8, MOST_NONCE> = ArrayVec::new();
+    append(&mut all, text.as_slice());
+    all
 }
 
 /// Whether these bytes can be a nonce.

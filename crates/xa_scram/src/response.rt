@@ -7,7 +7,7 @@ use crate::challenge_reader::{Challenge, challenge_of};
 use crate::fields::Message;
 use crate::keyed::{hi, hmac};
 use crate::keys::{client_key, server_key, stored_key};
-use crate::limits::{MOST_NONCE, MOST_SALT};
+use crate::limits::{MOST_MESSAGE, MOST_NONCE, MOST_SALT};
 use crate::name::Name;
 use crate::nonce::Nonce;
 use crate::opening::{Binding, Opening};
@@ -52,7 +52,8 @@ impl Response {
 
     /// The client's last message.
     pub fn message(&self) -> &[u8]
-        ensures { result.now ≡ self.now.message }
+        ensures value { result.now ≡ self.now.message }
+        ensures few { length result.now ≤ MOST_MESSAGE }
     {
         self.message.as_slice()
     }

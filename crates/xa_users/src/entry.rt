@@ -22,10 +22,24 @@ pub fn put_user(
     ensures lines { OnOk result (out.new.items ≡ out.old.items ++ entry_of (user_named name.now role verifier.now)) }
     ensures same { OnErr result (out.new.items ≡ out.old.items) }
 {
-    let alloc = *out.allocator();
-    let document = document_with(alloc, name, role, verifier)?;
-    let text = printed(alloc, &document)?;
+    let text = user_text(*out.allocator(), name, role, verifier)?;
     out.extend_from_slice(text.as_bytes())
+}
+
+/// The lines of a user.
+///
+/// # Errors
+/// Out of memory.
+pub fn user_text(
+    alloc: Global,
+    name: &Name,
+    role: Role,
+    verifier: &Verifier,
+) -> Result<String, AllocError>
+    ensures { IfOk result (λ s. string_bytes s ≡ entry_of (user_named name.now role verifier.now)) }
+{
+    let document = document_with(alloc, name, role, verifier)?;
+    printed(alloc, &document)
 }
 
 // The document of a user alone.

@@ -4,7 +4,7 @@
 //! - `fault`: `UsersFault`, why a text says no users, by `misfit`, why a member is no user; `place`: `line_of`
 //! - `login`: `Login`, which has begun; `logins`: `Users::begin`, `Users::finish`, and `Welcome`
 //! - `same`: whether two verifiers are one
-//! - `entry`: `put_user`, which puts the lines of a user
+//! - `entry`: `user_text`, the lines of a user, and `put_user`, which puts them
 //! - `laws`: `entries_say`, those lines alone say that user; `worked_entries`, worked rows
 #![tactic(auto)]
 
@@ -20,7 +20,7 @@ mod same;
 mod user;
 mod users;
 
-pub use entry::put_user;
+pub use entry::{put_user, user_text};
 pub use fault::UsersFault;
 pub use laws::{entries_say, worked_entries};
 pub use login::Login;

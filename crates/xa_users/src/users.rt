@@ -15,7 +15,7 @@ pub struct Users {
 }
 
 impl Users {
-    ghost use Rattle.std.specs.Prelude.{◌≡◌, ℕ, List, IfOk, IfErr, IfSome, IsOkUnless, option_map};
+    ghost use Rattle.std.specs.Prelude.{◌≡◌, ◌↔◌, ℕ, List, IfOk, IfErr, IfSome, IsOkUnless, IsSome, IsTrue, option_map};
     ghost use Rattle.toml.specs.Data.{get_member};
     ghost use Rattle.toml.specs.Parse.{parse_document};
     ghost use Rattle.xa_users.specs.Believed.Users.{Named, SaysUsers, all_of, user_data, user_of};
@@ -47,5 +47,12 @@ impl Users {
         }
         let by_name = named(alloc, &document)?;
         Ok(Users { by_name })
+    }
+
+    /// Whether somebody has this name. Takes no memory.
+    pub fn contains(&self, name: &Name) -> bool
+        ensures { IsTrue result ↔ IsSome (user_of self.now name.now) }
+    {
+        self.by_name.get(name).is_some()
     }
 }
