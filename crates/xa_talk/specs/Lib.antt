@@ -5,3 +5,4 @@ pub mod Help
 pub mod Talks
 pub mod Ticks
 pub mod Shutdowns
+pub mod Logins

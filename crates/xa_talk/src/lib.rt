@@ -16,6 +16,8 @@
 //! - `ticker`: `Ticker`, what gives moments and tells refusals; `refusal`: `refusal_text`, what a refusal comes to
 //! - `tick_fault`: `TickFault`, why no more moments are told
 //!
+//! - `logging_in`: `log_in`, by which a client logs in over a connection; `login_fault`: `LoginFault`, why it isn't
+//!
 //! - `shutdown`: `shutdown_run`, which asks a server to end; `shutdown_fault`: `ShutdownFault`, why it isn't known to have
 #![tactic(auto)]
 
@@ -27,6 +29,8 @@ mod dial;
 mod exchanging;
 mod fault;
 mod help;
+mod logging_in;
+mod login_fault;
 mod manner;
 mod prompter;
 mod refusal;
@@ -42,6 +46,8 @@ pub use answered::Answered;
 pub use dial::{Connection, Dial};
 pub use exchanging::{ask_control, ask_end, exchange};
 pub use fault::TalkFault;
+pub use logging_in::log_in;
+pub use login_fault::LoginFault;
 pub use manner::Manner;
 pub use prompter::Prompter;
 pub use refusal::refusal_text;
