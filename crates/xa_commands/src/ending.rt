@@ -25,7 +25,8 @@ pub fn ended<R: Eprint, F: Display>(rt: &R, end: &Result<(), F>) -> ExitCode
     }
 }
 
-/// The same of what was asked of a server: where it couldn't be reached, that is told, with the system's text.
+/// The same of what was asked of a server: where it couldn't be reached, that is told, with the system's text, and if a user
+/// who was to log in couldn't, why.
 pub fn ended_at<R: Eprint, F: Display>(
     rt: &R,
     end: &Result<(), F>,
@@ -43,14 +44,15 @@ pub fn ended_at<R: Eprint, F: Display>(
     }
 }
 
-// Tells a fault, or why a server couldn't be reached.
+// Tells a fault, or why a server couldn't be reached, or nobody logged in to it.
 fn tell_fault<R: Eprint, F: Display>(rt: &R, fault: &F, server: &Server<'_, '_, R>) {
-    let _ = match server.unreached() {
-        Some(error) => {
+    let _ = match (server.unreached(), server.unlogged()) {
+        (Some(error), _) => {
             let reach = server.reach();
             eprintln!(rt; "xarm: cannot connect to {reach}: {error}")
         }
-        None => eprintln!(rt; "xarm: {fault}"),
+        (None, Some(why)) => eprintln!(rt; "xarm: {why}"),
+        (None, None) => eprintln!(rt; "xarm: {fault}"),
     };
 }
 

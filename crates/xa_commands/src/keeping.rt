@@ -60,7 +60,7 @@ fn copy_file<R: AllocGlobal + Files>(rt: &R, from: &str, to: &str) -> io::Result
 
 // Makes the names of what is beside a path last. A file system that has no such call for folders is left to itself, as
 // where a log is opened.
-fn sync_folder<R: Files>(rt: &R, path: &str) -> io::Result<()> {
+pub(crate) fn sync_folder<R: Files>(rt: &R, path: &str) -> io::Result<()> {
     let folder = match Path::new(path).parent() {
         Some(folder) if !folder.as_str().is_empty() => folder,
         _ => Path::new("."),

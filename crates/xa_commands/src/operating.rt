@@ -6,12 +6,15 @@ ghost use Rattle.xa_talk.specs.declared.dial.Connection.{Connection};
 use crate::errors::Errors;
 use crate::server::Server;
 use crate::stream::Stream;
+use std::fs::Files;
 use std::io::{self, Read, Write};
 use std::net::{Net, TcpStream};
+use std::random::RandomSource;
+use std::rt::Env;
 use xa_operate::{Format, OperateFault, Task, confirm_run, operate_run, print_text, script_text};
 
 /// Asks a server what an operator wants, and prints its answers.
-pub fn operate<R: AllocGlobal + Print + Net<Stream = TcpStream>>(
+pub fn operate<R: AllocGlobal + Print + Env + Files + Net<Stream = TcpStream> + RandomSource>(
     rt: &R,
     server: &mut Server<'_, '_, R>,
     name: &str,
@@ -29,7 +32,9 @@ pub fn operate<R: AllocGlobal + Print + Net<Stream = TcpStream>>(
 
 /// The same of what can't be taken back, once a line of standard input has said yes. What it is about is shown on standard
 /// error, and there it is asked whether to do it.
-pub fn confirm<R: AllocGlobal + Input + Print + Eprint + Net<Stream = TcpStream>>(
+pub fn confirm<
+    R: AllocGlobal + Input + Print + Eprint + Env + Files + Net<Stream = TcpStream> + RandomSource,
+>(
     rt: &R,
     server: &mut Server<'_, '_, R>,
     name: &str,

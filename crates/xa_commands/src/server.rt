@@ -1,7 +1,12 @@
+use crate::client::Client;
 use crate::stream::Stream;
-use std::io::Read;
+use crate::unlogged::Unlogged;
+use std::fs::Files;
+use std::io::{ErrorKind, Read};
 use std::net::{Net, TcpStream};
 use std::os::unix::net::UnixStream;
+use std::random::RandomSource;
+use std::rt::Env;
 use std::time::Duration;
 use std::{fmt, io};
 use xa_talk::{Connection, Dial};
@@ -26,24 +31,40 @@ impl fmt::Display for Reach<'_> {
     }
 }
 
-/// A server, and how long it is waited for.
+/// A server, how long it is waited for, and who logs in to it, if anybody does.
 #[derive(Drop)]
 pub struct Server<'a, 'w, R> {
     rt: &'a R,
     reach: Reach<'w>,
     seconds: u64,
+    client: Option<Client<'w>>,
     unreached: Option<io::Error>,
+    unlogged: Option<Unlogged<'w>>,
 }
 
 impl<'a, 'w, R> Server<'a, 'w, R> {
     /// A server of which each answer is waited for so many seconds at most, or without end where they are 0: an answer of
     /// which no byte comes meanwhile is given up, as a connection that broke.
-    pub fn new(rt: &'a R, reach: Reach<'w>, seconds: u64) -> Server<'a, 'w, R> {
+    ///
+    /// With a user, each connection is logged in as that one before it is used. The secret is the first line of the file
+    /// that the environment variable `XARM_PASSWORD_FILE` names, which is its owner's alone, and is read once.
+    pub fn new(
+        rt: &'a R,
+        reach: Reach<'w>,
+        seconds: u64,
+        user: Option<&'w str>,
+    ) -> Server<'a, 'w, R> {
+        let client = match user {
+            Some(user) => Some(Client::new(user)),
+            None => None,
+        };
         Server {
             rt,
             reach,
             seconds,
+            client,
             unreached: None,
+            unlogged: None,
         }
     }
 
@@ -55,6 +76,11 @@ impl<'a, 'w, R> Server<'a, 'w, R> {
     /// Why the last connection couldn't be opened, if it couldn't.
     pub fn unreached(&self) -> Option<io::Error> {
         self.unreached
+    }
+
+    /// Why the last connection that was opened wasn't logged in, if it was to be, and wasn't.
+    pub fn unlogged(&self) -> Option<&Unlogged<'w>> {
+        self.unlogged.as_ref()
     }
 }
 
@@ -94,13 +120,34 @@ impl<R: Net<Stream = TcpStream>> Server<'_, '_, R> {
     }
 }
 
-impl<R: Net<Stream = TcpStream>> Dial<Stream, Stream> for Server<'_, '_, R> {
-    fn dial(&mut self) -> io::Result<Connection<Stream, Stream>> {
-        let connection = self.connect();
-        if let Err(error) = &connection {
-            self.unreached = Some(*error);
+impl<R: AllocGlobal + Env + Files + Net<Stream = TcpStream> + RandomSource> Server<'_, '_, R> {
+    // Logs in over a connection, if anybody is to.
+    fn log_in(&mut self, connection: &mut Connection<Stream, Stream>) -> io::Result<()> {
+        let Some(client) = &mut self.client else {
+            return Ok(());
+        };
+        match client.log_in(self.rt, self.reach, connection) {
+            Ok(()) => Ok(()),
+            Err(why) => {
+                self.unlogged = Some(why);
+                Err(io::Error::from(ErrorKind::PermissionDenied))
+            }
         }
-        connection
+    }
+}
+
+impl<R: AllocGlobal + Env + Files + Net<Stream = TcpStream> + RandomSource> Dial<Stream, Stream>
+    for Server<'_, '_, R> {
+    fn dial(&mut self) -> io::Result<Connection<Stream, Stream>> {
+        let mut connection = match self.connect() {
+            Ok(connection) => connection,
+            Err(error) => {
+                self.unreached = Some(error);
+                return Err(error);
+            }
+        };
+        self.log_in(&mut connection)?;
+        Ok(connection)
     }
 
     fn hang_up(&mut self, connection: Connection<Stream, Stream>) {

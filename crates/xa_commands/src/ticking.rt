@@ -3,9 +3,11 @@ ghost use Rattle.xa_talk.specs.declared.dial.Connection.{Connection};
 
 use crate::server::Server;
 use crate::stream::Stream;
+use std::fs::Files;
 use std::io::{Read, Write};
 use std::net::{Net, TcpStream};
-use std::rt::Clock;
+use std::random::RandomSource;
+use std::rt::{Clock, Env};
 use std::time::Duration;
 use std::{fmt, thread};
 use xa_frame::Reply;
@@ -54,7 +56,7 @@ impl<R> fmt::Debug for Watch<'_, R> {
 
 /// Tells a server what the system's clock says, in whole seconds since 1970: at once, and then again every
 /// so many seconds.
-pub fn tick<R: AllocGlobal + Clock + Eprint + Net<Stream = TcpStream>>(
+pub fn tick<R: AllocGlobal + Clock + Eprint + Env + Files + Net<Stream = TcpStream> + RandomSource>(
     rt: &R,
     server: &mut Server<'_, '_, R>,
     every: u64,

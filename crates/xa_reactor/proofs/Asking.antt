@@ -14,6 +14,7 @@ use Rattle.xa_frame.specs.declared.question.Question.TheVariants.{Call}
 use Rattle.xa_frame.specs.declared.reply.Reply.{Reply}
 use Rattle.xa_frame.specs.declared.request.Request.{Request}
 use Rattle.xa_roles.specs.declared.role.Role.{Role}
+use Rattle.xa_users.specs.declared.users.Users.{Users}
 use Rattle.xa_roles.specs.Believed.Roles.{may_ask}
 use Rattle.xa_reactor.specs.declared.ask.Ask.{Ask}
 use Rattle.xa_reactor.specs.Asking.{HasRequest, IsAnswered, IsAsking, IsLeft, IsLent, IsBrought, MayBeTold, Puts, PutsAll, Tells, TellsEach, TellsOne, TellsSome, TurnedSome}
@@ -49,14 +50,11 @@ may_of standing c (Whole count) None asks q is = absurd asks
 may_of standing c Cut request asks q is = absurd asks
 may_of standing c TooLong request asks q is = absurd asks
 
-abbrev pub seat_with : Ask → Option Role → Seat
-seat_with a standing = record { session = a.session; standing = standing }
-
 -- the session is served under its key, and as long as its request is left, the connection asks so
 abbrev Stays : Table → Ask → Type 0
 Stays table a =
-    (standing : Option Role) × (table a.key ≡ Some (seat_with a standing))
-    × ((q : Request) → a.request ≡ Some q → IsAsking standing a.connection a.front a.request)
+    (seat : Seat) × (table a.key ≡ Some seat) × (seat.session ≡ a.session)
+    × ((q : Request) → a.request ≡ Some q → IsAsking seat.standing a.connection a.front a.request)
 
 -- its reply may be put to its connection, once its request is gone
 abbrev Ready : Ask → Type 0
@@ -79,7 +77,8 @@ module _ {D : Type 0} (called : ℕ → D → Question → Reply → D → Type 
   still_stays : (table : Table) (d e : D) (a b : Ask) → Stays table a → Tells called d a b e → Stays table b
   still_stays table d e a b stays tells = (
     stays.0,
-    ap table tells.key ∙ stays.1 ∙ ap (λ (n : ℕ). Some (record { session = n; standing = stays.0 })) (sym tells.session),
+    ap table tells.key ∙ stays.1,
+    stays.2 ∙ sym tells.session,
     λ q is. absurd (cc (sym tells.gone ∙ is)),
   )
 
@@ -87,24 +86,25 @@ module _ {D : Type 0} (called : ℕ → D → Question → Reply → D → Type 
   still_ready d e a b ready tells = (subst IsShortFront (sym tells.front) ready.0, λ _. tells.limits)
 
   -- the connections are those of sessions that are served
-  module _ (lets_in : D → Option Role → Type 0) (connected : D → Result ℕ ConnectFault → D → Type 0) (left : ℕ → D → D → Type 0) where
+  module _ (users : Option Users) (connected : D → Result ℕ ConnectFault → D → Type 0) (left : ℕ → D → D → Type 0) where
     tends_told : (table : Table) (asks told : List Ask) (d e : D) (before : List (List Ask × D)) → TellsEach called d asks before told e
-        → All (Stays table) asks → Tends lets_in connected called left table d table e
-    tends_told table asks told d e [] tells stay = subst (λ (x : D). Tends lets_in connected called left table d table x) tells.1 (tends_none lets_in connected called left table table d refl)
+        → All (Stays table) asks → Tends users connected called left table d table e
+    tends_told table asks told d e [] tells stay = subst (λ (x : D). Tends users connected called left table d table x) tells.1 (tends_none users connected called left table table d refl)
     tends_told table asks told d e (m ∷ ms) tells stay =
         let one : TellsOne called m.1 m.0 told e = tells.1 in
         let a : Ask = get_or m.0 one.place one.ask in
         let now : Stays table a = All-get_or (Stays table) m.0 one.place one.ask one.within (all_left_true (Stays table) (still_stays table) asks m.0 d m.1 ms tells.0 stay) in
-        tends_twice lets_in connected called left table table table d m.1 e
+        tends_twice users connected called left table table table d m.1 e
         (tends_told table asks m.0 d m.1 ms tells.0 stay)
-        (tends_answered lets_in connected called left table table m.1 e a.key (seat_with a now.0) now.1
-        (asked now.0 (called a.session) a.front a.request one.tells.request one.ask.reply a.connection m.1 e
-        (now.2 one.tells.request one.tells.asked) one.tells.asked one.tells.told) refl)
+        (tends_answered users connected called left table table m.1 e a.key now.0 now.1
+        (asked now.0.standing (called now.0.session) a.front a.request one.tells.request one.ask.reply a.connection m.1 e
+        (now.3 one.tells.request one.tells.asked) one.tells.asked
+        (subst (λ (n : ℕ). called n m.1 (Call one.tells.request) one.ask.reply e) (sym now.2) one.tells.told)) refl)
 
     pub tends_turned : (table : Table) (asks told : List Ask) (d e : D) → All (IsLent table) asks → TellsSome called d asks told e
-        → Tends lets_in connected called left table d table e
+        → Tends users connected called left table d table e
     tends_turned table asks told d e lent tells =
-        let stay : All (Stays table) asks = All-weaker (IsLent table) (Stays table) (λ a h. (h.standing, h.at, λ q is. h.opened.1)) asks lent in
+        let stay : All (Stays table) asks = All-weaker (IsLent table) (Stays table) (λ a h. (h.seat, h.at, h.session, λ q is. h.opened.1)) asks lent in
         tends_told table asks told d e tells.0 tells.1 stay
 
   -- what was answered, or is lent still, is so when the replies are put
@@ -151,20 +151,16 @@ pub lent_left : (table : Table) (a : Ask) → (IsAnswered a → ⊥) → IsLeft 
 lent_left table a some h = left_lent table a a.request some h
 
 -- a turn was opened of a connection whose session is served
-pub opens_at : {D : Type 0} (called : ℕ → D → Question → Reply → D → Type 0) (lets_in : D → Option Role → Type 0)
+pub opens_at : {D : Type 0} (called : ℕ → D → Question → Reply → D → Type 0)
     (connected : D → Result ℕ ConnectFault → D → Type 0) (left : ℕ → D → D → Type 0)
     (table : Table) (old : Peer) (key : ℕ) (result : Opened) (new : Peer) (d e : D) → table key ≡ Some (seat_of old)
-    → Opens (called old.session) old d key result new e → OpensAt lets_in connected called left table d result e
-opens_at called lets_in connected left table old key (Asks ask) new d e has (lends, same) = (
-  record {
-    standing = old.standing;
-    at = ap table lends.key ∙ has ∙ ap (λ (n : ℕ). Some (record { session = n; standing = old.standing })) (sym lends.session);
-    opened = lends.asks;
-  },
+    → Opens (called old.session) old d key result new e → OpensAt connected called left table d result e
+opens_at called connected left table old key (Asks ask) new d e has (lends, same) = (
+  record { seat = seat_of old; at = ap table lends.key ∙ has; session = sym lends.session; opened = lends.asks },
   same,
 )
-opens_at called lets_in connected left table old key (Over step) new d e has (answered, carried) =
-    tends_answered lets_in connected called left table table d e key (seat_of old) has answered refl
+opens_at called connected left table old key (Over step) new d e has (answered, carried) = λ users.
+    tends_answered users connected called left table table d e key (seat_of old) has answered refl
 
 -- those that are lent stay so while the table stays
 pub lent_still : (old new : Table) (asks : List Ask) → new ≡ old → All (IsLent old) asks → All (IsLent new) asks
@@ -177,7 +173,7 @@ lent_more old new asks more ask same is lent one =
     All-same (IsLent new) more (asks ++ ask ∷ []) is (All-push (IsLent new) asks ask (lent_still old new asks same lent) one)
 
 pub are_open : (table : Table) (asks : List Ask) → All (IsLent table) asks → All IsBrought asks
-are_open table asks lent = All-weaker (IsLent table) IsBrought (λ a h. record { standing = h.standing; opened = h.opened }) asks lent
+are_open table asks lent = All-weaker (IsLent table) IsBrought (λ a h. record { standing = h.seat.standing; opened = h.opened }) asks lent
 
 pub have_requests : (asks : List Ask) → All IsBrought asks → All HasRequest asks
 have_requests asks opened = All-weaker IsBrought HasRequest (λ a h. h.opened.0) asks opened

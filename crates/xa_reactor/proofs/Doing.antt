@@ -2,23 +2,24 @@
 use Rattle.std.proofs.Common.{◌≡◌, ◌∙◌, ◌<◌, ◌≤◌, ℕ, zero, suc, Bool, true, false, arith, length, map, List, [], ◌∷◌, ◌++◌, Option, Some, None, Result, Ok, Err, get_or, set, refl, sym, ap, subst, inl, inr, ◌⊎◌}
 use Rattle.std.proofs.Math.Path.{fun_ext}
 use Rattle.std.specs.Option.{option_map}
-use Rattle.std.specs.Prelude.{nat_lt, IsSomeAnd}
+use Rattle.std.specs.Prelude.{nat_lt, IsSome, IsSomeAnd}
 use Rattle.std.proofs.lemmas.Bool.Decides.{nat_tests}
 use Rattle.std.proofs.lemmas.List.{get_or_past, length-map}
 use Rattle.slab.specs.Slab.{Slab, Updates, get, with_value}
+use Rattle.slab.proofs.SlabLemmas.{Updates-with_value}
 use Rattle.xa_assoc.specs.declared.fault.ConnectFault.{ConnectFault}
 use Rattle.xa_frame.specs.declared.reply.Reply.{Reply}
 use Rattle.xa_frame.specs.declared.question.Question.{Question}
 use Rattle.xa_frame.specs.declared.question.Question.TheVariants.{Call}
 use Rattle.xa_frame.specs.declared.request.Request.{Request}
-use Rattle.xa_roles.specs.declared.role.Role.{Role}
 use Rattle.xa_roles.specs.Believed.Roles.{may_ask}
+use Rattle.xa_users.specs.declared.users.Users.{Users}
 use Rattle.xa_reactor.specs.declared.loops.Ended.{Ended}
 use Rattle.xa_reactor.specs.declared.loops.Seed.{Seed}
 use Rattle.xa_reactor.specs.declared.peer.Peer.{Peer}
 use Rattle.xa_reactor.specs.Aside.{Visits}
 use Rattle.xa_reactor.specs.Turning.{HasAnswered}
-use Rattle.xa_reactor.specs.Believed.Tending.{Does, DoesAll, DoesOrPosts, DoesSome, IsOwn, Puts, Table, Tends, TendsPosting, HasTended, HaveTended, Seat, SeedsHaveTended, nobody, seat_of, sessions_of}
+use Rattle.xa_reactor.specs.Believed.Tending.{Does, DoesAll, DoesOrPosts, DoesSome, IsOwn, LogsIn, Puts, Table, Tends, TendsPosting, HasTended, HaveTended, Seat, SeedsHaveTended, first_standing, nobody, seat_of, sessions_of}
 
 pub same_table : (a b : Table) → ((key : ℕ) → b key ≡ a key) → a ≡ b
 same_table a b h = fun_ext (λ (key : ℕ). sym (h key))
@@ -50,6 +51,13 @@ pub same_sessions : (peers : Slab Peer) (key : ℕ) (old new : Peer) → get pee
     → sessions_of peers ≡ sessions_of (with_value peers key new)
 same_sessions peers key old new there same =
     same_table (sessions_of peers) (sessions_of (with_value peers key new)) (in_place peers.slots key old new there same)
+
+-- another peer in place of one
+pub puts_value : (peers : Slab Peer) (key : ℕ) (old new : Peer) → get peers key ≡ Some old
+    → Puts (sessions_of peers) (sessions_of (with_value peers key new)) key (Some (seat_of new))
+puts_value peers key old new there =
+    puts_slot peers (with_value peers key new) key (Some new) (Some (seat_of new))
+    (Updates-with_value peers key new (subst (λ (slot : Option Peer). IsSome slot) (sym there) refl)) refl
 
 pub no_sessions : (peers : Slab Peer) → ((key : ℕ) → get peers key ≡ None) → sessions_of peers ≡ nobody
 no_sessions peers none = sym (same_table nobody (sessions_of peers) (λ key. ap session_in (none key)))
@@ -119,37 +127,38 @@ module _ {D E : Type 0} (f : D → E) (does : Table → Table → D → D → Ty
 
 -- ---- where nothing is posted
 
-module _ {D : Type 0} (lets_in : D → Option Role → Type 0) (connected : D → Result ℕ ConnectFault → D → Type 0)
+module _ {D : Type 0} (users : Option Users) (connected : D → Result ℕ ConnectFault → D → Type 0)
     (called : ℕ → D → Question → Reply → D → Type 0) (left : ℕ → D → D → Type 0) where
-  pub tends_none : (a b : Table) (d : D) → a ≡ b → Tends lets_in connected called left a d b d
-  tends_none a b d same = does_none (Does lets_in connected called left) a b d d same refl
+  pub tends_none : (a b : Table) (d : D) → a ≡ b → Tends users connected called left a d b d
+  tends_none a b d same = does_none (Does users connected called left) a b d d same refl
 
-  tends_one : (a b : Table) (d e : D) → Does lets_in connected called left a b d e → Tends lets_in connected called left a d b e
-  tends_one a b d e one = does_one (Does lets_in connected called left) a b d e one
+  tends_one : (a b : Table) (d e : D) → Does users connected called left a b d e → Tends users connected called left a d b e
+  tends_one a b d e one = does_one (Does users connected called left) a b d e one
 
-  pub tends_twice : (a b c : Table) (d e f : D) → Tends lets_in connected called left a d b e → Tends lets_in connected called left b e c f
-      → Tends lets_in connected called left a d c f
-  tends_twice a b c d e f h k = does_twice (Does lets_in connected called left) a b c d e f h k
+  pub tends_twice : (a b c : Table) (d e f : D) → Tends users connected called left a d b e → Tends users connected called left b e c f
+      → Tends users connected called left a d c f
+  tends_twice a b c d e f h k = does_twice (Does users connected called left) a b c d e f h k
 
-  pub tends_thrice : (a b c t : Table) (d e f x : D) → Tends lets_in connected called left a d b e → Tends lets_in connected called left b e c f
-      → Tends lets_in connected called left c f t x → Tends lets_in connected called left a d t x
-  tends_thrice a b c t d e f x h k l = does_thrice (Does lets_in connected called left) a b c t d e f x h k l
+  pub tends_thrice : (a b c t : Table) (d e f x : D) → Tends users connected called left a d b e → Tends users connected called left b e c f
+      → Tends users connected called left c f t x → Tends users connected called left a d t x
+  tends_thrice a b c t d e f x h k l = does_thrice (Does users connected called left) a b c t d e f x h k l
 
   -- a session was connected
-  pub tends_connected : (a b : Table) (d e : D) (key : ℕ) (seat : Seat) → a key ≡ None → lets_in d seat.standing
-      → connected d (Ok seat.session) e → Puts a b key (Some seat) → Tends lets_in connected called left a d b e
-  tends_connected a b d e key seat free lets connects puts =
-      tends_one a b d e (inl (record { key = key; seat = seat; free = free; lets = lets; connects = connects; puts = puts }))
+  pub tends_connected : (a b : Table) (d e : D) (key : ℕ) (seat : Seat) → a key ≡ None
+      → (seat.standing ≡ first_standing users) × (seat.login ≡ None)
+      → connected d (Ok seat.session) e → Puts a b key (Some seat) → Tends users connected called left a d b e
+  tends_connected a b d e key seat free first connects puts =
+      tends_one a b d e (inl (record { key = key; seat = seat; free = free; first = first; connects = connects; puts = puts }))
 
   -- none was
   pub tends_refused : (a b : Table) (d e : D) (fault : ConnectFault) → connected d (Err fault) e → a ≡ b
-      → Tends lets_in connected called left a d b e
+      → Tends users connected called left a d b e
   tends_refused a b d e fault refuses same =
       tends_one a b d e (inr (inl (record { fault = fault; refuses = refuses; same = same })))
 
   -- a session was answered
   pub tends_answered : (a b : Table) (d e : D) (key : ℕ) (seat : Seat) → a key ≡ Some seat
-      → HasAnswered seat.standing (called seat.session) d e → a ≡ b → Tends lets_in connected called left a d b e
+      → HasAnswered seat.standing (called seat.session) d e → a ≡ b → Tends users connected called left a d b e
   tends_answered a b d e key seat has answered same =
       tends_one a b d e (inr (inr (inl (record {
         key = key;
@@ -163,55 +172,60 @@ module _ {D : Type 0} (lets_in : D → Option Role → Type 0) (connected : D �
 
   -- a session was hung up
   pub tends_left : (a b : Table) (d e : D) (key : ℕ) (seat : Seat) → a key ≡ Some seat → left seat.session d e → Puts a b key None
-      → Tends lets_in connected called left a d b e
+      → Tends users connected called left a d b e
   tends_left a b d e key seat has leaves puts =
       tends_one a b d e (inr (inr (inr (inl (record { key = key; seat = seat; has = has; leaves = leaves; puts = puts })))))
 
   -- the loop asked something of its own accord
   pub tends_own : (a : Table) (d e : D) (content : List ℕ) (reply : Reply) → IsOwn content → Visits connected called left content d reply e
-      → Tends lets_in connected called left a d a e
+      → Tends users connected called left a d a e
   tends_own a d e content reply own visits =
-      tends_one a a d e (inr (inr (inr (inr (record { content = content; own = own; reply = reply; visits = visits; same = refl })))))
+      tends_one a a d e (inr (inr (inr (inr (inl (record { content = content; own = own; reply = reply; visits = visits; same = refl }))))))
+
+  -- a part of a login, or nothing
+  pub tends_login : (a b : Table) (d : D) → (a ≡ b) ⊎ LogsIn users a b → Tends users connected called left a d b d
+  tends_login a b d (inl same) = tends_none a b d same
+  tends_login a b d (inr one) = tends_one a b d d (inr (inr (inr (inr (inr (one, refl))))))
 
 -- ---- where calls are posted
 
-module _ {D : Type 0} (posts : ℕ → Request → D → D → Type 0) (lets_in : D → Option Role → Type 0)
+module _ {D : Type 0} (posts : ℕ → Request → D → D → Type 0) (users : Option Users)
     (connected : D → Result ℕ ConnectFault → D → Type 0) (called : ℕ → D → Question → Reply → D → Type 0) (left : ℕ → D → D → Type 0) where
-  pub posting_none : (a b : Table) (d : D) → a ≡ b → TendsPosting posts lets_in connected called left a d b d
-  posting_none a b d same = does_none (DoesOrPosts posts lets_in connected called left) a b d d same refl
+  pub posting_none : (a b : Table) (d : D) → a ≡ b → TendsPosting posts users connected called left a d b d
+  posting_none a b d same = does_none (DoesOrPosts posts users connected called left) a b d d same refl
 
-  pub posting_twice : (a b c : Table) (d e f : D) → TendsPosting posts lets_in connected called left a d b e
-      → TendsPosting posts lets_in connected called left b e c f → TendsPosting posts lets_in connected called left a d c f
-  posting_twice a b c d e f h k = does_twice (DoesOrPosts posts lets_in connected called left) a b c d e f h k
+  pub posting_twice : (a b c : Table) (d e f : D) → TendsPosting posts users connected called left a d b e
+      → TendsPosting posts users connected called left b e c f → TendsPosting posts users connected called left a d c f
+  posting_twice a b c d e f h k = does_twice (DoesOrPosts posts users connected called left) a b c d e f h k
 
-  pub posting_thrice : (a b c t : Table) (d e f x : D) → TendsPosting posts lets_in connected called left a d b e
-      → TendsPosting posts lets_in connected called left b e c f → TendsPosting posts lets_in connected called left c f t x
-      → TendsPosting posts lets_in connected called left a d t x
-  posting_thrice a b c t d e f x h k l = does_thrice (DoesOrPosts posts lets_in connected called left) a b c t d e f x h k l
+  pub posting_thrice : (a b c t : Table) (d e f x : D) → TendsPosting posts users connected called left a d b e
+      → TendsPosting posts users connected called left b e c f → TendsPosting posts users connected called left c f t x
+      → TendsPosting posts users connected called left a d t x
+  posting_thrice a b c t d e f x h k l = does_thrice (DoesOrPosts posts users connected called left) a b c t d e f x h k l
 
   -- nothing was posted
-  pub posting_tended : (a b : Table) (d e : D) → Tends lets_in connected called left a d b e → TendsPosting posts lets_in connected called left a d b e
+  pub posting_tended : (a b : Table) (d e : D) → Tends users connected called left a d b e → TendsPosting posts users connected called left a d b e
   posting_tended a b d e h =
-      does_by (λ (x : D). x) (Does lets_in connected called left) (DoesOrPosts posts lets_in connected called left) (λ a b d e one. inl one) a b d e h
+      does_by (λ (x : D). x) (Does users connected called left) (DoesOrPosts posts users connected called left) (λ a b d e one. inl one) a b d e h
 
   -- a call was posted, or none
   pub posting_posted : (a b : Table) (d e : D) (key : ℕ) (seat : Seat) (asked : Option Request) → a key ≡ Some seat
       → ((q : Request) → asked ≡ Some q → may_ask seat.standing (Call q) ≡ true)
       → (e ≡ d) ⊎ IsSomeAnd asked (λ request. posts seat.session request d e) → a ≡ b
-      → TendsPosting posts lets_in connected called left a d b e
+      → TendsPosting posts users connected called left a d b e
   posting_posted a b d e key seat asked has may (inl is) same =
-      does_none (DoesOrPosts posts lets_in connected called left) a b d e same (sym is)
+      does_none (DoesOrPosts posts users connected called left) a b d e same (sym is)
   posting_posted a b d e key seat (Some request) has may (inr posted) same =
-      does_one (DoesOrPosts posts lets_in connected called left) a b d e
+      does_one (DoesOrPosts posts users connected called left) a b d e
       (inr (record { key = key; seat = seat; has = has; request = request; may = may request refl; posted = posted; same = same }))
   posting_posted a b d e key seat None has may (inr posted) same = absurd posted
 
   -- of each seed's door
   pub have_tended : (is_settled : D → Type 0) (seeds : List (Seed D)) (doors : List D) (ended : List (Ended D)) → map (λ s. s.door) seeds ≡ doors
-      → SeedsHaveTended posts lets_in connected called left is_settled seeds ended
-      → HaveTended posts lets_in connected called left is_settled doors ended
+      → SeedsHaveTended posts users connected called left is_settled seeds ended
+      → HaveTended posts users connected called left is_settled doors ended
   have_tended is_settled seeds doors ended is tended i d e lt =
       let within : i < length seeds = omega (arith, lt, ap (λ (xs : List D). length xs) is, length-map seeds (λ (s : Seed D). s.door)) in
       let seed : Seed D = one_of seeds i within in
-      subst (λ (x : D). HasTended posts lets_in connected called left is_settled x (get_or ended i e).door)
+      subst (λ (x : D). HasTended posts users connected called left is_settled x (get_or ended i e).door)
       (sym (at_map (λ (s : Seed D). s.door) seeds i seed d within) ∙ ap (λ (xs : List D). get_or xs i d) is) (tended i seed e within)

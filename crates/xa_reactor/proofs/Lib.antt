@@ -11,3 +11,5 @@ pub mod Looking
 pub mod Left
 pub mod Keeping
 pub mod Lines
+pub mod ForAll
+pub mod LoggingIn

@@ -7,11 +7,12 @@ use Rattle.xa_frame.specs.declared.question.Question.{Question}
 use Rattle.xa_frame.specs.declared.reply.Reply.{Reply}
 use Rattle.xa_frame.specs.declared.request.Request.{Request}
 use Rattle.xa_roles.specs.declared.role.Role.{Role}
+use Rattle.xa_users.specs.declared.users.Users.{Users}
 use Rattle.xa_reactor.specs.Aside.{Visits}
 use Rattle.xa_reactor.specs.Believed.Tending.{Does, DoesOrPosts, HasTended, Table, nobody}
 use Rattle.xa_reactor.proofs.Doing.{does_by}
 
-module _ {D E : Type 0} (f : D → E) (posts : ℕ → Request → E → E → Type 0) (lets_in : E → Option Role → Type 0)
+module _ {D E : Type 0} (f : D → E) (posts : ℕ → Request → E → E → Type 0) (users : Option Users)
     (connected : E → Result ℕ ConnectFault → E → Type 0) (called : ℕ → E → Question → Reply → E → Type 0)
     (left : ℕ → E → E → Type 0) where
   answered_one : (session : ℕ) (content : List ℕ) (reply : Reply) (d e : D)
@@ -59,11 +60,11 @@ module _ {D E : Type 0} (f : D → E) (posts : ℕ → Request → E → E → T
 
   abbrev OnParts : Table → Table → D → D → Type 0
   OnParts a b d e =
-      Does (λ x s. lets_in (f x) s) (λ x r y. connected (f x) r (f y)) (λ s x q r y. called s (f x) q r (f y)) (λ s x y. left s (f x) (f y)) a b d e
+      Does users (λ x r y. connected (f x) r (f y)) (λ s x q r y. called s (f x) q r (f y)) (λ s x y. left s (f x) (f y)) a b d e
 
-  does : (a b : Table) (d e : D) → OnParts a b d e → Does lets_in connected called left a b (f d) (f e)
+  does : (a b : Table) (d e : D) → OnParts a b d e → Does users connected called left a b (f d) (f e)
   does a b d e (inl h) =
-      inl (record { key = h.key; seat = h.seat; free = h.free; lets = h.lets; connects = h.connects; puts = h.puts })
+      inl (record { key = h.key; seat = h.seat; free = h.free; first = h.first; connects = h.connects; puts = h.puts })
   does a b d e (inr (inl h)) = inr (inl (record { fault = h.fault; refuses = h.refuses; same = h.same }))
   does a b d e (inr (inr (inl h))) =
       inr (inr (inl (record {
@@ -77,21 +78,22 @@ module _ {D E : Type 0} (f : D → E) (posts : ℕ → Request → E → E → T
       })))
   does a b d e (inr (inr (inr (inl h)))) =
       inr (inr (inr (inl (record { key = h.key; seat = h.seat; has = h.has; leaves = h.leaves; puts = h.puts }))))
-  does a b d e (inr (inr (inr (inr h)))) =
-      inr (inr (inr (inr (record {
+  does a b d e (inr (inr (inr (inr (inl h))))) =
+      inr (inr (inr (inr (inl (record {
         content = h.content;
         own = h.own;
         reply = h.reply;
         visits = visited h.content h.reply d e h.visits;
         same = h.same;
-      }))))
+      })))))
+  does a b d e (inr (inr (inr (inr (inr h))))) = inr (inr (inr (inr (inr (h.0, ap f h.1)))))
 
   abbrev PartDoes : Table → Table → D → D → Type 0
   PartDoes a b d e =
-      DoesOrPosts (λ s q x y. posts s q (f x) (f y)) (λ x s. lets_in (f x) s) (λ x r y. connected (f x) r (f y))
+      DoesOrPosts (λ s q x y. posts s q (f x) (f y)) users (λ x r y. connected (f x) r (f y))
       (λ s x q r y. called s (f x) q r (f y)) (λ s x y. left s (f x) (f y)) a b d e
 
-  does_or_posts : (a b : Table) (d e : D) → PartDoes a b d e → DoesOrPosts posts lets_in connected called left a b (f d) (f e)
+  does_or_posts : (a b : Table) (d e : D) → PartDoes a b d e → DoesOrPosts posts users connected called left a b (f d) (f e)
   does_or_posts a b d e (inl h) = inl (does a b d e h)
   does_or_posts a b d e (inr h) =
       inr (record {
@@ -105,10 +107,10 @@ module _ {D E : Type 0} (f : D → E) (posts : ℕ → Request → E → E → T
       })
 
   pub has_tended_by : (is_settled : E → Type 0) (d e : D)
-      → HasTended (λ s q x y. posts s q (f x) (f y)) (λ x s. lets_in (f x) s) (λ x r y. connected (f x) r (f y))
+      → HasTended (λ s q x y. posts s q (f x) (f y)) users (λ x r y. connected (f x) r (f y))
       (λ s x q r y. called s (f x) q r (f y)) (λ s x y. left s (f x) (f y)) (λ x. is_settled (f x)) d e
-      → HasTended posts lets_in connected called left is_settled (f d) (f e)
+      → HasTended posts users connected called left is_settled (f d) (f e)
   has_tended_by is_settled d e h = record {
-    tends = does_by f PartDoes (DoesOrPosts posts lets_in connected called left) does_or_posts nobody nobody d e h.tends;
+    tends = does_by f PartDoes (DoesOrPosts posts users connected called left) does_or_posts nobody nobody d e h.tends;
     settled = h.settled;
   }

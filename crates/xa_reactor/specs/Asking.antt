@@ -15,7 +15,7 @@ use Rattle.xa_frame.specs.declared.reply.Reply.{Reply}
 use Rattle.xa_frame.specs.declared.request.Request.{Request}
 use Rattle.xa_roles.specs.declared.role.Role.{Role}
 use Rattle.xa_reactor.specs.declared.ask.Ask.{Ask}
-use Rattle.xa_reactor.specs.Believed.Tending.{Table}
+use Rattle.xa_reactor.specs.Believed.Tending.{Seat, Table}
 
 -- its request is left, and is within the limits
 abbrev pub HasRequest : Ask → Type 0
@@ -37,9 +37,10 @@ pub record IsBrought (a : Ask) : Type 0 where
 
 -- an open one of the connection of a session that is served under its key
 pub record IsLent (table : Table) (a : Ask) : Type 0 where
-  pub standing : Option Role
-  pub at : table a.key ≡ Some (record { session = a.session; standing = standing })
-  pub opened : IsOpen standing a
+  pub seat : Seat
+  pub at : table a.key ≡ Some seat
+  pub session : seat.session ≡ a.session
+  pub opened : IsOpen seat.standing a
 
 -- the request of an ask was answered at the door, and is gone; whose it is stays
 pub record Tells {D : Type 0} (called : ℕ → D → Question → Reply → D → Type 0) (d : D) (a b : Ask) (e : D) : Type 0 where

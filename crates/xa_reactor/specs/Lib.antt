@@ -17,3 +17,6 @@ pub mod Peers
 pub mod Orders
 pub mod Cuts
 pub mod Reception
+pub mod ForAll
+pub mod Failures
+pub mod Users

@@ -5,6 +5,7 @@ use Rattle.xa_assoc.specs.declared.fault.ConnectFault.{ConnectFault}
 use Rattle.xa_frame.specs.declared.question.Question.{Question}
 use Rattle.xa_frame.specs.declared.reply.Reply.{Reply}
 use Rattle.xa_roles.specs.declared.role.Role.{Role}
+use Rattle.xa_users.specs.declared.users.Users.{Users}
 use Rattle.xa_reactor.specs.Asking.{IsLent, IsOpen}
 use Rattle.xa_reactor.specs.Believed.Tending.{Table, Tends}
 use Rattle.xa_reactor.specs.Turning.{CarriesOn, HasAnswered, HasTaken, StepsTo}
@@ -38,8 +39,8 @@ IsOpened all key opened new =
     MatchOption (get all key) ((opened ≡ Over Waits) × (new ≡ all)) (λ p. (q : Peer) × OpensTo opened q × (new ≡ with_value all key q))
 
 -- by the table of the sessions: a connection is lent by the session under its key, or the session was answered
-module _ {D : Type 0} (lets_in : D → Option Role → Type 0) (connected : D → Result ℕ ConnectFault → D → Type 0)
+module _ {D : Type 0} (connected : D → Result ℕ ConnectFault → D → Type 0)
     (called : ℕ → D → Question → Reply → D → Type 0) (left : ℕ → D → D → Type 0) where
   abbrev pub OpensAt : Table → D → Opened → D → Type 0
   OpensAt table d (Asks ask) e = IsLent table ask × (e ≡ d)
-  OpensAt table d (Over step) e = Tends lets_in connected called left table d table e
+  OpensAt table d (Over step) e = (users : Option Users) → Tends users connected called left table d table e

@@ -34,11 +34,15 @@ TakenAt now c since c' since' =
 abbrev pub OwesFrame : Connection → Type 0
 OwesFrame c = IsInsideFrame c.input × (c.output ≡ [])
 
+-- so it does, or a login, and doesn't wait for the answer to one that failed
+abbrev pub Owes : Peer → Type 0
+Owes p = OwesFrame p.connection ⊎ ((p.standing ≡ None) × (p.pause ≡ None))
+
 -- The connection was looked at at this time: it has ended where it was to end, by how long it has been quiet, and is left
 -- where it wasn't.
 abbrev pub WasLooked : (ℕ → Ties) → Settings → ℕ → Peer → Bool → Type 0
 WasLooked ties settings now p ends =
-    (is_inside : Bool) × (IsTrue is_inside ↔ OwesFrame p.connection)
+    (is_inside : Bool) × (IsTrue is_inside ↔ Owes p)
     × IsToEnd (ties p.session) is_inside (now - p.since) settings ends
 
 -- so was the one under a key, if there is one, and no other one

@@ -1,8 +1,8 @@
-ghost use Rattle.std.specs.Prelude.{◌≡◌, ◌<◌, ◌≤◌, ℕ, IsTrue, false, true};
+ghost use Rattle.std.specs.Prelude.{◌≡◌, ◌<◌, ◌≤◌, ℕ, IsTrue, false, is_some, true};
 ghost use Rattle.xa_reactor.specs.Accepting.{after_failure, after_one, after_telling, new_acceptor};
-ghost use Rattle.xa_reactor.specs.Admission.{may_admit, most_open};
+ghost use Rattle.xa_reactor.specs.Admission.{admission_of, most_open};
 
-use crate::admission::Origin;
+use crate::admission::{Admitted, MOST_STRANGERS, Origin};
 use crate::common::Common;
 use crate::listener::Listener;
 use crate::socket::Socket;
@@ -33,6 +33,8 @@ pub(crate) struct Acceptor {
     tells: u64,
     /// How many were open then, at least.
     full: u64,
+    /// The same of those that were refused as too many haven't logged in.
+    strangers: u64,
     /// Why the last accept failed that is to be told, and when another one may be.
     failed: Option<io::Error>,
     tells_failed: u64,
@@ -57,6 +59,7 @@ impl Acceptor {
             refused: 0,
             tells: 0,
             full: 0,
+            strangers: 0,
             failed: None,
             tells_failed: 0,
         }
@@ -133,15 +136,22 @@ impl Acceptor {
 
     // Hands a connection from there to a loop, where it is admitted; else it is closed.
     fn admit<R: Wait>(&mut self, rt: &R, common: &Common<'_>, socket: Socket, origin: Origin)
-        ensures taken { (count : ℕ) × (turn : ℕ)
-            × (self.new ≡ after_one (may_admit common.now.has_path origin count) (most_open common.now.has_path origin) turn self.old) }
-        ensures same { self.new ≡ record self.old { turn = self.new.turn; refused = self.new.refused; full = self.new.full } }
+        ensures taken { (count : ℕ) × (strangers : ℕ) × (turn : ℕ)
+            × (self.new ≡ after_one (admission_of common.now.has_path (is_some common.now.users) origin count strangers)
+            (most_open common.now.has_path origin) turn self.old) }
+        ensures same { self.new
+            ≡ record self.old { turn = self.new.turn; refused = self.new.refused; full = self.new.full; strangers = self.new.strangers } }
     {
-        if common.admit(origin) {
-            self.turn = common.hand(rt, self.turn, socket).saturating_add(1);
-        } else {
-            self.refused = self.refused.saturating_add(1);
-            self.full = self.full.max(common.most_open(origin));
+        match common.admit(origin) {
+            Admitted::Yes => {
+                let guest = common.guest(socket);
+                self.turn = common.hand(rt, self.turn, guest).saturating_add(1);
+            }
+            Admitted::Full => {
+                self.refused = self.refused.saturating_add(1);
+                self.full = self.full.max(common.most_open(origin));
+            }
+            Admitted::Strange => self.strangers = self.strangers.saturating_add(1),
         }
     }
 
@@ -152,13 +162,21 @@ impl Acceptor {
         if let Some(error) = self.failed.take() {
             self.tell_failed(rt, now, &error);
         }
-        if self.refused == 0 || now < self.tells {
+        if self.refused == 0 && self.strangers == 0 || now < self.tells {
             return;
         }
-        let (refused, full) = (self.refused, self.full);
-        let _ = eprintln!(rt; "xarm: {refused} connections refused: {full} are open");
+        let (refused, full, strangers) = (self.refused, self.full, self.strangers);
+        if refused > 0 {
+            let _ = eprintln!(rt; "xarm: {refused} connections refused: {full} are open");
+        }
+        if strangers > 0 {
+            let _ = eprintln!(rt;
+                "xarm: {strangers} connections refused: {MOST_STRANGERS} haven't logged in"
+            );
+        }
         self.refused = 0;
         self.full = 0;
+        self.strangers = 0;
         self.tells = now.saturating_add(LOOK);
     }
 

@@ -1,7 +1,7 @@
 //! Who is admitted, the fewer places are left.
 ghost use Rattle.std.specs.Prelude.{◌≡◌, ◌<◌};
 ghost use Rattle.std.specs.declared.net.ip_addr.IpAddr.{IpAddr};
-ghost use Rattle.xa_reactor.specs.Admission.{ComesFrom, IsCanonical, may_admit, most_open};
+ghost use Rattle.xa_reactor.specs.Admission.{ComesFrom, IsCanonical, admission_of, may_admit, most_open};
 
 use std::net::IpAddr;
 
@@ -10,6 +10,19 @@ pub const MOST_OPEN: u64 = 1_023;
 
 /// How many of these places are kept for an operator: the last ones.
 pub const KEPT_OPEN: u64 = 4;
+
+/// How many of those that are open may have to log in, and haven't yet.
+pub const MOST_STRANGERS: u64 = 64;
+
+/// Whether a connection is taken up.
+#[derive(Clone, Copy, Debug, PartialEq, Eq)]
+pub(crate) enum Admitted {
+    Yes,
+    /// As many are open as may be.
+    Full,
+    /// As many as may be haven't logged in.
+    Strange,
+}
 
 /// Where a connection comes from.
 #[derive(Clone, Copy, Debug, PartialEq, Eq)]
@@ -55,4 +68,23 @@ pub(crate) fn may_admit(has_path: bool, origin: Origin, count: u64) -> bool
     ensures { result ≡ may_admit has_path origin count }
 {
     count < most_open(has_path, origin)
+}
+
+/// Whether a connection from there is taken up, while so many are open, and so many of these haven't logged in.
+pub(crate) fn admission_of(
+    has_path: bool,
+    has_users: bool,
+    origin: Origin,
+    count: u64,
+    strangers: u64,
+) -> Admitted
+    ensures { result ≡ admission_of has_path has_users origin count strangers }
+{
+    if !may_admit(has_path, origin, count) {
+        Admitted::Full
+    } else if has_users && strangers >= MOST_STRANGERS {
+        Admitted::Strange
+    } else {
+        Admitted::Yes
+    }
 }

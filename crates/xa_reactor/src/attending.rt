@@ -1,4 +1,5 @@
 //! What a loop does between its rounds of what connections asked of the server itself.
+ghost use Rattle.xa_reactor.specs.{ForAll.TendsForAll, Users.IsPassed, Users.LogsAt, Users.users_of};
 ghost use Rattle.xa_reactor.specs.Believed.Tending.{Tends, sessions_of};
 ghost use Rattle.std.specs.Prelude.{◌≡◌, Err, IfErr, IfOk};
 ghost use Rattle.xa_codes.specs.declared.detail.Detail.TheVariants as detail;
@@ -7,19 +8,22 @@ ghost use Rattle.xa_reactor.specs.Orders.{IsOutcome, TellsSessions};
 use crate::clock::LoopClock;
 use crate::common::Common;
 use crate::cutting::cut_peers;
+use crate::logging_in::Passed;
 use crate::orders::Wish;
 use crate::peer::Step;
 use crate::peers::Peers;
 use crate::reception::Reception;
 use crate::round::Round;
 use std::alloc::{AllocError, Global};
+use std::random::RandomSource;
 use std::rt::Clock;
 use std::sync::Wait;
 use xa_codes::{Detail, XAER_INVAL, XAER_RMFAIL};
-use xa_control::{Answer, Control, FEATURES, Hello, Numbers, REVISION};
+use xa_control::{Answer, Control, FEATURES, Hello, LOGINS, Numbers, REVISION};
+use xa_users::Users;
 
 /// Answers what connections asked of the server itself, and ends those that any loop was ordered to.
-pub(crate) fn attend<D: Reception, R: Clock + Eprint + Wait>(
+pub(crate) fn attend<D: Reception, R: Clock + Eprint + RandomSource + Wait>(
     rt: &R,
     common: &Common<'_>,
     index: usize,
@@ -28,7 +32,8 @@ pub(crate) fn attend<D: Reception, R: Clock + Eprint + Wait>(
     peers: &mut Peers,
     door: &mut D,
 )
-    ensures { Tends D.lets_in D.connected D.called D.left (sessions_of peers.old.all) door.old (sessions_of peers.new.all) door.new }
+    ensures { Tends (users_of common.now) D.connected D.called D.left
+        (sessions_of peers.old.all) door.old (sessions_of peers.new.all) door.new }
 {
     attend_all(rt, common, round, clock, peers, door);
     cut_all(rt, common, index, peers, door);
@@ -37,7 +42,7 @@ pub(crate) fn attend<D: Reception, R: Clock + Eprint + Wait>(
 }
 
 // Attends to each that asked something, once.
-fn attend_all<D: Reception, R: Clock + Eprint + Wait>(
+fn attend_all<D: Reception, R: Clock + Eprint + RandomSource + Wait>(
     rt: &R,
     common: &Common<'_>,
     round: Round<'_>,
@@ -45,7 +50,8 @@ fn attend_all<D: Reception, R: Clock + Eprint + Wait>(
     peers: &mut Peers,
     door: &mut D,
 )
-    ensures { Tends D.lets_in D.connected D.called D.left (sessions_of peers.old.all) door.old (sessions_of peers.new.all) door.new }
+    ensures { Tends (users_of common.now) D.connected D.called D.left
+        (sessions_of peers.old.all) door.old (sessions_of peers.new.all) door.new }
 {
     for _ in 0..peers.orders.len() {
         let Some(wish) = peers.orders.next() else {
@@ -60,12 +66,14 @@ fn attend_all<D: Reception, R: Clock + Eprint + Wait>(
 enum Outcome {
     /// Nothing is asked any more.
     Gone,
+    /// It is looked at again later: it is a login that failed.
+    PutOff,
     /// It waits for the order of this number.
     Waits(u64),
     Answered(Answer),
 }
 
-fn attend_one<D: Reception, R: Clock + Eprint + Wait>(
+fn attend_one<D: Reception, R: Clock + Eprint + RandomSource + Wait>(
     rt: &R,
     common: &Common<'_>,
     round: Round<'_>,
@@ -74,17 +82,79 @@ fn attend_one<D: Reception, R: Clock + Eprint + Wait>(
     door: &mut D,
     wish: Wish,
 )
-    ensures { Tends D.lets_in D.connected D.called D.left (sessions_of peers.old.all) door.old (sessions_of peers.new.all) door.new }
+    ensures { Tends (users_of common.now) D.connected D.called D.left
+        (sessions_of peers.old.all) door.old (sessions_of peers.new.all) door.new }
 {
-    let outcome = match wish.cut {
-        Some(number) => outcome_of(rt, common, number),
-        None => match peers.control(round.alloc, wish.key) {
-            Some(control) => begin(rt, common, round.alloc, door, control),
-            None => Outcome::Gone,
-        },
-    };
+    let outcome = look_at(rt, common, round, clock, peers, door, wish);
+    settle(rt, common, round, clock, peers, door, wish, outcome);
+}
+
+// What becomes of what was asked. A connection may have logged in by it.
+fn look_at<D: Reception, R: Clock + Eprint + RandomSource + Wait>(
+    rt: &R,
+    common: &Common<'_>,
+    round: Round<'_>,
+    clock: &mut LoopClock,
+    peers: &mut Peers,
+    door: &D,
+    wish: Wish,
+) -> Outcome
+    ensures logs { LogsAt (users_of common.now) (sessions_of peers.old.all) (sessions_of peers.new.all) }
+    ensures answer { IsOutcome result }
+{
+    if let Some(number) = wish.cut {
+        return outcome_of(rt, common, number);
+    }
+    let now = clock.now(rt);
+    if let Some(until) = peers.pause(wish.key) {
+        return if now < until {
+            Outcome::PutOff
+        } else {
+            Outcome::Answered(Answer::Refused(XAER_INVAL, Detail::Access))
+        };
+    }
+    match peers.control(round.alloc, wish.key) {
+        Some(Control::First(_) | Control::Final(_)) => {
+            passed(peers.log_in(rt, common, round.alloc, now, wish.key))
+        }
+        Some(control) => begin(rt, common, round.alloc, door, control),
+        None => Outcome::Gone,
+    }
+}
+
+// What becomes of a part of a login.
+fn passed(passed: Passed) -> Outcome
+    requires { IsPassed passed }
+    ensures { IsOutcome result }
+{
+    match passed {
+        Passed::Nothing => Outcome::Gone,
+        Passed::Answers(answer) => Outcome::Answered(answer),
+        Passed::Fails => Outcome::PutOff,
+    }
+}
+
+// What was asked is answered, or waits.
+fn settle<D: Reception, R: Clock + Eprint + Wait>(
+    rt: &R,
+    common: &Common<'_>,
+    round: Round<'_>,
+    clock: &mut LoopClock,
+    peers: &mut Peers,
+    door: &mut D,
+    wish: Wish,
+    outcome: Outcome,
+)
+    requires { IsOutcome outcome }
+    ensures { TendsForAll D.connected D.called D.left (sessions_of peers.old.all) door.old (sessions_of peers.new.all) door.new }
+{
     match outcome {
         Outcome::Gone => {}
+        Outcome::PutOff => {
+            if !peers.put_off(wish.key) {
+                peers.go_on(door, wish.key, Step::Ends);
+            }
+        }
         Outcome::Waits(number) => {
             if !peers.wait_for(wish.key, number) {
                 let _ = common.cuts.take(rt, number);
@@ -113,7 +183,7 @@ fn begin<D: Reception, R: Wait>(
     match control {
         Control::Hello(_) => Outcome::Answered(Answer::Hello(Hello {
             revision: REVISION,
-            features: FEATURES,
+            features: features_of(common.users),
         })),
         Control::Disconnect(session) => match common.cuts.give(rt, session) {
             Ok(number) => {
@@ -130,10 +200,18 @@ fn begin<D: Reception, R: Wait>(
             Ok(counts) => Outcome::Answered(Answer::Metrics(counts)),
             Err(detail) => Outcome::Answered(Answer::Refused(XAER_RMFAIL, detail)),
         },
-        // nobody logs in here
+        // these are looked at before
         Control::First(_) | Control::Final(_) | Control::Shutdown => {
             Outcome::Answered(Answer::Refused(XAER_INVAL, Detail::Frame))
         }
+    }
+}
+
+// What a server does, by whether there are users.
+fn features_of(users: Option<&Users>) -> u64 {
+    match users {
+        Some(_) => FEATURES + LOGINS,
+        None => FEATURES,
     }
 }
 
@@ -182,7 +260,7 @@ fn cut_all<D: Reception, R: Wait>(
     peers: &mut Peers,
     door: &mut D,
 )
-    ensures { Tends D.lets_in D.connected D.called D.left (sessions_of peers.old.all) door.old (sessions_of peers.new.all) door.new }
+    ensures { TendsForAll D.connected D.called D.left (sessions_of peers.old.all) door.old (sessions_of peers.new.all) door.new }
 {
     let given = common.cuts.given();
     let mut looked = common.looked(index);

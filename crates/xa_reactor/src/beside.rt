@@ -2,7 +2,7 @@
 ghost use Rattle.std.specs.Prelude.{◌≡◌, IfOk, IfSome, IsTrue, None, false, true};
 ghost use Rattle.slab.specs.Slab.{slab_len};
 ghost use Rattle.xa_reactor.specs.Accepting.{IsWait, KeepsFew, most_of};
-ghost use Rattle.xa_reactor.specs.{Aside.IsAside, Believed.Tending.Tends, Since.LooksAll};
+ghost use Rattle.xa_reactor.specs.{Aside.IsAside, Believed.Tending.Tends, ForAll.TendsForAll, Since.LooksAll, Users.users_of};
 ghost use Rattle.xa_reactor.specs.Believed.Tending.{sessions_of};
 ghost use Rattle.xa_reactor.specs.declared.trimming.TheConstants.{TRIM};
 
@@ -51,7 +51,7 @@ pub(crate) fn wait_for(
     };
     wait_of(
         peers.queued() > 0 || waits && !pauses,
-        pauses,
+        pauses || peers.orders.len() > 0,
         peers.len() > 0,
     )
 }
@@ -64,7 +64,7 @@ pub(crate) fn look<D: Reception>(
     door: &mut D,
     is_look: bool,
 )
-    ensures tends { Tends D.lets_in D.connected D.called D.left (sessions_of peers.old.all) door.old (sessions_of peers.new.all) door.new }
+    ensures tends { TendsForAll D.connected D.called D.left (sessions_of peers.old.all) door.old (sessions_of peers.new.all) door.new }
     ensures looks { is_look ≡ true → LooksAll D.ties common.now.settings now peers.old.all peers.new.all }
     ensures none { is_look ≡ false → peers.new ≡ peers.old }
 {
@@ -102,13 +102,14 @@ pub(crate) fn take_in<D: Reception, R: Clock + Wait>(
     peers: &mut Peers,
     door: &mut D,
 )
-    ensures { Tends D.lets_in D.connected D.called D.left (sessions_of peers.old.all) door.old (sessions_of peers.new.all) door.new }
+    ensures { Tends (users_of common.now) D.connected D.called D.left
+        (sessions_of peers.old.all) door.old (sessions_of peers.new.all) door.new }
 {
     for _ in 0..u32::MAX {
-        let Some(socket) = common.take(rt, index) else {
+        let Some(guest) = common.take(rt, index) else {
             return;
         };
-        if !peers.add(rt, round, clock, common, door, socket) {
+        if !peers.add(rt, round, clock, common, door, guest) {
             common.leave(1);
         }
     }

@@ -1,10 +1,12 @@
-ghost use Rattle.std.specs.Prelude.{◌≡◌, ◌≤◌, ℕ, vec_len};
-ghost use Rattle.xa_reactor.specs.Admission.{has_path, may_admit, most_open};
+ghost use Rattle.std.specs.Prelude.{◌≡◌, ◌≤◌, ℕ, is_some, vec_len};
+ghost use Rattle.std.specs.Option.{option_map};
+ghost use Rattle.xa_reactor.specs.{Admission.admission_of, Admission.has_path, Admission.most_open, Users.users_of};
 
-use crate::admission::{Origin, may_admit, most_open};
+use crate::admission::{Admitted, Origin, admission_of, most_open};
 use crate::cuts::Cuts;
 use crate::listener::Listener;
 use crate::mailbox::Mailbox;
+use crate::place::{Guest, Strangers};
 use crate::socket::Socket;
 use crate::ticks::Ticks;
 use crate::trims::Trims;
@@ -12,6 +14,7 @@ use crate::watch::Watch;
 use std::alloc::{AllocError, Global};
 use std::sync::atomic::{AtomicBool, AtomicU64, Ordering};
 use std::sync::{Mutex, Wait};
+use xa_users::Users;
 
 /// The id of the connections that were taken up.
 const ACCEPTED: u64 = 1;
@@ -40,6 +43,14 @@ pub struct Settings {
     pub tick_seconds: u64,
 }
 
+/// Who has to log in at the loops.
+#[derive(Drop)]
+pub(crate) struct Logins<'a> {
+    pub(crate) users: Option<&'a Users>,
+    pub(crate) key: [u8; 32],
+    pub(crate) strangers: Strangers,
+}
+
 /// What the loops of a server share, beside its manager.
 #[derive(Drop)]
 pub(crate) struct Common<'a> {
@@ -54,6 +65,12 @@ pub(crate) struct Common<'a> {
     listener: Mutex<Option<Listener>>,
     /// Whether the listener has a Unix socket.
     has_path: bool,
+    /// Who may log in, and has to; None if nobody has to.
+    pub(crate) users: Option<&'a Users>,
+    /// The server's own key, by which nobody learns from a login who is a user.
+    pub(crate) key: [u8; 32],
+    /// How many have to, and haven't.
+    strangers: Strangers,
     /// How many connections are open, or handed to a loop.
     open: AtomicU64,
     /// How many were taken up, and how many weren't, as too many were open.
@@ -73,11 +90,18 @@ impl<'a> Common<'a> {
         boxes: Vec<Mailbox>,
         watch: &'a Watch,
         listener: Listener,
+        logins: Logins<'a>,
         alloc: Global,
     ) -> Common<'a>
-        ensures { (result.settings ≡ settings) × (result.has_path ≡ has_path listener) × (result.boxes ≡ boxes) }
+        ensures same { (result.settings ≡ settings) × (result.has_path ≡ has_path listener) × (result.boxes ≡ boxes) }
+        ensures users { users_of result ≡ option_map (λ u. u.now) logins.entry.users }
     {
         let has_path = listener.has_path();
+        let Logins {
+            users,
+            key,
+            strangers,
+        } = logins;
         Common {
             settings,
             boxes,
@@ -87,6 +111,9 @@ impl<'a> Common<'a> {
             cuts: Cuts::new(alloc),
             listener: Mutex::new(Some(listener)),
             has_path,
+            users,
+            key,
+            strangers,
             open: AtomicU64::new(0),
             accepted: AtomicU64::new(0),
             refused: AtomicU64::new(0),
@@ -104,18 +131,36 @@ impl<'a> Common<'a> {
         self.listener.lock(rt).take()
     }
 
-    /// Takes up a connection from there, where few enough are open.
-    pub(crate) fn admit(&self, origin: Origin) -> bool
-        ensures { (count : ℕ) × (result ≡ may_admit self.now.has_path origin count) }
+    /// Takes up a connection from there, if few enough are open, and of those that have to log in and haven't.
+    pub(crate) fn admit(&self, origin: Origin) -> Admitted
+        ensures { (count : ℕ) × (strangers : ℕ)
+            × (result ≡ admission_of self.now.has_path (is_some self.now.users) origin count strangers) }
     {
-        let is_admitted = may_admit(self.has_path, origin, self.open.load(Ordering::SeqCst));
-        if is_admitted {
+        let count = self.open.load(Ordering::SeqCst);
+        let has_users = self.users.is_some();
+        let admitted = admission_of(
+            self.has_path,
+            has_users,
+            origin,
+            count,
+            self.strangers.count(),
+        );
+        if matches!(admitted, Admitted::Yes) {
             self.open.fetch_add(1, Ordering::SeqCst);
             self.accepted.fetch_add(1, Ordering::SeqCst);
         } else {
             self.refused.fetch_add(1, Ordering::SeqCst);
         }
-        is_admitted
+        admitted
+    }
+
+    /// A connection that was taken up, with its place, if it has to log in.
+    pub(crate) fn guest(&self, socket: Socket) -> Guest {
+        let place = match self.users {
+            Some(_) => self.strangers.take_place(),
+            None => None,
+        };
+        Guest { socket, place }
     }
 
     /// Appends how many connections were taken up, and how many weren't, each after its id.
@@ -155,12 +200,12 @@ impl<'a> Common<'a> {
     }
 
     /// Hands a connection to one of the loops that have begun, the next one in turn from this one on; says which.
-    pub(crate) fn hand<R: Wait>(&self, rt: &R, from: usize, socket: Socket) -> usize
+    pub(crate) fn hand<R: Wait>(&self, rt: &R, from: usize, guest: Guest) -> usize
         ensures { result ≤ vec_len self.now.boxes }
     {
         let index = self.next_loop(from);
         let is_put = match self.boxes.get(index) {
-            Some(mailbox) => mailbox.put(rt, socket),
+            Some(mailbox) => mailbox.put(rt, guest),
             None => false,
         };
         if !is_put {
@@ -194,7 +239,7 @@ impl<'a> Common<'a> {
     }
 
     /// The next connection that was handed to a loop.
-    pub(crate) fn take<R: Wait>(&self, rt: &R, index: usize) -> Option<Socket> {
+    pub(crate) fn take<R: Wait>(&self, rt: &R, index: usize) -> Option<Guest> {
         match self.boxes.get(index) {
             Some(mailbox) => mailbox.take(rt),
             None => None,

@@ -7,6 +7,8 @@
 //! - `socket`, `listener`: a connection's socket, and what connections come from
 //! - `peer`: a connection with its socket, and its turn; `wishing`: one that asks something of the server itself; `peers`:
 //!   those of a loop, whose turns come one after another
+//! - `logging_in`: a connection that logs in, at most `MOST_TRIES` times; `failures`: how many failed, by where they came from;
+//!   `place`: at most `MOST_STRANGERS` haven't logged in
 //! - `ask`: a request that a connection brought in; `together`: the turns of a round, with one call at the door for all
 //!   requests that wait for no device, whose replies are sent then, and another for the rest, which are posted before
 //! - `tending`: a loop, round by round (`round`, `timing`, `clock`, `tools`): while another loop holds up its answers, it
@@ -30,8 +32,10 @@ mod clock;
 mod common;
 mod cuts;
 mod cutting;
+mod failures;
 mod laws;
 mod listener;
+mod logging_in;
 mod loops;
 mod mailbox;
 mod noted;
@@ -39,6 +43,7 @@ mod noticing;
 mod orders;
 mod peer;
 mod peers;
+mod place;
 mod reception;
 mod round;
 mod seen;
@@ -56,7 +61,7 @@ mod visiting;
 mod watch;
 mod wishing;
 
-pub use admission::{KEPT_OPEN, MOST_OPEN};
+pub use admission::{KEPT_OPEN, MOST_OPEN, MOST_STRANGERS};
 pub use ask::Ask;
 pub use common::Settings;
 pub use laws::{lines_are_few, places_are_kept, ticks_are_due, trims_are_due, visits_are_told};

@@ -1,4 +1,4 @@
-use crate::socket::Socket;
+use crate::place::Guest;
 use mio::Waker;
 use std::alloc::Global;
 use std::collections::VecDeque;
@@ -9,7 +9,7 @@ use std::sync::{Mutex, Wait};
 #[derive(Drop)]
 pub(crate) struct Mailbox {
     waker: Waker,
-    sockets: Mutex<VecDeque<Socket>>,
+    guests: Mutex<VecDeque<Guest>>,
     /// Whether the loop has begun: one for which there is no thread may never.
     has_begun: AtomicBool,
     /// How many orders to end a connection the loop has looked at.
@@ -20,7 +20,7 @@ impl Mailbox {
     pub(crate) fn new(alloc: Global, waker: Waker) -> Mailbox {
         Mailbox {
             waker,
-            sockets: Mutex::new(VecDeque::new(alloc)),
+            guests: Mutex::new(VecDeque::new(alloc)),
             has_begun: AtomicBool::new(false),
             looked: AtomicU64::new(0),
         }
@@ -43,14 +43,14 @@ impl Mailbox {
     }
 
     /// Hands a connection to the loop. Whether there was memory for that; else it is closed.
-    pub(crate) fn put<R: Wait>(&self, rt: &R, socket: Socket) -> bool {
-        let is_put = self.sockets.lock(rt).push_back(socket).is_ok();
+    pub(crate) fn put<R: Wait>(&self, rt: &R, guest: Guest) -> bool {
+        let is_put = self.guests.lock(rt).push_back(guest).is_ok();
         self.wake();
         is_put
     }
 
-    pub(crate) fn take<R: Wait>(&self, rt: &R) -> Option<Socket> {
-        self.sockets.lock(rt).pop_front()
+    pub(crate) fn take<R: Wait>(&self, rt: &R) -> Option<Guest> {
+        self.guests.lock(rt).pop_front()
     }
 
     /// Ends a wait of the loop.

@@ -1,5 +1,5 @@
 ghost use Rattle.std.specs.Prelude.{◌≡◌};
-ghost use Rattle.xa_reactor.specs.Allowance.{after_noted};
+ghost use Rattle.xa_reactor.specs.Allowance.{after_noted, taken};
 ghost use Rattle.xa_reactor.specs.Noted.{IsNoted, code_of, order_in, order_of};
 
 use crate::allowance::Allowance;
@@ -72,6 +72,16 @@ pub(crate) fn tell<R: Eprint>(
     if let Some(left_out) = allowance.take(now) {
         tell_left_out(rt, left_out);
         let _ = eprintln!(rt; "xarm: {source}: {order}: {code}");
+    }
+}
+
+/// Tells of a login that was refused, if there is a line for it.
+pub(crate) fn tell_refused<R: Eprint>(rt: &R, allowance: &mut Allowance, now: u64, source: Source)
+    ensures { allowance.new ≡ (taken allowance.old now).1 }
+{
+    if let Some(left_out) = allowance.take(now) {
+        tell_left_out(rt, left_out);
+        let _ = eprintln!(rt; "xarm: {source}: login refused");
     }
 }
 

@@ -1,7 +1,7 @@
 //! What events tell of the connections of a loop.
 ghost use Rattle.std.specs.Prelude.{◌≡◌, length};
 ghost use Rattle.mio.specs.Events.{items};
-ghost use Rattle.xa_reactor.specs.Believed.Tending.{Tends, sessions_of};
+ghost use Rattle.xa_reactor.specs.{Believed.Tending.sessions_of, ForAll.TendsForAll};
 ghost use Rattle.xa_reactor.specs.Peers.{HasRoom, NoticesAll, tells_of};
 ghost use Rattle.xa_reactor.specs.declared.noticing.TheConstants.{LISTENER};
 
@@ -19,7 +19,7 @@ pub(crate) const WAKER: Token = Token(usize::MAX - 1);
 pub(crate) fn notice_all<D: Reception>(peers: &mut Peers, door: &mut D, events: &Events) -> bool
     ensures accepts { result ≡ tells_of LISTENER (items events.now) }
     ensures noticed { NoticesAll peers.old (items events.now) peers.new }
-    ensures tends { Tends D.lets_in D.connected D.called D.left (sessions_of peers.old.all) door.old (sessions_of peers.new.all) door.new }
+    ensures tends { TendsForAll D.connected D.called D.left (sessions_of peers.old.all) door.old (sessions_of peers.new.all) door.new }
 {
     let mut accepts = false;
     for event in events.iter() {

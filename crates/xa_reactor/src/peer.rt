@@ -4,7 +4,7 @@ ghost use Rattle.xa_connection.specs.declared.answering.Answering.{Answering};
 ghost use Rattle.xa_reactor.specs.Believed.Tending.{seat_of};
 ghost use Rattle.xa_reactor.specs.{Asking.IsAnswered, Opening.Opens, Opening.OpensTo, Timing.IsRead, Timing.after_wait};
 ghost use Rattle.xa_reactor.specs.{Allowance.after_noted, Noted.MayBeFrom, Noted.Notes, Peers.noticed};
-ghost use Rattle.xa_reactor.specs.Since.{FedAt, OwesFrame, SentAt, TakenAt};
+ghost use Rattle.xa_reactor.specs.Since.{FedAt, Owes, SentAt, TakenAt};
 ghost use Rattle.xa_reactor.specs.Turning.{CarriesOn, HasAnswered, HasFed, HasSent, HasTaken, HoldsMore, StepsTo};
 
 use crate::allowance::Allowance;
@@ -12,6 +12,7 @@ use crate::ask::Ask;
 use crate::clock::LoopClock;
 use crate::noted::{Noted, tell};
 use crate::orders::control_in;
+use crate::place::{Guest, Place};
 use crate::round::Round;
 use crate::socket::{Socket, Source, is_passing};
 use mio::Token;
@@ -25,6 +26,7 @@ use xa_connection::{Asked, Connection, Front, MOST_INPUT};
 use xa_desk::Door;
 use xa_frame::{Question, Reply};
 use xa_roles::Role;
+use xa_users::Login;
 
 /// A connection with its socket, and the session that is served on it.
 #[derive(Drop)]
@@ -34,6 +36,14 @@ pub(crate) struct Peer {
     pub(crate) session: u64,
     /// The role that it has shown, or that all have.
     pub(crate) standing: Option<Role>,
+    /// The login that it has begun.
+    pub(crate) login: Option<Login>,
+    /// How often it has failed to log in.
+    pub(crate) tries: u32,
+    /// When it is answered that it failed, by the loop's clock.
+    pub(crate) pause: Option<u64>,
+    /// Its place among those that haven't logged in.
+    pub(crate) place: Option<Place>,
     /// Whether there may be bytes to read of which no further event tells.
     reads: bool,
     /// Whether the peer sends no more: what it sent is read to its end.
@@ -79,23 +89,28 @@ pub(crate) enum Opened {
 impl Peer {
     pub(crate) fn new(
         alloc: Global,
-        socket: Socket,
+        guest: Guest,
         session: u64,
         standing: Option<Role>,
         serial: u64,
         now: u64,
     ) -> Peer
-        ensures seat { seat_of result ≡ record { session = session; standing = standing } }
+        ensures seat { seat_of result ≡ record { session = session; standing = standing; login = None } }
         ensures new { result.connection ≡ new_connection }
         ensures counted { (result.serial ≡ serial) × (result.order ≡ None) × (result.noted ≡ None) }
         ensures since { result.since ≡ now }
         ensures waits { (result.is_queued ≡ false) × (result.reads ≡ false) × (result.writes ≡ false) × (result.is_ending ≡ false) }
     {
+        let Guest { socket, place } = guest;
         Peer {
             socket,
             connection: Connection::new(alloc),
             session,
             standing,
+            login: None,
+            tries: 0,
+            pause: None,
+            place,
             reads: false,
             is_ending: false,
             writes: false,
@@ -363,11 +378,13 @@ impl Peer {
         socket
     }
 
-    /// Whether it owes the rest of a frame, and is owed nothing itself: while a reply isn't sent nothing is read of it.
-    pub(crate) fn is_inside_frame(&self) -> bool
-        ensures { IsTrue result ↔ OwesFrame self.now.connection }
+    /// Whether it owes a login, and doesn't wait for the answer to one that failed, or the rest of a frame, and is owed nothing
+    /// itself: while a reply isn't sent nothing is read of it.
+    pub(crate) fn owes(&self) -> bool
+        ensures { IsTrue result ↔ Owes self.now }
     {
-        self.connection.is_inside_frame() && self.connection.unsent().is_empty()
+        self.standing.is_none() && self.pause.is_none()
+            || self.connection.is_inside_frame() && self.connection.unsent().is_empty()
     }
 
     /// For how long no byte came or went, in milliseconds.

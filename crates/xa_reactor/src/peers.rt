@@ -4,6 +4,7 @@ ghost use Rattle.slab.specs.Slab.{Updates, get, slab_len};
 ghost use Rattle.xa_control.specs.Answers.{IsAnswer};
 ghost use Rattle.xa_reactor.specs.{Asking.IsAnswered, Opening.IsOpened, Opening.OpensAt};
 ghost use Rattle.xa_reactor.specs.Peers.{GoesOn, HadTurn, HasParted, HasRoom, IsClosed, IsLast, IsNews, IsNoticed, IsTurned, turns_of};
+ghost use Rattle.xa_reactor.specs.{ForAll.TendsForAll, Users.IsPassed, Users.LogsAt, Users.users_of};
 ghost use Rattle.xa_reactor.specs.Believed.Tending.{Tends, nobody, sessions_of};
 ghost use Rattle.xa_reactor.specs.{Since.Looks, Since.LooksAll, Timing.after_wait};
 ghost use Rattle.xa_reactor.specs.declared.peer.Step.{Step};
@@ -12,8 +13,12 @@ use crate::allowance::Allowance;
 use crate::ask::Ask;
 use crate::clock::LoopClock;
 use crate::common::{Common, Settings};
+use crate::failures::Failures;
+use crate::logging_in::{Passed, first_standing};
+use crate::noted::tell_refused;
 use crate::orders::{Orders, Wish};
 use crate::peer::{Opened, Peer, Step};
+use crate::place::Guest;
 use crate::reception::Reception;
 use crate::round::Round;
 use crate::socket::{Socket, Source};
@@ -23,6 +28,7 @@ use mio::event::Event;
 use slab::Slab;
 use std::alloc::Global;
 use std::collections::VecDeque;
+use std::random::RandomSource;
 use std::rt::Clock;
 use xa_assoc::ConnectFault;
 use xa_control::{Answer, Control};
@@ -37,6 +43,8 @@ pub(crate) struct Peers {
     pub(crate) orders: Orders,
     /// How many lines may be told of what they order.
     pub(crate) allowance: Allowance,
+    /// How many failed to log in lately.
+    failures: Failures,
 }
 
 impl Peers {
@@ -49,6 +57,7 @@ impl Peers {
             queue: VecDeque::new(alloc),
             orders: Orders::new(alloc),
             allowance: Allowance::new(),
+            failures: Failures::new(),
         }
     }
 
@@ -65,7 +74,7 @@ impl Peers {
         self.queue.len()
     }
 
-    /// Serves a session on a connection. Where there is no memory, or no session is connected, the connection is closed,
+    /// Serves a session on a connection, which has the role that each has at first. Where there is no memory, or no session is connected, the connection is closed,
     /// and the answer is false.
     pub(crate) fn add<D: Reception, R: Clock>(
         &mut self,
@@ -74,20 +83,23 @@ impl Peers {
         clock: &mut LoopClock,
         common: &Common<'_>,
         door: &mut D,
-        socket: Socket,
+        guest: Guest,
     ) -> bool
-        ensures tends { Tends D.lets_in D.connected D.called D.left (sessions_of self.old.all) door.old (sessions_of self.new.all) door.new }
+        ensures tends { Tends (users_of common.now) D.connected D.called D.left (sessions_of self.old.all) door.old (sessions_of self.new.all) door.new }
         ensures count { slab_len self.new.all ≡ (if result then slab_len self.old.all + 1 else slab_len self.old.all) }
         ensures turns { (turns_of self.new ≡ turns_of self.old) × (self.new.orders ≡ self.old.orders) }
     {
         if self.queue.reserve(1).is_err() || self.all.reserve(1).is_err() {
             return false;
         }
-        let mut socket = socket;
-        if !socket.register(round.registry, Token(self.all.vacant_key())) {
+        let mut guest = guest;
+        if !guest
+            .socket
+            .register(round.registry, Token(self.all.vacant_key()))
+        {
             return false;
         }
-        let standing = door.standing();
+        let standing = first_standing(common.users);
         let Ok(session) = connect(clock, door) else {
             return false;
         };
@@ -96,7 +108,7 @@ impl Peers {
         let now = clock.now(rt);
         let _key = self.all.insert_reserved(Peer::new(
             round.alloc,
-            socket,
+            guest,
             session,
             standing,
             serial,
@@ -108,7 +120,7 @@ impl Peers {
     /// An event told of a connection, which has a turn.
     pub(crate) fn notice<D: Reception>(&mut self, door: &mut D, event: &Event)
         ensures turn { IsNoticed self.old event.now self.new }
-        ensures tends { Tends D.lets_in D.connected D.called D.left (sessions_of self.old.all) door.old (sessions_of self.new.all) door.new }
+        ensures tends { TendsForAll D.connected D.called D.left (sessions_of self.old.all) door.old (sessions_of self.new.all) door.new }
     {
         if notice_in(&mut self.all, event) {
             self.go_on(door, event.token().0, Step::Goes);
@@ -157,7 +169,7 @@ impl Peers {
     ) -> Opened
         ensures same { sessions_of self.new.all ≡ sessions_of self.old.all }
         ensures turns { (self.new.queue ≡ self.old.queue) × (self.new.orders ≡ self.old.orders) }
-        ensures opens { OpensAt D.lets_in D.connected D.called D.left (sessions_of self.old.all) door.old result door.new }
+        ensures opens { OpensAt D.connected D.called D.left (sessions_of self.old.all) door.old result door.new }
         ensures opened { IsOpened self.old.all key result self.new.all }
     {
         match self.all.get_mut(key) {
@@ -194,7 +206,7 @@ impl Peers {
         scratch: &mut [u8],
         door: &mut D,
     )
-        ensures tends { Tends D.lets_in D.connected D.called D.left (sessions_of self.old.all) door.old (sessions_of self.new.all) door.new }
+        ensures tends { TendsForAll D.connected D.called D.left (sessions_of self.old.all) door.old (sessions_of self.new.all) door.new }
         ensures none { turns_of self.old ≡ [] → (self.new.all ≡ self.old.all) × (turns_of self.new ≡ []) × (door.new ≡ door.old) }
         ensures turn { (key : ℕ) (rest : List ℕ) → turns_of self.old ≡ key ∷ rest → IsTurned self.old key rest self.new }
     {
@@ -208,7 +220,7 @@ impl Peers {
     /// Has a turn next, or ends, also where there is no memory for that.
     pub(crate) fn go_on<D: Reception>(&mut self, door: &mut D, key: usize, step: Step)
         ensures goes { GoesOn self.old key step self.new }
-        ensures tends { Tends D.lets_in D.connected D.called D.left (sessions_of self.old.all) door.old (sessions_of self.new.all) door.new }
+        ensures tends { TendsForAll D.connected D.called D.left (sessions_of self.old.all) door.old (sessions_of self.new.all) door.new }
     {
         match step {
             Step::Waits => {}
@@ -230,6 +242,42 @@ impl Peers {
     /// What the connection under this key asks of the server itself, if it waits for no order.
     pub(crate) fn control(&self, alloc: Global, key: usize) -> Option<Control> {
         self.all.get(key)?.control(alloc)
+    }
+
+    /// A part of the login of the connection under this key, if it asks for one. A failure is told of, and answered later.
+    pub(crate) fn log_in<R: Eprint + RandomSource>(
+        &mut self,
+        rt: &R,
+        common: &Common<'_>,
+        alloc: Global,
+        now: u64,
+        key: usize,
+    ) -> Passed
+        ensures logs { LogsAt (users_of common.now) (sessions_of self.old.all) (sessions_of self.new.all) }
+        ensures limits { IsPassed result }
+    {
+        let Some(peer) = self.all.get_mut(key) else {
+            return Passed::Nothing;
+        };
+        let passed = peer.log_in(rt, alloc, common.users, &common.key);
+        if matches!(passed, Passed::Fails) {
+            let source = peer.source();
+            peer.pause(now.saturating_add(self.failures.note(source, now)));
+            tell_refused(rt, &mut self.allowance, now, source);
+        }
+        passed
+    }
+
+    /// When the connection under this key is answered that it failed to log in.
+    pub(crate) fn pause(&self, key: usize) -> Option<u64> {
+        self.all.get(key)?.pause
+    }
+
+    /// What the connection under this key asks is looked at again. Whether there was memory for that.
+    pub(crate) fn put_off(&mut self, key: usize) -> bool
+        ensures same { sessions_of self.new.all ≡ sessions_of self.old.all }
+    {
+        self.orders.put(Wish { key, cut: None })
     }
 
     /// The connection under this key waits for the order of this number. Whether there was memory for that.
@@ -278,7 +326,7 @@ impl Peers {
 
     /// Ends those that are overdue inside a frame, and those that were quiet for too long, by whether they have an association.
     pub(crate) fn end_overdue<D: Reception>(&mut self, door: &mut D, now: u64, settings: &Settings)
-        ensures tends { Tends D.lets_in D.connected D.called D.left (sessions_of self.old.all) door.old (sessions_of self.new.all) door.new }
+        ensures tends { TendsForAll D.connected D.called D.left (sessions_of self.old.all) door.old (sessions_of self.new.all) door.new }
         ensures looks { LooksAll D.ties settings.now now self.old.all self.new.all }
         ensures turns { (self.new.queue ≡ self.old.queue) × (self.new.orders ≡ self.old.orders) }
     {
@@ -302,7 +350,7 @@ impl Peers {
 
     /// Hangs the session of one that asked the server to end up; its socket stays open until it is dropped.
     pub(crate) fn part_stopper<D: Reception>(&mut self, door: &mut D) -> Option<Socket>
-        ensures tends { Tends D.lets_in D.connected D.called D.left (sessions_of self.old.all) door.old (sessions_of self.new.all) door.new }
+        ensures tends { TendsForAll D.connected D.called D.left (sessions_of self.old.all) door.old (sessions_of self.new.all) door.new }
         ensures parted { HasParted self.old result self.new }
     {
         part_in(&mut self.all, door, self.orders.stopper()?)
@@ -310,7 +358,7 @@ impl Peers {
 
     /// Ends all of them.
     pub(crate) fn end_all<D: Reception>(&mut self, door: &mut D)
-        ensures { Tends D.lets_in D.connected D.called D.left (sessions_of self.old.all) door.old nobody door.new }
+        ensures { TendsForAll D.connected D.called D.left (sessions_of self.old.all) door.old nobody door.new }
     {
         for key in 0..self.all.capacity() {
             end_in(&mut self.all, door, key);
@@ -357,7 +405,7 @@ fn turn_in<D: Reception, R: Clock>(
     door: &mut D,
     key: usize,
 ) -> Step
-    ensures tends { Tends D.lets_in D.connected D.called D.left (sessions_of all.old) door.old (sessions_of all.new) door.new }
+    ensures tends { TendsForAll D.connected D.called D.left (sessions_of all.old) door.old (sessions_of all.new) door.new }
     ensures turned { HadTurn all.old key result all.new }
 {
     match all.get_mut(key) {
@@ -373,17 +421,11 @@ fn end_if_overdue<D: Reception>(
     now: u64,
     settings: &Settings,
 )
-    ensures tends { Tends D.lets_in D.connected D.called D.left (sessions_of all.old) door.old (sessions_of all.new) door.new }
+    ensures tends { TendsForAll D.connected D.called D.left (sessions_of all.old) door.old (sessions_of all.new) door.new }
     ensures looks { Looks (D.ties door.old) settings.now now key all.old all.new }
 {
     let ends = match all.get(key) {
-        Some(peer) => is_to_end(
-            door,
-            peer.session,
-            peer.is_inside_frame(),
-            peer.quiet(now),
-            settings,
-        ),
+        Some(peer) => is_to_end(door, peer.session, peer.owes(), peer.quiet(now), settings),
         None => false,
     };
     if ends {
@@ -393,7 +435,7 @@ fn end_if_overdue<D: Reception>(
 
 // Hangs the session of the connection under this key up, if there is one, and gives its socket.
 fn part_in<D: Reception>(all: &mut Slab<Peer>, door: &mut D, key: usize) -> Option<Socket>
-    ensures tends { Tends D.lets_in D.connected D.called D.left (sessions_of all.old) door.old (sessions_of all.new) door.new }
+    ensures tends { TendsForAll D.connected D.called D.left (sessions_of all.old) door.old (sessions_of all.new) door.new }
     ensures updates { Updates all.old all.new key None }
     ensures socket { result ≡ option_map (λ p. p.socket) (get all.old key) }
 {
@@ -404,7 +446,7 @@ fn part_in<D: Reception>(all: &mut Slab<Peer>, door: &mut D, key: usize) -> Opti
 
 // Ends the connection under this key, if there is one, and hangs its session up.
 pub(crate) fn end_in<D: Reception>(all: &mut Slab<Peer>, door: &mut D, key: usize)
-    ensures tends { Tends D.lets_in D.connected D.called D.left (sessions_of all.old) door.old (sessions_of all.new) door.new }
+    ensures tends { TendsForAll D.connected D.called D.left (sessions_of all.old) door.old (sessions_of all.new) door.new }
     ensures updates { Updates all.old all.new key None }
     ensures others { (other : ℕ) → get all.old other ≡ None → get all.new other ≡ None }
     ensures slots { length all.new.slots ≡ length all.old.slots }

@@ -3,23 +3,18 @@ use std::alloc::{AllocError, Global};
 use xa_assoc::ConnectFault;
 use xa_desk::Door;
 use xa_frame::Request;
-use xa_roles::Role;
 use xa_xid::Xid;
 
 /// A door at which sessions connect, too.
 pub trait Reception: Door {
-    ghost use Rattle.std.specs.Prelude.{ℕ, ◌≡◌, ◌⊎◌, All, Bool, IfOk, IsSomeAnd, List, Option, Result};
+    ghost use Rattle.std.specs.Prelude.{ℕ, ◌≡◌, ◌⊎◌, All, Bool, IfOk, IsSomeAnd, List, Result};
     ghost use Rattle.xa_assoc.specs.declared.fault.ConnectFault.{ConnectFault};
     ghost use Rattle.xa_frame.specs.declared.request.Request.{Request};
     ghost use Rattle.xa_reactor.specs.{Asking.HasRequest, Asking.TellsAll, Asking.TellsSome, Reception.KeepsSettled, Timing.Ties};
-    ghost use Rattle.xa_roles.specs.declared.role.Role.{Role};
     ghost use Rattle.xa_xid.specs.Triple.{Triple};
 
     /// A connect took it from one to the other, with this result.
     ghost connected: { Self → Result ℕ ConnectFault → Self → Type 0 };
-
-    /// A connection may have this role there, or none.
-    ghost lets_in: { Self → Option Role → Type 0 };
 
     /// It was asked whether this session has an association with a branch, or with one that isn't marked, and what was
     /// answered.
@@ -46,10 +41,6 @@ pub trait Reception: Door {
     /// Connects a session.
     fn connect(&mut self) -> Result<u64, ConnectFault>
         ensures { connected self.old result self.new };
-
-    /// The role that a connection has from its beginning, or none.
-    fn standing(&self) -> Option<Role>
-        ensures { lets_in self.now result };
 
     /// Answers requests, each once and as `call` does, in an order of its own: those that were posted are among them, and
     /// none of these is left.

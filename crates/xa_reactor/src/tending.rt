@@ -3,6 +3,7 @@ ghost use Rattle.std.specs.Prelude.{◌≡◌, ◌≤◌, ◌&&◌, false, true,
 ghost use Rattle.mio.specs.Events.{capacity, items};
 ghost use Rattle.xa_reactor.specs.Timing.{after_wait};
 ghost use Rattle.xa_reactor.specs.Believed.Tending.{HasTended, TendsPosting, sessions_of};
+ghost use Rattle.xa_reactor.specs.{ForAll.PostsForAll, Users.users_of};
 ghost use Rattle.xa_reactor.specs.Together.{HasLent, IsOver};
 
 use crate::acceptor::Acceptor;
@@ -22,6 +23,7 @@ use crate::tools::{Tools, give_each};
 use crate::trimming::{begin_trims, keep_short};
 use mio::{Events, Poll};
 use std::io;
+use std::random::RandomSource;
 use std::rt::Clock;
 use std::sync::Wait;
 use std::thread::yield_now;
@@ -34,14 +36,14 @@ const MOST_EVENTS: usize = 256;
 /// Serves the connections that are handed to a loop, at a door, until no more come, or all loops are stopped. The first
 /// loop that begins accepts them. Whether nothing failed, else all loops are stopped; and the connection that asked the
 /// server to end, if one of them did.
-pub(crate) fn tend<D: Reception, R: AllocGlobal + Clock + Eprint + Wait>(
+pub(crate) fn tend<D: Reception, R: AllocGlobal + Clock + Eprint + RandomSource + Wait>(
     rt: &R,
     common: &Common<'_>,
     index: usize,
     poll: Poll,
     door: &mut D,
 ) -> (bool, Option<Socket>)
-    ensures { HasTended D.posts D.lets_in D.connected D.called D.left D.is_settled door.old door.new }
+    ensures { HasTended D.posts (users_of common.now) D.connected D.called D.left D.is_settled door.old door.new }
 {
     let mut peers = Peers::new(rt.alloc());
     let is_whole = run(rt, common, index, poll, &mut peers, door).is_ok();
@@ -58,7 +60,7 @@ pub(crate) fn tend<D: Reception, R: AllocGlobal + Clock + Eprint + Wait>(
 }
 
 // Rounds one after another.
-fn run<D: Reception, R: AllocGlobal + Clock + Eprint + Wait>(
+fn run<D: Reception, R: AllocGlobal + Clock + Eprint + RandomSource + Wait>(
     rt: &R,
     common: &Common<'_>,
     index: usize,
@@ -66,7 +68,7 @@ fn run<D: Reception, R: AllocGlobal + Clock + Eprint + Wait>(
     peers: &mut Peers,
     door: &mut D,
 ) -> io::Result<()>
-    ensures tends { TendsPosting D.posts D.lets_in D.connected D.called D.left
+    ensures tends { TendsPosting D.posts (users_of common.now) D.connected D.called D.left
         (sessions_of peers.old.all) door.old (sessions_of peers.new.all) door.new }
     ensures settled { D.is_settled door.old → D.is_settled door.new }
 {
@@ -123,14 +125,14 @@ impl Loop {
 
     // Waits for events; then each connection that has a turn has it; then connections are accepted, and those that were
     // handed to the loop taken in. Whether it goes on.
-    fn serve_round<D: Reception, R: AllocGlobal + Clock + Eprint + Wait>(
+    fn serve_round<D: Reception, R: AllocGlobal + Clock + Eprint + RandomSource + Wait>(
         &mut self,
         rt: &R,
         common: &Common<'_>,
         peers: &mut Peers,
         door: &mut D,
     ) -> io::Result<bool>
-        ensures tends { TendsPosting D.posts D.lets_in D.connected D.called D.left
+        ensures tends { TendsPosting D.posts (users_of common.now) D.connected D.called D.left
             (sessions_of peers.old.all) door.old (sessions_of peers.new.all) door.new }
         ensures settled { D.is_settled door.old → D.is_settled door.new }
     {
@@ -178,7 +180,7 @@ impl Loop {
         peers: &mut Peers,
         door: &mut D,
     ) -> bool
-        ensures tends { TendsPosting D.posts D.lets_in D.connected D.called D.left
+        ensures tends { PostsForAll D.connected D.called D.left D.posts
             (sessions_of peers.old.all) door.old (sessions_of peers.new.all) door.new }
         ensures settled { D.is_settled door.old → D.is_settled door.new }
     {
@@ -202,7 +204,7 @@ impl Loop {
         door: &mut D,
     ) -> bool
         requires { HasLent (sessions_of peers.old.all) self.old.tools.together }
-        ensures tends { TendsPosting D.posts D.lets_in D.connected D.called D.left
+        ensures tends { PostsForAll D.connected D.called D.left D.posts
             (sessions_of peers.old.all) door.old (sessions_of peers.new.all) door.new }
         ensures over { IsOver self.new.tools.together }
         ensures settled { D.is_settled door.new }
@@ -231,7 +233,7 @@ impl Loop {
         door: &mut D,
     )
         requires { HasLent (sessions_of peers.old.all) self.old.tools.together }
-        ensures tends { TendsPosting D.posts D.lets_in D.connected D.called D.left
+        ensures tends { PostsForAll D.connected D.called D.left D.posts
             (sessions_of peers.old.all) door.old (sessions_of peers.new.all) door.new }
         ensures lent { HasLent (sessions_of peers.new.all) self.new.tools.together }
     {
@@ -250,7 +252,7 @@ impl Loop {
         door: &mut D,
     )
         requires { HasLent (sessions_of peers.old.all) self.old.tools.together }
-        ensures tends { TendsPosting D.posts D.lets_in D.connected D.called D.left
+        ensures tends { PostsForAll D.connected D.called D.left D.posts
             (sessions_of peers.old.all) door.old (sessions_of peers.new.all) door.new }
         ensures lent { HasLent (sessions_of peers.new.all) self.new.tools.together }
         ensures events { self.new.events ≡ self.old.events }
@@ -270,7 +272,7 @@ impl Loop {
         door: &mut D,
     ) -> bool
         requires { HasLent (sessions_of peers.old.all) self.old.tools.together }
-        ensures tends { TendsPosting D.posts D.lets_in D.connected D.called D.left
+        ensures tends { PostsForAll D.connected D.called D.left D.posts
             (sessions_of peers.old.all) door.old (sessions_of peers.new.all) door.new }
         ensures lent { HasLent (sessions_of peers.new.all) self.new.tools.together }
     {
@@ -306,7 +308,7 @@ impl Loop {
         door: &mut D,
     ) -> bool
         requires { HasLent (sessions_of peers.old.all) self.old.tools.together }
-        ensures tends { TendsPosting D.posts D.lets_in D.connected D.called D.left
+        ensures tends { PostsForAll D.connected D.called D.left D.posts
             (sessions_of peers.old.all) door.old (sessions_of peers.new.all) door.new }
         ensures lent { HasLent (sessions_of peers.new.all) self.new.tools.together }
     {
@@ -331,7 +333,7 @@ impl Loop {
         door: &mut D,
     ) -> bool
         requires { HasLent (sessions_of peers.old.all) self.old.tools.together }
-        ensures tends { TendsPosting D.posts D.lets_in D.connected D.called D.left
+        ensures tends { PostsForAll D.connected D.called D.left D.posts
             (sessions_of peers.old.all) door.old (sessions_of peers.new.all) door.new }
         ensures lent { HasLent (sessions_of peers.new.all) self.new.tools.together }
     {
@@ -358,7 +360,7 @@ impl Loop {
         looks: u32,
     ) -> (bool, bool)
         requires { HasLent (sessions_of peers.old.all) self.old.tools.together }
-        ensures tends { TendsPosting D.posts D.lets_in D.connected D.called D.left
+        ensures tends { PostsForAll D.connected D.called D.left D.posts
             (sessions_of peers.old.all) door.old (sessions_of peers.new.all) door.new }
         ensures lent { HasLent (sessions_of peers.new.all) self.new.tools.together }
     {
@@ -388,7 +390,7 @@ impl Loop {
         wait: Duration,
     ) -> io::Result<bool>
         requires { HasLent (sessions_of peers.old.all) self.old.tools.together }
-        ensures tends { TendsPosting D.posts D.lets_in D.connected D.called D.left
+        ensures tends { PostsForAll D.connected D.called D.left D.posts
             (sessions_of peers.old.all) door.old (sessions_of peers.new.all) door.new }
         ensures lent { HasLent (sessions_of peers.new.all) self.new.tools.together }
     {

@@ -44,8 +44,8 @@ pub(crate) fn is_too_quiet(quiet: u64, seconds: u64) -> bool
     seconds > 0 && quiet / 1_000 >= seconds
 }
 
-/// How long to wait for an event, None until one comes: not at all where a connection has a turn; so long as accepting
-/// pauses; until the next look, where there are connections.
+/// How long to wait for an event, None until one comes: not at all if a connection has a turn; a moment if accepting pauses, or
+/// something that was asked is to be looked at again; until the next look, if there are connections.
 pub(crate) fn wait_of(has_turn: bool, pauses: bool, has_connections: bool) -> Option<u64>
     ensures { result ≡ wait_of has_turn pauses has_connections }
 {

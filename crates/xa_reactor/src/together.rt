@@ -2,7 +2,8 @@
 ghost use Rattle.std.specs.Prelude.{ℕ, ◌≡◌, ◌⊎◌, ◌+◌, ◌++◌, ◌<◌, ◌≤◌, List, [], ◌∷◌, All, IfSome, nat_lt};
 ghost use Rattle.std.specs.{Vec.vec_capacity, Vec.vec_len, VecDeque.deque_len};
 ghost use Rattle.xa_reactor.specs.Asking.{IsAnswered, IsLeft, IsLent, IsBrought, MayBeTold, PutsAll, PutsIf, TurnedAll, TurnedSome};
-ghost use Rattle.xa_reactor.specs.Believed.Tending.{Table, Tends, TendsPosting, sessions_of};
+ghost use Rattle.xa_reactor.specs.Believed.Tending.{Table, sessions_of};
+ghost use Rattle.xa_reactor.specs.ForAll.{PostsForAll, TendsForAll};
 ghost use Rattle.xa_reactor.specs.{Timing.after_wait, Together.HasLent, Together.HasRoomFor, Together.IsOver, Together.may_gather, Together.may_grow};
 ghost use Rattle.xa_reactor.specs.declared.peer.Step.{Step};
 ghost use Rattle.xa_reactor.specs.Together.{GoesOnAll, HasKept, HaveGone, KeepsTurns, turns_in};
@@ -105,7 +106,7 @@ impl Together {
         door: &mut D,
     )
         requires { HasLent (sessions_of peers.old.all) self.old }
-        ensures tends { TendsPosting D.posts D.lets_in D.connected D.called D.left
+        ensures tends { PostsForAll D.connected D.called D.left D.posts
             (sessions_of peers.old.all) door.old (sessions_of peers.new.all) door.new }
         ensures lent { HasLent (sessions_of peers.new.all) self.new }
         ensures turns { KeepsTurns self.old peers.old self.new peers.new }
@@ -130,7 +131,7 @@ impl Together {
         door: &mut D,
     )
         requires { HasLent (sessions_of peers.old.all) self.old }
-        ensures tends { TendsPosting D.posts D.lets_in D.connected D.called D.left
+        ensures tends { PostsForAll D.connected D.called D.left D.posts
             (sessions_of peers.old.all) door.old (sessions_of peers.new.all) door.new }
         ensures lent { HasLent (sessions_of peers.new.all) self.new }
         ensures turns { KeepsTurns self.old peers.old self.new peers.new }
@@ -169,7 +170,7 @@ impl Together {
         door: &mut D,
     )
         requires { HasLent (sessions_of peers.old.all) self.old }
-        ensures tends { Tends D.lets_in D.connected D.called D.left (sessions_of peers.old.all) door.old (sessions_of peers.new.all) door.new }
+        ensures tends { TendsForAll D.connected D.called D.left (sessions_of peers.old.all) door.old (sessions_of peers.new.all) door.new }
         ensures same { sessions_of peers.new.all ≡ sessions_of peers.old.all }
         ensures lent { HasLent (sessions_of peers.new.all) self.new }
         ensures waiting { self.new.waiting ≡ self.old.waiting }
@@ -203,7 +204,7 @@ impl Together {
         door: &mut D,
     )
         requires { HasLent (sessions_of peers.old.all) self.old }
-        ensures tends { Tends D.lets_in D.connected D.called D.left (sessions_of peers.old.all) door.old (sessions_of peers.new.all) door.new }
+        ensures tends { TendsForAll D.connected D.called D.left (sessions_of peers.old.all) door.old (sessions_of peers.new.all) door.new }
         ensures over { IsOver self.new }
         ensures goes { HaveGone self.old peers.old peers.new }
         ensures settled { D.is_settled door.new }
@@ -241,7 +242,7 @@ fn give_quick<D: Reception, R: Clock + Eprint>(
     requires lent { All (IsLent (sessions_of peers.old.all)) asks.old.items }
     requires left { (left.old.items ≡ []) × (vec_len asks.old ≤ vec_capacity left.old) }
     requires room { HasRoomFor over.old asks.old }
-    ensures tends { Tends D.lets_in D.connected D.called D.left (sessions_of peers.old.all) door.old (sessions_of peers.new.all) door.new }
+    ensures tends { TendsForAll D.connected D.called D.left (sessions_of peers.old.all) door.old (sessions_of peers.new.all) door.new }
     ensures same { sessions_of peers.new.all ≡ sessions_of peers.old.all }
     ensures lent { All (IsLent (sessions_of peers.new.all)) asks.new.items }
     ensures left { left.new.items ≡ [] }
@@ -268,7 +269,7 @@ fn give_waiting<D: Reception, R: Clock + Eprint>(
 )
     requires lent { All (IsLent (sessions_of peers.old.all)) asks.old.items }
     requires room { HasRoomFor over.old asks.old }
-    ensures tends { Tends D.lets_in D.connected D.called D.left (sessions_of peers.old.all) door.old (sessions_of peers.new.all) door.new }
+    ensures tends { TendsForAll D.connected D.called D.left (sessions_of peers.old.all) door.old (sessions_of peers.new.all) door.new }
     ensures same { sessions_of peers.new.all ≡ sessions_of peers.old.all }
     ensures none { asks.new.items ≡ [] }
     ensures turns { (vec_len over.new ≡ vec_len over.old + vec_len asks.old) × (peers.new.queue ≡ peers.old.queue) }
@@ -380,7 +381,7 @@ fn go_on_or_keep(over: &mut Vec<(usize, Step)>, peers: &mut Peers, key: usize, s
 // What comes after turns.
 fn go_on_all<D: Reception>(over: &mut Vec<(usize, Step)>, peers: &mut Peers, door: &mut D)
     ensures goes { GoesOnAll peers.old over.old.items peers.new }
-    ensures tends { Tends D.lets_in D.connected D.called D.left (sessions_of peers.old.all) door.old (sessions_of peers.new.all) door.new }
+    ensures tends { TendsForAll D.connected D.called D.left (sessions_of peers.old.all) door.old (sessions_of peers.new.all) door.new }
     ensures none { over.new.items ≡ [] }
 {
     for (key, step) in over.drain(..) {

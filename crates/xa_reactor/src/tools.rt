@@ -1,7 +1,7 @@
 //! What a loop's turns use.
 ghost use Rattle.std.specs.Prelude.{◌≡◌, IfOk, vec_len};
 ghost use Rattle.xa_connection.specs.declared.connection.TheConstants.{MOST_INPUT};
-ghost use Rattle.xa_reactor.specs.Believed.Tending.{Tends, sessions_of};
+ghost use Rattle.xa_reactor.specs.{Believed.Tending.sessions_of, ForAll.TendsForAll};
 ghost use Rattle.xa_waits.specs.Patience.{new_patience};
 
 use crate::clock::LoopClock;
@@ -52,7 +52,7 @@ pub(crate) fn give_each<D: Reception, R: AllocGlobal + Clock + Eprint + Wait>(
     door: &mut D,
     turns: usize,
 )
-    ensures { Tends D.lets_in D.connected D.called D.left (sessions_of peers.old.all) door.old (sessions_of peers.new.all) door.new }
+    ensures { TendsForAll D.connected D.called D.left (sessions_of peers.old.all) door.old (sessions_of peers.new.all) door.new }
 {
     for _ in 0..turns {
         peers.give_turn(rt, round, clock, &mut tools.scratch, door);

@@ -32,6 +32,13 @@ impl Peer {
         self.order = Some(order);
     }
 
+    /// That it failed to log in is answered then, by the loop's clock.
+    pub(crate) fn pause(&mut self, until: u64)
+        ensures { self.new ≡ record self.old { pause = Some until } }
+    {
+        self.pause = Some(until);
+    }
+
     /// Answers what it asks of the server itself, where it waits for this order, or for none, and sends the answer. What comes
     /// after that; None where it asks nothing, or waits for another one.
     pub(crate) fn answer_control<R: Clock + Eprint>(
@@ -58,9 +65,15 @@ impl Peer {
                 let noted = Noted::of_control(&self.socket, &control);
                 let _answering = self.connection.answer_control(count, control, answer);
                 self.order = None;
+                self.pause = None;
                 self.is_queued = false;
                 tell(rt, allowance, clock.now(rt), noted, code_of(answer));
-                Some(self.send(rt, round, clock, key))
+                let step = self.send(rt, round, clock, key);
+                Some(if self.is_out_of_tries() {
+                    Step::Ends
+                } else {
+                    step
+                })
             }
             _asked => None,
         }

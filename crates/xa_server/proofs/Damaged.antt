@@ -18,6 +18,10 @@ refuses_before disks path name log_bytes first first' second second' fault.Write
 refuses_before disks path name log_bytes first first' second second' fault.Listen same same_second h = absurd h
 refuses_before disks path name log_bytes first first' second second' fault.Start same same_second h = absurd h
 refuses_before disks path name log_bytes first first' second second' fault.Wait same same_second h = absurd h
+refuses_before disks path name log_bytes first first' second second' fault.Random same same_second h = absurd h
+refuses_before disks path name log_bytes first first' second second' (fault.Users users_path cause) same same_second h = absurd h
+refuses_before disks path name log_bytes first first' second second' (fault.Open address) same same_second h = absurd h
+refuses_before disks path name log_bytes first first' second second' (fault.Group group) same same_second h = absurd h
 refuses_before disks path name log_bytes first first' second second' fault.InUse same same_second h = absurd h
 refuses_before disks path name log_bytes first first' second second' (fault.History file cause) same same_second h = absurd h
 refuses_before disks path name log_bytes first first' second second' (fault.Absent file) same same_second h = absurd h

@@ -23,6 +23,10 @@ failed_on_files disks opened refused net log_bytes place late first second fault
 failed_on_files disks opened refused net log_bytes place late first second fault.Listen files h = absurd h
 failed_on_files disks opened refused net log_bytes place late first second fault.Start files h = absurd h
 failed_on_files disks opened refused net log_bytes place late first second fault.Wait files h = absurd h
+failed_on_files disks opened refused net log_bytes place late first second fault.Random files h = absurd h
+failed_on_files disks opened refused net log_bytes place late first second (fault.Users users_path cause) files h = absurd h
+failed_on_files disks opened refused net log_bytes place late first second (fault.Open address) files h = absurd h
+failed_on_files disks opened refused net log_bytes place late first second (fault.Group group) files h = absurd h
 failed_on_files disks opened refused net log_bytes place late first second fault.InUse files h = absurd h
 failed_on_files disks opened refused net log_bytes place late first second (fault.History history_file cause) files h = absurd h
 failed_on_files disks opened refused net log_bytes place late first second (fault.Absent log_file) files h = absurd h
@@ -46,6 +50,10 @@ failed_early disks opened refused net log_bytes place late fault.Write h = h
 failed_early disks opened refused net log_bytes place late fault.Listen h = h
 failed_early disks opened refused net log_bytes place late fault.Start h = absurd h.1
 failed_early disks opened refused net log_bytes place late fault.Wait h = absurd h.1
+failed_early disks opened refused net log_bytes place late fault.Random h = absurd h.1
+failed_early disks opened refused net log_bytes place late (fault.Users users_path cause) h = tt
+failed_early disks opened refused net log_bytes place late (fault.Open address) h = tt
+failed_early disks opened refused net log_bytes place late (fault.Group group) h = tt
 failed_early disks opened refused net log_bytes place late fault.InUse h = h
 failed_early disks opened refused net log_bytes place late (fault.History history_file cause) h = h
 failed_early disks opened refused net log_bytes place late (fault.Absent log_file) h = h
@@ -67,13 +75,15 @@ pub loops_failed : {D R : Type 0} (disks : disk.Ghosts D) (opened : D → List �
     (refused : List ℕ → FileFault → Type 0) (net : listens.Ghosts R) (log_bytes : ℕ) (place : Place) (asked loops : ℕ)
     (why : ServerFault)
     → WasReady disks opened net log_bytes place → AreLoops asked loops
-    → (why ≡ serving.Memory) ⊎ ((why ≡ serving.Wait) ⊎ ((why ≡ serving.Write) ⊎ (why ≡ serving.Loops loops)))
+    → (why ≡ serving.Memory) ⊎ ((why ≡ serving.Wait) ⊎ ((why ≡ serving.Write) ⊎ ((why ≡ serving.Random) ⊎ (why ≡ serving.Loops loops))))
     → (why ≡ serving.Loops loops → (loops ≡ 0) ⊎ (MOST_LOOPS < loops))
     → HasFailedBy disks opened refused net log_bytes place (NoLoops asked) (serving_fault why)
 loops_failed disks opened refused net log_bytes place asked loops why ready are (inl memory) none = rw memory tt
 loops_failed disks opened refused net log_bytes place asked loops why ready are (inr (inl wait)) none = rw wait (ready, tt)
 loops_failed disks opened refused net log_bytes place asked loops why ready are (inr (inr (inl write))) none = rw write ready
-loops_failed disks opened refused net log_bytes place asked loops why ready are (inr (inr (inr is))) none =
+loops_failed disks opened refused net log_bytes place asked loops why ready are (inr (inr (inr (inl random)))) none =
+    rw random (ready, tt)
+loops_failed disks opened refused net log_bytes place asked loops why ready are (inr (inr (inr (inr is)))) none =
     rw is (ready, too_many asked loops are (none is))
 
 -- all was ready, and what is told in the end couldn't be printed
@@ -97,6 +107,10 @@ history_failed disks opened refused net log_bytes place late fault.Write ready h
 history_failed disks opened refused net log_bytes place late fault.Listen ready h = absurd h
 history_failed disks opened refused net log_bytes place late fault.Start ready h = absurd h
 history_failed disks opened refused net log_bytes place late fault.Wait ready h = absurd h
+history_failed disks opened refused net log_bytes place late fault.Random ready h = absurd h
+history_failed disks opened refused net log_bytes place late (fault.Users users_path cause) ready h = absurd h
+history_failed disks opened refused net log_bytes place late (fault.Open address) ready h = absurd h
+history_failed disks opened refused net log_bytes place late (fault.Group group) ready h = absurd h
 history_failed disks opened refused net log_bytes place late fault.InUse ready h = absurd h
 history_failed disks opened refused net log_bytes place late (fault.Absent log_file) ready h = absurd h
 history_failed disks opened refused net log_bytes place late (fault.File log_file cause) ready h = absurd h

@@ -36,13 +36,13 @@ keeps disks manager bodies name log_bytes begun calls entries are promises =
     }
 
 pub looped_promises : {D : Type 0} (disks : disk.Ghosts D) → LoopedPromises disks
-looped_promises disks manager bodies name log_bytes begun base loops told serves =
+looped_promises disks manager bodies name log_bytes begun base users loops told serves =
     keeps disks manager bodies name log_bytes begun told.calls serves.entries serves.calls_are
     (λ s stood opens trusted. let after = serves.promises s stood opens trusted in (after.0, after.1, after.3, after.4, after.5))
 
 -- with an audit
 pub audited_promises : {D : Type 0} (disks : disk.Ghosts D) → AuditedPromises disks
-audited_promises disks manager bodies name log_bytes begun base workers done audited =
+audited_promises disks manager bodies name log_bytes begun base users workers done audited =
     let serves = audited.serves in
     keeps disks manager bodies name log_bytes begun done.looped.calls serves.entries serves.calls_are
     (λ s stood opens trusted. let after = serves.promises s stood opens trusted in (after.0, after.1, after.3, after.4, after.5))

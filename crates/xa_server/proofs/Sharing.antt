@@ -21,10 +21,11 @@ use Rattle.xa_reactor.specs.Believed.Tending.{Does, DoesOrPosts, HaveTended, Tab
 use Rattle.xa_reactor.proofs.Doing.{does_keep}
 use Rattle.xa_reactor.proofs.Parts.{has_tended_by}
 use Rattle.xa_history.specs.Believed.Manages.{Behaviour}
-use Rattle.xa_server.specs.Believed.Loops.{AllLoop, Called, Connected, HasLooped, IsFresh, Left, LetsIn, Posted}
+use Rattle.xa_server.specs.Believed.Loops.{AllLoop, Called, Connected, HasLooped, IsFresh, Left, Posted}
 use Rattle.xa_tokens.specs.Believed.Account.{Account, Owes}
 use Rattle.xa_tokens.specs.declared.ask.Ask.{Ask}
 use Rattle.xa_tokens.specs.declared.receipt.Receipt.{Receipt}
+use Rattle.xa_users.specs.declared.users.Users.{Users}
 
 -- ---- accounts by which nothing was asked
 
@@ -55,7 +56,7 @@ parts_asked : (a : Account) (ask : Ask) (b : Account) → HasAsked a ask b → b
 parts_asked a ask b (inl h) = ap (λ (x : Account). x.parts) h.1
 parts_asked a ask b (inr h) = ap (λ (x : Account). x.parts) h.0
 
-module _ {M : Type 0} (m : Behaviour M) (start : State → Type 0) (base : ℕ × ℕ) where
+module _ {M : Type 0} (m : Behaviour M) (start : State → Type 0) (base : ℕ × ℕ) (users : Option Users) where
   parts_called : (session : ℕ) (a : Account) (question : Question) (reply : Reply) (b : Account)
       → Called m start base session a question reply b → b.parts ≡ a.parts
   parts_called session a (Call request) reply b h =
@@ -89,27 +90,28 @@ module _ {M : Type 0} (m : Behaviour M) (start : State → Type 0) (base : ℕ �
   parts_connected a result b h = parts_at_once (is_memory (connect_reply result).detail) a Connect h.reply b h.told
 
   parts_done : (x y : Table) (a b : Account)
-      → Does {D = Account} LetsIn (Connected m start base) (Called m start base) (Left m start base) x y a b → b.parts ≡ a.parts
+      → Does {D = Account} users (Connected m start base) (Called m start base) (Left m start base) x y a b → b.parts ≡ a.parts
   parts_done x y a b (inl h) = parts_connected a (Ok h.seat.session) b h.connects
   parts_done x y a b (inr (inl h)) = parts_connected a (Err h.fault) b h.refuses
   parts_done x y a b (inr (inr (inl h))) =
       parts_answered h.seat.standing h.seat.session h.contents h.replies a b h.answers
   parts_done x y a b (inr (inr (inr (inl h)))) =
       parts_at_once (not h.leaves.0) a (Hangup h.seat.session) h.leaves.1.reply b h.leaves.1.told
-  parts_done x y a b (inr (inr (inr (inr h)))) =
+  parts_done x y a b (inr (inr (inr (inr (inr h))))) = ap (λ (s : Account). s.parts) (sym h.1)
+  parts_done x y a b (inr (inr (inr (inr (inl h))))) =
       let v = h.visits in
       parts_at_once (not v.leaves.0) v.asked (Hangup v.session) v.leaves.1.reply b v.leaves.1.told
       ∙ parts_one v.session h.content h.reply v.came v.asked v.answers
       ∙ parts_connected a (Ok v.session) v.came v.connects
 
   abbrev Step : Table → Table → Account → Account → Type 0
-  Step x y a b = DoesOrPosts {D = Account} Posted LetsIn (Connected m start base) (Called m start base) (Left m start base) x y a b
+  Step x y a b = DoesOrPosts {D = Account} Posted users (Connected m start base) (Called m start base) (Left m start base) x y a b
 
   parts_step : (x y : Table) (a b : Account) → Step x y a b → b.parts ≡ a.parts
   parts_step x y a b (inl h) = parts_done x y a b h
   parts_step x y a b (inr h) = ap (λ (s : Account). s.parts) h.posted
 
-  parts_looped : (a b : Account) → HasLooped m start base a b → b.parts ≡ a.parts
+  parts_looped : (a b : Account) → HasLooped m start base users a b → b.parts ≡ a.parts
   parts_looped a b h =
       does_keep Step (λ (s : Account). s.parts ≡ a.parts) (λ x y c d one kept. parts_step x y c d one ∙ kept) nobody nobody a b h.tends refl
 
@@ -118,21 +120,21 @@ module _ {M : Type 0} (m : Behaviour M) (start : State → Type 0) (base : ℕ �
   -- by the accounts of doors of any type
   abbrev Tended : {D : Type 0} → (D → Account) → List D → List (Ended D) → Type 0
   Tended f doors ended =
-      HaveTended (λ s q x y. Posted s q (f x) (f y)) (λ x s. LetsIn (f x) s) (λ x r y. Connected m start base (f x) r (f y))
+      HaveTended (λ s q x y. Posted s q (f x) (f y)) users (λ x r y. Connected m start base (f x) r (f y))
       (λ s x q r y. Called m start base s (f x) q r (f y)) (λ s x y. Left m start base s (f x) (f y)) (λ x. Owes (f x) 0) doors ended
 
   module _ {D : Type 0} (f : D → Account) where
     looped : (doors : List D) (ended : List (Ended D)) (d : D) (e : Ended D) → Tended f (d ∷ doors) (e ∷ ended)
-        → HasLooped m start base (f d) (f e.door)
+        → HasLooped m start base users (f d) (f e.door)
     looped doors ended d e each =
-        has_tended_by f Posted LetsIn (Connected m start base) (Called m start base) (Left m start base) (λ (a : Account). Owes a 0) d e.door
+        has_tended_by f Posted users (Connected m start base) (Called m start base) (Left m start base) (λ (a : Account). Owes a 0) d e.door
         (each 0 d e (omega arith))
 
     rest : (doors : List D) (ended : List (Ended D)) (d : D) (e : Ended D) → Tended f (d ∷ doors) (e ∷ ended) → Tended f doors ended
     rest doors ended d e each = λ i x y lt. each (suc i) x y (omega (arith, lt))
 
     pub all_loop : (doors : List D) (ended : List (Ended D)) → length ended ≡ length doors → Tended f doors ended
-        → AllLoop m start base (map f doors) (map (λ e. f e.door) ended)
+        → AllLoop m start base users (map f doors) (map (λ e. f e.door) ended)
     all_loop [] [] len each = tt
     all_loop [] (e ∷ es) len each = absurd (omega (arith, len))
     all_loop (d ∷ ds) [] len each = absurd (omega (arith, len))

@@ -9,7 +9,7 @@ use Rattle.xa_server.specs.declared.fault.ServerFault.{ServerFault}
 use Rattle.xa_server.specs.declared.fault.ServerFault.TheVariants as serving
 use Rattle.xa_server.specs.declared.log_file.LogFile.{LogFile}
 use Rattle.xa_server.specs.declared.serve_fault.ServeFault.{ServeFault}
-use Rattle.xa_server.specs.declared.serve_fault.ServeFault.TheVariants.{Memory, Write, Start, Wait, InUse, Absent, File, Manager}
+use Rattle.xa_server.specs.declared.serve_fault.ServeFault.TheVariants.{Memory, Write, Start, Wait, Random, InUse, Absent, File, Manager}
 
 -- why a file of the log wasn't opened
 abbrev pub file_fault : LogFile → FileFault → ServeFault
@@ -29,9 +29,11 @@ serving_fault serving.Memory = Memory
 serving_fault (serving.Loops n) = Start
 serving_fault serving.Wait = Wait
 serving_fault serving.Write = Write
+serving_fault serving.Random = Random
 
 -- why loops didn't run
 abbrev pub loop_fault : LoopFault → ServerFault
 loop_fault loop.Memory = serving.Memory
 loop_fault loop.Wait = serving.Wait
 loop_fault loop.Write = serving.Write
+loop_fault loop.Random = serving.Random

@@ -12,7 +12,6 @@ use xa_frame::{Reply, Request, Status};
 use xa_handles::put_counts;
 use xa_history::Start;
 use xa_reactor::{Ask, Reception};
-use xa_roles::Role;
 use xa_sequencer::Manages;
 use xa_tokens::Book;
 use xa_xid::Xid;
@@ -57,14 +56,12 @@ impl<M: Manages, S: Start, B: Book, R: Clock + Wait, K: Keeps> Door for Post<'_,
 impl<M: Manages, S: Start, B: Book, R: Clock + Wait, K: Keeps> Reception
     for Post<'_, M, S, B, R, K> {
     ghost use Rattle.xa_sequencer.specs.Associates.{AssociatedBy, AttachedBy, EndedBy, UnmarkedBy};
-    ghost use Rattle.xa_server.specs.{Believed.Loops.Connected, Believed.Loops.LetsIn, Believed.Loops.Posted, Logging.may_log, Settled.keeps_settled};
+    ghost use Rattle.xa_server.specs.{Believed.Loops.Connected, Believed.Loops.Posted, Logging.may_log, Settled.keeps_settled};
     ghost use Rattle.xa_tokens.specs.Believed.Account.{Owes};
 
     ghost connected = { λ a result b. Connected M.manages S.start S.base a.handle.asker result b.handle.asker };
 
     ghost posts = { λ session request a b. Posted session request a.handle.asker b.handle.asker };
-
-    ghost lets_in = { λ a standing. LetsIn a.handle.asker standing };
 
     ghost waits = { may_log };
 
@@ -87,10 +84,6 @@ impl<M: Manages, S: Start, B: Book, R: Clock + Wait, K: Keeps> Reception
         let (session, place) = self.handle.connect();
         self.keeper.keep_connect(session, place);
         session
-    }
-
-    fn standing(&self) -> Option<Role> {
-        Some(Role::Operator)
     }
 
     fn call_all(&mut self, asks: &mut [Ask]) {

@@ -1,6 +1,6 @@
 ghost use Rattle.std.specs.Prelude.{◌≡◌, ◌↔◌, ◌+◌, ◌<◌, ◌≤◌, ◌⊎◌, ℕ, List, IfErr, IfOk, IsErrOf, length, map, sum_by};
 ghost use Rattle.xa_model.specs.State.{State};
-ghost use Rattle.std.specs.List.{AllByRecursion};
+ghost use Rattle.std.specs.{List.AllByRecursion, Option.option_map};
 ghost use Rattle.xa_server.specs.Believed.Loops.{AllLoop, IsFresh, ServesByLoops, ServesTo, told_by};
 ghost use Rattle.xa_server.specs.Believed.Watching.{IsSeenLast};
 ghost use Rattle.xa_sequencer.specs.Believed.GroupManager.{alone};
@@ -15,6 +15,7 @@ use std::alloc::{AllocError, Global};
 use std::io::Print;
 use std::marker::Brand;
 use std::net::Net;
+use std::random::RandomSource;
 use std::rt::Clock;
 use std::sync::Wait;
 use std::thread::Threads;
@@ -24,6 +25,7 @@ use xa_reactor::{Ended, Listener, LoopFault, Seen, Settings, Watch, run_loops};
 use xa_sequencer::{Manages, Sequencer};
 use xa_service::MOST_LOOPS;
 use xa_tokens::{Book, Opened, Share};
+use xa_users::Users;
 
 /// What loops tell of what they served.
 #[derive(Clone, Copy, Debug, PartialEq, Eq)]
@@ -43,33 +45,36 @@ pub struct Looped {
 /// Serves the sessions of a manager by so many event loops, 1 to `MOST_LOOPS`, each in a thread of its own; it prints `ready`
 /// before, and ends when the loops do.
 ///
+/// If there are users, a connection is answered only what the role may ask that it has shown by logging in as one of them.
+///
 /// From whichever state the manager stood for, what was served is a legal history of as many entries as it tells of; its
 /// committed branches are one copy; and what was answered as prepared is listed until its completion is asked for. Each
 /// entry was told to one loop, once, for what that asked of a session that it connected, answered and hung up; and no loop
 /// was told anything else.
 pub fn loop_manager<
     M: Manages + Send + Drop,
-    R: AllocGlobal + Clock + Print + Eprint + Net + Threads + Wait + Sync,
+    R: AllocGlobal + Clock + Print + Eprint + Net + RandomSource + Threads + Wait + Sync,
 >(
     rt: &R,
     listener: Listener,
     manager: M,
+    users: Option<&Users>,
     loops: u64,
     settings: Settings,
 ) -> Result<Looped, ServerFault>
     ensures served { IfOk result (λ told. ServesByLoops M.manages (M.manages.stands (alone manager))
-        (M.manages.failures (alone manager)) loops told) }
+        (M.manages.failures (alone manager)) (option_map (λ u. u.now) users.entry) loops told) }
     ensures settings { IfOk result (λ told. told.settings ≡ settings) }
     ensures loops { IsErrOf result (ServerFault.Loops loops) ↔ ((loops ≡ 0) ⊎ (MOST_LOOPS < loops)) }
     ensures fault { IfErr result (λ fault. (fault ≡ ServerFault.Memory) ⊎ ((fault ≡ ServerFault.Wait)
-        ⊎ ((fault ≡ ServerFault.Write) ⊎ (fault ≡ ServerFault.Loops loops)))) }
+        ⊎ ((fault ≡ ServerFault.Write) ⊎ ((fault ≡ ServerFault.Random) ⊎ (fault ≡ ServerFault.Loops loops))))) }
 {
     if loops == 0 || loops > MOST_LOOPS {
         return Err(ServerFault::Loops(loops));
     }
     let opened = Opened::new(rt.alloc())?;
     let (told, _, _) = loop_by::<M, Brand, Brand, R, Nothing>(
-        rt, listener, manager, opened, loops, settings, Nothing,
+        rt, listener, manager, opened, users, loops, settings, Nothing,
     )?;
     Ok(told)
 }
@@ -80,13 +85,14 @@ pub(crate) fn loop_by<
     M: Manages + Send + Drop,
     S: Start + Send + Sync,
     B: Book + Send + Sync,
-    R: AllocGlobal + Clock + Print + Eprint + Net + Threads + Wait + Sync,
+    R: AllocGlobal + Clock + Print + Eprint + Net + RandomSource + Threads + Wait + Sync,
     K: Keeps + Send,
 >(
     rt: &R,
     listener: Listener,
     manager: M,
     opened: Opened,
+    users: Option<&Users>,
     loops: u64,
     settings: Settings,
     keeper: K,
@@ -95,10 +101,10 @@ pub(crate) fn loop_by<
     requires base { M.manages.failures (alone manager) ≡ S.base }
     requires name { opened ≡ B.table }
     requires loops { (0 < loops) × (loops ≤ MOST_LOOPS) }
-    ensures served { IfOk result (λ made. ServesTo M.manages S.start S.base loops made.0 made.1) }
+    ensures served { IfOk result (λ made. ServesTo M.manages S.start S.base (option_map (λ u. u.now) users.entry) loops made.0 made.1) }
     ensures settings { IfOk result (λ made. made.0.settings ≡ settings) }
     ensures fault { IfErr result (λ fault. (fault ≡ ServerFault.Memory) ⊎ ((fault ≡ ServerFault.Wait)
-        ⊎ (fault ≡ ServerFault.Write))) }
+        ⊎ ((fault ≡ ServerFault.Write) ⊎ (fault ≡ ServerFault.Random)))) }
 {
     let sequencer: Sequencer<M, S> = Sequencer::new(manager);
     let (shared, share) = SharedSequencer::<M, S, B>::new(rt.alloc(), sequencer, opened);
@@ -113,7 +119,7 @@ pub(crate) fn loop_by<
         loops,
         keeper,
     )?;
-    let (ran, settings) = run_posts(rt, listener, &shared, &watch, posts, settings)?;
+    let (ran, settings) = run_posts(rt, listener, &shared, &watch, posts, users, settings)?;
     let Gathered {
         share,
         is_whole,
@@ -188,7 +194,7 @@ fn run_posts<
     M: Manages + Send,
     S: Start + Send + Sync,
     B: Book + Send + Sync,
-    R: AllocGlobal + Clock + Print + Eprint + Net + Threads + Wait + Sync,
+    R: AllocGlobal + Clock + Print + Eprint + Net + RandomSource + Threads + Wait + Sync,
     K: Keeps + Send,
 >(
     rt: &R,
@@ -196,19 +202,20 @@ fn run_posts<
     sequencer: &SharedSequencer<M, S, B>,
     watch: &Watch,
     posts: Vec<Post<'_, M, S, B, R, K>>,
+    users: Option<&Users>,
     settings: Settings,
 ) -> Result<(Gathered<B, K>, Settings), LoopFault>
     requires some { 0 < length posts.items }
     requires fresh { AllByRecursion IsFresh (map (λ p. p.handle.asker) posts.items) }
     ensures parts { IfOk result (λ all. all.0.share.parts ≡ sum_by (λ p. p.handle.asker.parts) posts.entry.items) }
     ensures loops { IfOk result (λ all. (ended : List Account)
-        × AllLoop M.manages S.start S.base (map (λ p. p.handle.asker) posts.entry.items) ended
+        × AllLoop M.manages S.start S.base (option_map (λ u. u.now) users.entry) (map (λ p. p.handle.asker) posts.entry.items) ended
         × AreSame all.0.share.told (told_by ended)) }
     ensures settled { IfOk result (λ all. Owes all.0.share 0) }
     ensures seen { IfOk result (λ all. IsSeenLast all.0.seen all.0.share.told) }
     ensures settings { IfOk result (λ all. all.1 ≡ settings) }
 {
-    let ended = run_loops(rt, listener, watch, posts, settings)?;
+    let ended = run_loops(rt, listener, watch, posts, users, settings)?;
     let asked = ended[0].settings;
     Ok((gather(sequencer, ended), asked))
 }

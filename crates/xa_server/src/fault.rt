@@ -22,6 +22,9 @@ pub enum ServerFault {
     /// It couldn't be told that the loops are ready. Nobody was served.
     #[error("cannot write")]
     Write,
+    /// The system gives no random bytes, which logins need. Nobody was served.
+    #[error("no random bytes")]
+    Random,
 }
 
 impl From<AllocError> for ServerFault {
@@ -40,6 +43,7 @@ impl From<LoopFault> for ServerFault {
             LoopFault::Memory => ServerFault::Memory,
             LoopFault::Wait => ServerFault::Wait,
             LoopFault::Write => ServerFault::Write,
+            LoopFault::Random => ServerFault::Random,
         }
     }
 }

@@ -1,6 +1,8 @@
 //! A server: each connection of a listener is a session of one manager, by event loops.
 //!
 //! - `serving`: `serve`, which opens a manager over two files and serves it, by a `Service`; `ready`: the manager and what listens
+//! - `users_file`: the file that says who may log in; `UnreadUsers`, why it says nobody
+//! - `socket_access`: `SocketAccess`, who may connect to its Unix socket; `group`: a group's number
 //! - `listening`: what listens where a server is to; `listens`: `Listens`, what listens on the ports of a machine and at
 //!   its paths
 //! - `engine`: `loop_manager`, which has event loops serve a manager's sessions, each at its `post`, by a handle of the
@@ -22,6 +24,7 @@ mod door;
 mod engine;
 mod fault;
 mod gate;
+mod group;
 mod history;
 mod history_file;
 mod keeping;
@@ -36,6 +39,8 @@ mod receipts;
 mod report;
 mod serve_fault;
 mod serving;
+mod socket_access;
+mod users_file;
 mod workers;
 
 pub use audited::{Audited, audited_lines};
@@ -49,4 +54,6 @@ pub use log_file::LogFile;
 pub use report::Report;
 pub use serve_fault::ServeFault;
 pub use serving::serve;
+pub use socket_access::SocketAccess;
+pub use users_file::UnreadUsers;
 pub use workers::{Worked, run_workers};

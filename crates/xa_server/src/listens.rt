@@ -1,7 +1,8 @@
+use crate::socket_access::SocketAccess;
 use std::fs::{self, Files, Permissions};
 use std::io::{self, ErrorKind};
 use std::net::{Net, TcpListener};
-use std::os::unix::fs::{FileTypeExt, PermissionsExt};
+use std::os::unix::fs::{FileTypeExt, PermissionsExt, chown};
 use std::os::unix::net::{UnixListener, UnixStream};
 
 /// What listens on the ports of a machine, and at its paths.
@@ -27,8 +28,8 @@ pub trait Listens {
         ensures listens { IfOk result (λ listener. listens listener address.now port) }
         ensures refuses { OnErr result (refuses address.now port) };
 
-    /// Listens at a path, by a socket that its owner alone may connect to.
-    fn listen_at(&self, path: &str) -> io::Result<UnixListener>
+    /// Listens at a path, by a socket that those may connect to.
+    fn listen_at(&self, path: &str, access: SocketAccess) -> io::Result<UnixListener>
         ensures listens { IfOk result (λ listener. listens_at listener path.now) }
         ensures refuses { OnErr result (refuses_at path.now) };
 }
@@ -47,9 +48,13 @@ impl Listens for HostRuntime {
         TcpListener::bind(self, (address, port))
     }
 
-    fn listen_at(&self, path: &str) -> io::Result<UnixListener> {
+    fn listen_at(&self, path: &str, access: SocketAccess) -> io::Result<UnixListener> {
         let listener = bound(self, path)?;
         fs::set_permissions(self, path, Permissions::from_mode(0o600))?;
+        if access.group.is_some() {
+            chown(self, path, None, access.group)?;
+        }
+        fs::set_permissions(self, path, Permissions::from_mode(access.mode))?;
         drop_waiting(&listener)?;
         Ok(listener)
     }

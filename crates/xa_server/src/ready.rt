@@ -9,6 +9,7 @@ use crate::listening::{Listening, listen};
 use crate::listens::Listens;
 use crate::log_file::LogFile;
 use crate::serve_fault::ServeFault;
+use crate::socket_access::SocketAccess;
 use std::alloc::{AllocError, Global};
 use std::io::Eprint;
 use xa_disk::{Disk, FileFault, Opens};
@@ -22,6 +23,7 @@ pub(crate) fn make_ready<'a, R: AllocGlobal + Opens + Listens>(
     path: &'a str,
     name: &str,
     at: At<'_>,
+    access: SocketAccess,
     log_bytes: u64,
     passed_over: &mut Option<PassedOver>,
 ) -> Result<(Listening, Manager<R::Disk>), ServeFault<'a>>
@@ -33,7 +35,7 @@ pub(crate) fn make_ready<'a, R: AllocGlobal + Opens + Listens>(
     let settings = Settings::new(rt.alloc(), name, log_bytes)?;
     let (mut first, mut second) = open_files(rt, path)?;
     none_unfit(rt.alloc(), &mut first, &mut second, path, log_bytes)?;
-    let Ok(listening) = listen(rt, at) else {
+    let Ok(listening) = listen(rt, at, access) else {
         return Err(ServeFault::Listen);
     };
     let manager = open_manager(rt.alloc(), first, second, settings, path, passed_over)?;

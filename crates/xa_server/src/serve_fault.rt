@@ -5,6 +5,7 @@ ghost use Rattle.xa_server.specs.Faults.{opening_fault, serving_fault};
 use crate::fault::ServerFault;
 use crate::history_file::HistoryFile;
 use crate::log_file::LogFile;
+use crate::users_file::UnreadUsers;
 use std::alloc::AllocError;
 use std::error::Error;
 use std::{fmt, io};
@@ -12,13 +13,27 @@ use xa_disk::{FileCall, FileFault};
 use xa_manager::ManagerFault;
 
 /// Why nothing was served, or not to the end. Its text is what `xarm` prints after its name.
-#[derive(Clone, Copy, Debug, Drop)]
+#[derive(Debug, Drop)]
 pub enum ServeFault<'a> {
     Memory,
     Write,
     Listen,
     Start,
     Wait,
+    Random,
+    /// The file of users says none.
+    Users {
+        path: &'a str,
+        fault: UnreadUsers,
+    },
+    /// Others than this machine reach the address, and nobody would have to log in.
+    Open {
+        address: &'a str,
+    },
+    /// There is no group of this name, which its Unix socket is to have.
+    Group {
+        name: &'a str,
+    },
     /// A server has the log, or a scan reads it.
     InUse,
     /// A file of the log couldn't be opened.
@@ -56,6 +71,13 @@ impl fmt::Display for ServeFault<'_> {
             ServeFault::Listen => f.write_str("cannot listen"),
             ServeFault::Start => f.write_str("cannot start loops"),
             ServeFault::Wait => f.write_str("cannot wait for connections"),
+            ServeFault::Random => f.write_str("no random bytes"),
+            ServeFault::Users { path, fault } => write!(f, "{path}: {fault}"),
+            ServeFault::Open { address } => write!(
+                f,
+                "{address} is not a loopback address, and nobody would have to log in: give --users PATH, or --open-to-all"
+            ),
+            ServeFault::Group { name } => write!(f, "there is no group {name}"),
             ServeFault::InUse => f.write_str("log in use"),
             ServeFault::File { file, fault } => write_unopened(f, file, fault),
             ServeFault::Absent(file) | ServeFault::Missing(file) => {
@@ -118,6 +140,7 @@ impl From<ServerFault> for ServeFault<'_> {
             ServerFault::Loops(_) => ServeFault::Start,
             ServerFault::Wait => ServeFault::Wait,
             ServerFault::Write => ServeFault::Write,
+            ServerFault::Random => ServeFault::Random,
         }
     }
 }

@@ -1,22 +1,27 @@
 //! A manager over two files, whose sessions are the connections of a port, a Unix socket or both, by event loops.
 ghost use Rattle.std.specs.Prelude.{◌≡◌, ◌↔◌, ◌&&◌, ◌||◌, ◌<◌, ◌⊎◌, IfErr, IfOk, IsErrOf, is_some, not};
-ghost use Rattle.xa_server.specs.Believed.Served.{AreLoops, HasFailed, HasServed, ServesAs, is_sound};
+ghost use Rattle.xa_server.specs.Believed.Served.{AreLoops, AreUsers, HasFailed, HasServed, IsGroupFault, IsOpenFault, IsUsersFault, ServesAs, is_sound};
+ghost use Rattle.std.specs.Option.{option_map};
 ghost use Rattle.xa_service.specs.declared.service.TheConstants.{MOST_LOOPS};
 
 use crate::audited::{Audited, audited_lines};
 use crate::engine::{Looped, loop_manager};
 use crate::fault::ServerFault;
 use crate::gate::OpenGate;
+use crate::group::group_number;
 use crate::history::{make_files, write_history};
 use crate::listening::Listening;
 use crate::listens::Listens;
 use crate::ready::{make_ready, tell_passed_over};
 use crate::serve_fault::ServeFault;
+use crate::socket_access::SocketAccess;
+use crate::users_file::read_users;
 use crate::workers::run_workers;
 use std::fs::Files;
 use std::io;
 use std::io::{Eprint, Print};
 use std::net::{IpAddr, Net};
+use std::random::RandomSource;
 use std::rt::Clock;
 use std::sync::Wait;
 use std::thread::{Threads, available_parallelism};
@@ -25,6 +30,7 @@ use xa_history::Receipt;
 use xa_manager::Manager;
 use xa_reactor::{Listener, Settings};
 use xa_service::{At, Service};
+use xa_users::Users;
 
 /// Opens the log's two files, listens, and opens the manager; then it serves by loops, until they end, and audits the history if
 /// that was asked for; it writes that, too, where a file is given. False where the audit found a fault, or where a server that is down was to end, and the manager is down
@@ -34,20 +40,34 @@ use xa_service::{At, Service};
 /// the manager isn't opened, so that nothing is written to either file.
 pub fn serve<
     'a,
-    R: AllocGlobal + Print + Eprint + Files + Opens + Listens + Clock + Net + Threads + Wait + Sync,
+    R: AllocGlobal
+        + Print
+        + Eprint
+        + Files
+        + Opens
+        + Listens
+        + Clock
+        + Net
+        + RandomSource
+        + Threads
+        + Wait
+        + Sync,
 >(rt: &R, service: &Service<'a>) -> Result<bool, ServeFault<'a>>
     ensures served { IfOk result (HasServed ⟦<R::Disk as Disk>⟧ R.opened R.Listens
         service.now) }
     ensures failed { IfErr result (HasFailed ⟦<R::Disk as Disk>⟧ R.opened R.refused R.Listens
         service.now) }
 {
-    warn(rt, service.at);
+    may_listen(rt, service)?;
+    let access = access_of(rt, service)?;
+    let users = users_of(rt, service.users)?;
     let mut left = None;
     let (listening, manager) = make_ready(
         rt,
         service.path,
         service.name,
         service.at,
+        access,
         service.log_bytes,
         &mut left,
     )?;
@@ -71,6 +91,7 @@ pub fn serve<
         rt,
         listener,
         manager,
+        users.as_ref(),
         loops,
         settings,
         service.audits,
@@ -91,29 +112,30 @@ pub fn serve<
 // Serves by loops, with an audit or without; then there is no history.
 fn serve_by<
     D: Disk + Drop + Send,
-    R: AllocGlobal + Clock + Print + Eprint + Net + Threads + Wait + Sync,
+    R: AllocGlobal + Clock + Print + Eprint + Net + RandomSource + Threads + Wait + Sync,
 >(
     rt: &R,
     listener: Listener,
     manager: Manager<D>,
+    users: Option<&Users>,
     loops: u64,
     settings: Settings,
     audits: bool,
 ) -> Result<(Looped, Option<Audited>, Vec<Receipt>), ServerFault>
-    ensures served { IfOk result (λ told. ServesAs D.Disk manager loops told.0 told.1) }
+    ensures served { IfOk result (λ told. ServesAs D.Disk manager (option_map (λ u. u.now) users.entry) loops told.0 told.1) }
     ensures audits { IfOk result (λ told. is_some told.1 ≡ audits) }
     ensures settings { IfOk result (λ told. told.0.settings ≡ settings) }
     ensures loops { IsErrOf result (ServerFault.Loops loops) ↔ ((loops ≡ 0) ⊎ (MOST_LOOPS < loops)) }
     ensures fault { IfErr result (λ fault. (fault ≡ ServerFault.Memory) ⊎ ((fault ≡ ServerFault.Wait)
-        ⊎ ((fault ≡ ServerFault.Write) ⊎ (fault ≡ ServerFault.Loops loops)))) }
+        ⊎ ((fault ≡ ServerFault.Write) ⊎ ((fault ≡ ServerFault.Random) ⊎ (fault ≡ ServerFault.Loops loops))))) }
 {
     if audits {
-        match run_workers(rt, listener, manager, &OpenGate, loops, settings) {
+        match run_workers(rt, listener, manager, &OpenGate, users, loops, settings) {
             Ok(done) => Ok((done.looped, Some(done.audited), done.history)),
             Err(fault) => Err(fault),
         }
     } else {
-        match loop_manager(rt, listener, manager, loops, settings) {
+        match loop_manager(rt, listener, manager, users, loops, settings) {
             Ok(told) => Ok((told, None, Vec::new(rt.alloc()))),
             Err(fault) => Err(fault),
         }
@@ -187,19 +209,66 @@ fn loops_of<R: Threads>(rt: &R, asked: u64) -> u64
     }
 }
 
-// Tells that whoever can connect may do anything, where others than this machine can.
-fn warn<R: Eprint>(rt: &R, at: At<'_>) {
-    let address = match at {
-        At::Port { address, .. } | At::Both { address, .. } => address,
-        At::Socket(_) => return,
+// Whether it may listen there. If nobody has to log in, and it isn't asked for that, only at an address of this machine, and then
+// it is told that whoever can connect may do anything.
+fn may_listen<'a, R: Eprint>(rt: &R, service: &Service<'a>) -> Result<(), ServeFault<'a>>
+    ensures { IfErr result IsOpenFault }
+{
+    let (At::Port { address, .. } | At::Both { address, .. }) = service.at else {
+        return Ok(());
     };
-    let is_own = match address.parse::<IpAddr>() {
+    if service.users.is_some() || service.opens_to_all {
+        return Ok(());
+    }
+    if !is_loopback(address) {
+        return Err(ServeFault::Open { address });
+    }
+    let _ = eprintln!(rt;
+        "xarm: warning: without --users, whoever can connect to {address} may do anything"
+    );
+    Ok(())
+}
+
+fn is_loopback(address: &str) -> bool {
+    match address.parse::<IpAddr>() {
         Ok(address) => address.is_loopback(),
         Err(_) => false,
+    }
+}
+
+// Who may connect to its Unix socket.
+fn access_of<'a, R: AllocGlobal + Files>(
+    rt: &R,
+    service: &Service<'a>,
+) -> Result<SocketAccess, ServeFault<'a>>
+    ensures { IfErr result IsGroupFault }
+{
+    let group = match service.socket_group {
+        Some(name) => match group_number(rt, name) {
+            Some(number) => Some(number),
+            None => return Err(ServeFault::Group { name }),
+        },
+        None => None,
     };
-    if !is_own {
-        let _ = eprintln!(rt;
-            "xarm: warning: there is no authentication, and {address} is not a loopback address"
-        );
+    Ok(SocketAccess {
+        mode: service.socket_mode,
+        group,
+    })
+}
+
+// Who may log in, if a file of users is named.
+fn users_of<'a, R: AllocGlobal + Files>(
+    rt: &R,
+    path: Option<&'a str>,
+) -> Result<Option<Users>, ServeFault<'a>>
+    ensures users { IfOk result (AreUsers (is_some path.entry)) }
+    ensures fault { IfErr result IsUsersFault }
+{
+    let Some(path) = path else {
+        return Ok(None);
+    };
+    match read_users(rt, path) {
+        Ok(users) => Ok(Some(users)),
+        Err(fault) => Err(ServeFault::Users { path, fault }),
     }
 }

@@ -1,5 +1,6 @@
 //! Loops whose history is kept, and audited at its end.
 ghost use Rattle.std.specs.Prelude.{◌≡◌, ◌↔◌, ◌<◌, ◌≤◌, ◌⊎◌, IfErr, IfOk, IsErrOf, false};
+ghost use Rattle.std.specs.Option.{option_map};
 ghost use Rattle.xa_model.specs.State.{State};
 ghost use Rattle.xa_sequencer.specs.Believed.GroupManager.{alone};
 ghost use Rattle.xa_server.specs.Believed.Audits.{ServesAudited};
@@ -14,6 +15,7 @@ use crate::report::Report;
 use std::io::{Eprint, Print};
 use std::marker::Brand;
 use std::net::Net;
+use std::random::RandomSource;
 use std::rt::Clock;
 use std::sync::Wait;
 use std::thread::Threads;
@@ -23,6 +25,7 @@ use xa_room::{AuditFault, Room, audit};
 use xa_sequencer::Manages;
 use xa_service::MOST_LOOPS;
 use xa_tokens::{Book, Opened};
+use xa_users::Users;
 
 /// What loops tell whose history was kept: what they tell otherwise, the receipts of what they were told, what the audit
 /// of these found, and the history: the receipt of each event at its place, but of those that found no memory.
@@ -39,27 +42,30 @@ pub struct Worked {
 pub fn run_workers<
     M: Manages + Send + Drop,
     G: Gate + Sync,
-    R: AllocGlobal + Clock + Print + Eprint + Net + Threads + Wait + Sync,
+    R: AllocGlobal + Clock + Print + Eprint + Net + RandomSource + Threads + Wait + Sync,
 >(
     rt: &R,
     listener: Listener,
     manager: M,
     gate: &G,
+    users: Option<&Users>,
     workers: u64,
     settings: Settings,
 ) -> Result<Worked, ServerFault>
     ensures served { IfOk result (λ done. ServesAudited M.manages (M.manages.stands (alone manager))
-        (M.manages.failures (alone manager)) workers done) }
+        (M.manages.failures (alone manager)) (option_map (λ u. u.now) users.entry) workers done) }
     ensures settings { IfOk result (λ done. done.looped.settings ≡ settings) }
     ensures loops { IsErrOf result (ServerFault.Loops workers) ↔ ((workers ≡ 0) ⊎ (MOST_LOOPS < workers)) }
     ensures fault { IfErr result (λ fault. (fault ≡ ServerFault.Memory) ⊎ ((fault ≡ ServerFault.Wait)
-        ⊎ ((fault ≡ ServerFault.Write) ⊎ (fault ≡ ServerFault.Loops workers)))) }
+        ⊎ ((fault ≡ ServerFault.Write) ⊎ ((fault ≡ ServerFault.Random) ⊎ (fault ≡ ServerFault.Loops workers))))) }
 {
     if workers == 0 || workers > MOST_LOOPS {
         return Err(ServerFault::Loops(workers));
     }
     let opened = Opened::new(rt.alloc())?;
-    work_by::<M, Brand, Brand, G, R>(rt, listener, manager, gate, opened, workers, settings)
+    work_by::<M, Brand, Brand, G, R>(
+        rt, listener, manager, gate, opened, users, workers, settings,
+    )
 }
 
 // The same from the states that `S` picks, with the history that `B` names.
@@ -68,13 +74,14 @@ fn work_by<
     S: Start + Send + Sync,
     B: Book + Send + Sync,
     G: Gate + Sync,
-    R: AllocGlobal + Clock + Print + Eprint + Net + Threads + Wait + Sync,
+    R: AllocGlobal + Clock + Print + Eprint + Net + RandomSource + Threads + Wait + Sync,
 >(
     rt: &R,
     listener: Listener,
     manager: M,
     gate: &G,
     opened: Opened,
+    users: Option<&Users>,
     workers: u64,
     settings: Settings,
 ) -> Result<Worked, ServerFault>
@@ -82,17 +89,17 @@ fn work_by<
     requires base { M.manages.failures (alone manager) ≡ S.base }
     requires name { opened ≡ B.table }
     requires loops { (0 < workers) × (workers ≤ MOST_LOOPS) }
-    ensures served { IfOk result (λ done. ServesAudited M.manages S.start S.base workers done) }
+    ensures served { IfOk result (λ done. ServesAudited M.manages S.start S.base (option_map (λ u. u.now) users.entry) workers done) }
     ensures settings { IfOk result (λ done. done.looped.settings ≡ settings) }
     ensures fault { IfErr result (λ fault. (fault ≡ ServerFault.Memory) ⊎ ((fault ≡ ServerFault.Wait)
-        ⊎ (fault ≡ ServerFault.Write))) }
+        ⊎ ((fault ≡ ServerFault.Write) ⊎ (fault ≡ ServerFault.Random)))) }
 {
     let alloc = rt.alloc();
     let room: Room<M, S> = Room::new(alloc, manager);
     let passed = passages(alloc)?;
     let keeper = Receipts::new(alloc, gate, &passed);
     let (looped, room, keeper) = loop_by::<Room<M, S>, S, B, R, Receipts<'_, G>>(
-        rt, listener, room, opened, workers, settings, keeper,
+        rt, listener, room, opened, users, workers, settings, keeper,
     )?;
     let report = keeper.into_report();
     let answer = audit(

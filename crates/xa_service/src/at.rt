@@ -6,7 +6,7 @@ pub enum At<'a> {
         address: &'a str,
         port: u16,
     },
-    /// At a path, by a Unix socket of its owner's alone.
+    /// At a path, by a Unix socket.
     Socket(&'a str),
     /// At both.
     Both {

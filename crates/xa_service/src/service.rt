@@ -36,4 +36,12 @@ pub struct Service<'a> {
     pub audits: bool,
     /// The file to which the history is written at the end, if it is audited; the replies go to the one with `.out` after it.
     pub history: Option<&'a str>,
+    /// The file that says who may log in, and with which role; None if whoever connects may ask everything.
+    pub users: Option<&'a str>,
+    /// Whether it may listen at an address that others than this machine reach, though nobody has to log in.
+    pub opens_to_all: bool,
+    /// The permissions of its Unix socket, as `chmod` has them, at most 0o777.
+    pub socket_mode: u32,
+    /// The group of its Unix socket, by its name or number; None for its owner's own.
+    pub socket_group: Option<&'a str>,
 }

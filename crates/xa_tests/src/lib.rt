@@ -6,6 +6,7 @@
 //! - `chains`, `versions`: one key's versions, and all keys'
 //! - `connections`: one connection whose reader or writer breaks; `doors`: what it is served by
 //! - `ticks`: a clock that can't be read
+//! - `logins`: a client logs in, or doesn't, over a reader and a writer
 //! - `scram`: exchanges of SCRAM-SHA-256, and rows of the RFCs that it stands on
 //! - `users`: documents of users, their faults, and logins
 //! - `rows`: `none_wrong`

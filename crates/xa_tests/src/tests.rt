@@ -1,6 +1,7 @@
 mod chains;
 mod connections;
 mod faults;
+mod logins;
 mod record_limits;
 mod records;
 mod rows;

@@ -1,26 +1,21 @@
 -- Commands that are built argument by argument.
 use Rattle.std.proofs.Common.{◌≡◌, ◌∙◌, ◌||◌, ap, ap₂, refl, subst, Bool, Result, Ok, Err, IfOk}
-use Rattle.clap.specs.Built.{AddsArg, AddsSubcommand}
-use Rattle.clap.specs.Simple.{App, Shape, new_app, with_rule, with_subcommand}
+use Rattle.clap.specs.Built.{AddsArg}
+use Rattle.clap.specs.Simple.{App, Shape, new_app, with_rule}
 use Rattle.clap.specs.Walk.{Rule}
 use Rattle.clap.specs.declared.builder.arg.Arg.{Arg}
 use Rattle.clap.specs.declared.builder.command.Command.{Command}
-use Rattle.xa_words.specs.Line.{HasRule, HasShape, IsApp, direction_rule, format_rule, host_rule, play_name_rule, port_rule, print_script_rule, seconds_rule, session_rule, socket_rule, verb_shape, with_given, xid_rule, yes_rule}
+use Rattle.xa_words.specs.Line.{HasRule, HasShape, IsApp, direction_rule, format_rule, play_name_rule, print_script_rule, reach_rules}
+use Rattle.xa_words.specs.Line.{seconds_rule, session_rule, verb_shape, with_given, with_rules, xid_rule, yes_rule}
 use Rattle.xa_words.specs.Verbs.{decides, lists, names_branch, names_direction, names_session, opens_session, verb_text}
 use Rattle.xa_words.specs.declared.verb.Verb.{Verb}
-use Rattle.xa_words.specs.declared.verb.Verb.TheVariants.{Status, Branches, Recover, Commit, Rollback, Forget, Decide, Doom, Disconnect, Trim, Restart, RollbackMarked}
+use Rattle.xa_words.specs.declared.verb.Verb.TheVariants.{Status, Branches, Recover, Commit, Rollback, Forget, Decide, Doom, Disconnect}
+use Rattle.xa_words.specs.declared.verb.Verb.TheVariants.{Trim, Restart, RollbackMarked}
 
 pub adds_rule : (old : Command) (arg : Arg) (new : Command) (app : App) (rule : Rule) → IsApp app old → HasRule rule arg
     → AddsArg old arg new → IsApp (with_rule app rule) new
 adds_rule old arg new app rule builds has adds = record {
   app_is = adds.shape has.local ∙ ap₂ with_rule builds.app_is has.rule_is;
-  local = adds.globals ∙ ap₂ (λ a b. a || b) builds.local has.local;
-}
-
-pub adds_command : (old sub new : Command) (app : App) (shape : Shape) → IsApp app old → HasShape shape sub
-    → AddsSubcommand old sub new → IsApp (with_subcommand app shape) new
-adds_command old sub new app shape builds has adds = record {
-  app_is = adds.shape has.local ∙ ap₂ with_subcommand builds.app_is has.shape_is;
   local = adds.globals ∙ ap₂ (λ a b. a || b) builds.local has.local;
 }
 
@@ -35,11 +30,6 @@ pub last_rule : {E : Type 0} (old : Command) (arg : Arg) (r : Result Command E) 
     → HasRule rule arg → IfOk r (AddsArg old arg) → IfOk r (HasShape (with_rule app rule).top)
 last_rule old arg (Ok new) app rule builds has adds = has_shape (with_rule app rule) new (adds_rule old arg new app rule builds has adds)
 last_rule old arg (Err e) app rule builds has adds = tt
-
-pub last_command : {E : Type 0} (old sub : Command) (r : Result Command E) (app : App) (shape : Shape) → IsApp app old
-    → HasShape shape sub → IfOk r (AddsSubcommand old sub) → IfOk r (IsApp (with_subcommand app shape))
-last_command old sub (Ok new) app shape builds has adds = adds_command old sub new app shape builds has adds
-last_command old sub (Err e) app shape builds has adds = tt
 
 -- an argument that is given or isn't
 pub gives_rule : {E : Type 0} (old : Command) (arg : Arg) (r : Result Command E) (app : App) (rule : Rule) → IsApp app old
@@ -64,9 +54,10 @@ shaped (Err e) app shape same builds = tt
 -- a verb's command, argument by argument
 abbrev pub built_app : Verb → App
 built_app verb =
-    with_given (decides verb) yes_rule (with_rule (with_given (lists verb) format_rule (with_rule (with_given (opens_session verb) play_name_rule
-    (with_rule (with_rule (with_rule (with_given (names_session verb) session_rule (with_given (names_branch verb) xid_rule (with_given (names_direction verb) direction_rule (new_app (verb_text verb)))))
-    port_rule) host_rule) socket_rule)) seconds_rule)) print_script_rule)
+    with_given (decides verb) yes_rule
+    (with_rule (with_given (lists verb) format_rule (with_rule (with_given (opens_session verb) play_name_rule
+    (with_rules (with_given (names_session verb) session_rule (with_given (names_branch verb) xid_rule (with_given (names_direction verb) direction_rule (new_app (verb_text verb)))))
+    reach_rules)) seconds_rule)) print_script_rule)
 
 pub built_shape : (verb : Verb) → (built_app verb).top ≡ verb_shape verb
 built_shape Status = refl

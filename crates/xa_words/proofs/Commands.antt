@@ -164,7 +164,7 @@ answers_to_help word e = go (bytes_eq (codes "help") word) refl e
 
 are_ours : AreOurs (built xarm).subs
 are_ours =
-    (inl (inl (inl refl)), (inl (inl (inr (inl refl))), (inl (inl (inr (inr (inl refl)))), (inl (inl (inr (inr (inr (inl refl))))), (inl (inl (inr (inr (inr (inr (inl refl)))))), (inl (inl (inr (inr (inr (inr (inr (inl refl))))))), (inl (inl (inr (inr (inr (inr (inr (inr (inl refl)))))))), (inl (inl (inr (inr (inr (inr (inr (inr (inr refl)))))))), (inl (inr refl), (inl (inr refl), (inl (inr refl), (inl (inr refl), (inl (inr refl), (inl (inr refl), (inl (inr refl), (inl (inr refl), (inl (inr refl), (inl (inr refl), (inl (inr refl), (inl (inr refl), (inr answers_to_help, tt)))))))))))))))))))))
+    (inl (inl (inl refl)), (inl (inl (inr (inl refl))), (inl (inl (inr (inr (inl refl)))), (inl (inl (inr (inr (inr (inl refl))))), (inl (inl (inr (inr (inr (inr (inl refl)))))), (inl (inl (inr (inr (inr (inr (inr (inl refl))))))), (inl (inl (inr (inr (inr (inr (inr (inr (inl refl)))))))), (inl (inl (inr (inr (inr (inr (inr (inr (inr (inl refl))))))))), (inl (inl (inr (inr (inr (inr (inr (inr (inr (inr refl))))))))), (inl (inr refl), (inl (inr refl), (inl (inr refl), (inl (inr refl), (inl (inr refl), (inl (inr refl), (inl (inr refl), (inl (inr refl), (inl (inr refl), (inl (inr refl), (inl (inr refl), (inl (inr refl), (inr answers_to_help, tt))))))))))))))))))))))
 
 enters_command : (stop : Option (Text × List Text)) → StopsAtNoHelp stop → is_some (entered (built xarm) stop) ≡ true
     → IsSomeAnd (entered (built xarm) stop) (λ found. IsCommand found.0)

@@ -2,7 +2,8 @@
 use Rattle.std.proofs.Common.{true, false, Some, refl, codes}
 use Rattle.clap.specs.Walk.{walked}
 use Rattle.xa_words.specs.Rows.{IsSet}
-use Rattle.xa_words.specs.Worked.{ByItself, CountedTwice, WithAudit, WithHistory, WithWorkers, WorkersAndMore}
+use Rattle.xa_words.specs.Worked.{AddsUser, ByItself, CountedTwice, LetsIn, LogsIn, ModesAreRead, WithAudit, WithHistory, WithWorkers}
+use Rattle.xa_words.specs.Worked.{WorkersAndMore}
 
 unset : IsSet (Some (codes "false")) false
 unset = record { absent = λ e. refl; set = λ e. absurd (cc e); unset = λ e. refl }
@@ -29,6 +30,21 @@ with_workers = (refl, refl, (false, unset, refl))
 pub workers_and_more : WorkersAndMore
 unfolding walked
 workers_and_more = (refl, refl, (false, unset, refl))
+
+pub lets_in : LetsIn
+unfolding walked
+lets_in = ((refl, unset, refl, refl), (refl, set, refl, refl))
+
+pub adds_user : AddsUser
+unfolding walked
+adds_user = (refl, refl, refl, refl, refl)
+
+pub logs_in : LogsIn
+unfolding walked
+logs_in = (refl, refl)
+
+pub modes_are_read : ModesAreRead
+modes_are_read = (refl, refl)
 
 pub counted_twice : CountedTwice
 unfolding walked

@@ -3,6 +3,8 @@ pub mod Verbs
 pub mod Line
 pub mod Orders
 pub mod Given
+pub mod Logins
+pub mod Modes
 pub mod Serving
 pub mod Asks
 pub mod Terminals

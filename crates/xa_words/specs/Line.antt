@@ -1,6 +1,6 @@
 -- The command line of the program, as `clap` reads it: its commands, and the arguments of each. Texts for help aren't read.
-use Rattle.std.specs.Prelude.{◌≡◌, ℕ, Bool, List, [], ◌∷◌, ◌++◌, Some, true, false, codes}
-use Rattle.clap.specs.Simple.{App, Shape, app_of, new_app, new_rule, shape_of, with_rule}
+use Rattle.std.specs.Prelude.{◌≡◌, ℕ, Bool, List, [], ◌∷◌, ◌++◌, Some, true, false, codes, fold}
+use Rattle.clap.specs.Simple.{App, Shape, app_of, new_app, new_rule, shape_of, with_rule, with_subcommand}
 use Rattle.clap.specs.Walk.{Rule, Text, rule_of}
 use Rattle.clap.specs.declared.builder.action.ArgAction.TheVariants.{Set, SetTrue}
 use Rattle.clap.specs.declared.builder.arg.Arg.{Arg}
@@ -109,6 +109,39 @@ exit_when_down_rule = flag (codes "exit-when-down")
 abbrev pub accept_damage_rule : Rule
 accept_damage_rule = flag (codes "accept-damage")
 
+-- who may log in, and whether a server listens to all though nobody has to
+abbrev pub users_rule : Rule
+users_rule = option (codes "users")
+
+abbrev pub open_to_all_rule : Rule
+open_to_all_rule = flag (codes "open-to-all")
+
+abbrev pub socket_mode_rule : Rule
+socket_mode_rule = defaulting (codes "0600") (option (codes "socket-mode"))
+
+abbrev pub socket_group_rule : Rule
+socket_group_rule = option (codes "socket-group")
+
+-- who logs in
+abbrev pub user_rule : Rule
+user_rule = option (codes "user")
+
+-- what becomes of which user, in which file
+abbrev pub action_rule : Rule
+action_rule = required (positional (codes "action"))
+
+abbrev pub user_name_rule : Rule
+user_name_rule = required (positional (codes "name"))
+
+abbrev pub role_rule : Rule
+role_rule = required (option (codes "role"))
+
+abbrev pub to_users_rule : Rule
+to_users_rule = required (option (codes "users"))
+
+abbrev pub password_file_rule : Rule
+password_file_rule = option (codes "password-file")
+
 abbrev pub every_rule : Rule
 every_rule = defaulting (codes "1") (number 1 MOST_EVERY (option (codes "every")))
 
@@ -169,24 +202,48 @@ play_shape = command_of (codes "play") (play_name_rule ∷ log_bytes_rule ∷ []
 abbrev pub scan_shape : Shape
 scan_shape = command_of (codes "scan") (path_rule ∷ format_rule ∷ [])
 
+-- of a server: what is served, and on which port
+abbrev pub served_rules : List Rule
+served_rules = log_rule ∷ name_rule ∷ port_rule ∷ serve_log_bytes_rule ∷ []
+
+-- by how many loops, for how many connections, and whether that is audited
+abbrev pub loop_rules : List Rule
+loop_rules = workers_rule ∷ audit_rule ∷ connections_rule ∷ loops_rule ∷ []
+
+-- where it listens, apart from the port
+abbrev pub place_rules : List Rule
+place_rules = listen_rule ∷ socket_rule ∷ socket_mode_rule ∷ socket_group_rule ∷ []
+
+-- who has to log in
+abbrev pub login_rules : List Rule
+login_rules = users_rule ∷ open_to_all_rule ∷ []
+
+-- for how long a connection may be quiet
+abbrev pub quiet_rules : List Rule
+quiet_rules = frame_seconds_rule ∷ idle_seconds_rule ∷ branch_seconds_rule ∷ []
+
+-- what it does of its own accord, and when it ends
+abbrev pub upkeep_rules : List Rule
+upkeep_rules = trim_rule ∷ tick_rule ∷ exit_when_down_rule ∷ audit_out_rule ∷ accept_damage_rule ∷ []
+
 abbrev pub serve_shape : Shape
-serve_shape =
-    command_of (codes "serve")
-    (log_rule ∷ name_rule ∷ port_rule ∷ serve_log_bytes_rule ∷ workers_rule ∷ audit_rule ∷ connections_rule ∷ loops_rule
-    ∷ listen_rule ∷ socket_rule ∷ frame_seconds_rule ∷ idle_seconds_rule ∷ branch_seconds_rule ∷ trim_rule ∷ tick_rule
-    ∷ exit_when_down_rule ∷ audit_out_rule ∷ accept_damage_rule
-    ∷ [])
+serve_shape = command_of (codes "serve") (served_rules ++ loop_rules ++ place_rules ++ login_rules ++ quiet_rules ++ upkeep_rules)
+
+-- how a server is reached, and who logs in to it
+abbrev pub reach_rules : List Rule
+reach_rules = port_rule ∷ host_rule ∷ socket_rule ∷ user_rule ∷ []
 
 abbrev pub shutdown_shape : Shape
-shutdown_shape = command_of (codes "shutdown") (port_rule ∷ host_rule ∷ socket_rule ∷ [])
+shutdown_shape = command_of (codes "shutdown") reach_rules
 
 abbrev pub talk_shape : Shape
-talk_shape =
-    command_of (codes "talk")
-    (port_rule ∷ host_rule ∷ socket_rule ∷ names_rule ∷ text_rule ∷ strict_rule ∷ talk_seconds_rule ∷ [])
+talk_shape = command_of (codes "talk") (reach_rules ++ names_rule ∷ text_rule ∷ strict_rule ∷ talk_seconds_rule ∷ [])
 
 abbrev pub tick_shape : Shape
-tick_shape = command_of (codes "tick") (port_rule ∷ host_rule ∷ socket_rule ∷ every_rule ∷ [])
+tick_shape = command_of (codes "tick") (reach_rules ++ every_rule ∷ [])
+
+abbrev pub user_shape : Shape
+user_shape = command_of (codes "user") (action_rule ∷ user_name_rule ∷ role_rule ∷ to_users_rule ∷ password_file_rule ∷ [])
 
 -- an argument that a command has, or hasn't
 abbrev pub given : Bool → Rule → List Rule
@@ -202,7 +259,7 @@ abbrev pub verb_shape : Verb → Shape
 verb_shape verb =
     command_of (verb_text verb)
     (given (names_direction verb) direction_rule ++ given (names_branch verb) xid_rule
-    ++ given (names_session verb) session_rule ++ (port_rule ∷ host_rule ∷ socket_rule ∷ []) ++ given (opens_session verb) play_name_rule ++ (seconds_rule ∷ [])
+    ++ given (names_session verb) session_rule ++ reach_rules ++ given (opens_session verb) play_name_rule ++ (seconds_rule ∷ [])
     ++ given (lists verb) format_rule ++ (print_script_rule ∷ []) ++ given (decides verb) yes_rule)
 
 -- the command line without its commands: its version
@@ -215,10 +272,13 @@ with_shapes shapes = record {
   subs = shapes;
 }
 
--- those that ask a server nothing, or more than one thing
-abbrev pub other_shapes : List Shape
-other_shapes =
-    check_shape ∷ copy_shape ∷ play_shape ∷ scan_shape ∷ serve_shape ∷ shutdown_shape ∷ talk_shape ∷ tick_shape ∷ []
+-- those that ask no server
+abbrev pub file_shapes : List Shape
+file_shapes = check_shape ∷ copy_shape ∷ play_shape ∷ scan_shape ∷ user_shape ∷ []
+
+-- those that are a server, or ask one more than one thing
+abbrev pub server_shapes : List Shape
+server_shapes = serve_shape ∷ shutdown_shape ∷ talk_shape ∷ tick_shape ∷ []
 
 -- those that ask a server how things are, and those that have it do something
 abbrev pub question_shapes : List Shape
@@ -231,18 +291,9 @@ branch_order_shapes =
 abbrev pub order_shapes : List Shape
 order_shapes = verb_shape Disconnect ∷ verb_shape Trim ∷ verb_shape Restart ∷ verb_shape RollbackMarked ∷ []
 
-abbrev pub others : App
-others = with_shapes other_shapes
-
-abbrev pub asking : App
-asking = with_shapes (other_shapes ++ question_shapes)
-
-abbrev pub deciding : App
-deciding = with_shapes (other_shapes ++ question_shapes ++ branch_order_shapes)
-
 -- the whole command line: its commands, and its version
 abbrev pub xarm : App
-xarm = with_shapes (other_shapes ++ question_shapes ++ branch_order_shapes ++ order_shapes)
+xarm = with_shapes (file_shapes ++ server_shapes ++ question_shapes ++ branch_order_shapes ++ order_shapes)
 
 -- ---- what is built
 
@@ -260,3 +311,10 @@ pub record HasShape (shape : Shape) (command : Command) : Type 0 where
 pub record IsApp (app : App) (command : Command) : Type 0 where
   pub app_is : app_of command ≡ app
   pub local : (fields_of command).has_globals ≡ false
+
+-- a command with these arguments more, and with these commands
+abbrev pub with_rules : App → List Rule → App
+with_rules app rules = fold with_rule app rules
+
+abbrev pub with_commands : App → List Shape → App
+with_commands app shapes = fold with_subcommand app shapes

@@ -9,7 +9,9 @@ use Rattle.clap.specs.Simple.{subcommand_of}
 use Rattle.clap.specs.Walk.{Text}
 use Rattle.clap.specs.declared.error.kind.ErrorKind.{ErrorKind}
 use Rattle.clap.specs.declared.error.kind.ErrorKind.TheVariants.{OutOfMemory, DisplayHelp, DisplayVersion}
-use Rattle.xa_commands.specs.Done.{Checked, HasConfirmed, HasOperated, HasPlayed, HasShown, HasTalked, HasTicked, Scanned, checked_status, scan_format}
+use Rattle.xa_commands.specs.Done.{Checked, HasConfirmed, HasOperated, HasPlayed, HasShown, HasTalked, HasTicked, Scanned, checked_status}
+use Rattle.xa_commands.specs.Done.{scan_format}
+use Rattle.xa_commands.specs.Enrolled.{HasAdded}
 use Rattle.xa_commands.specs.declared.checking_fault.CheckingFault.{CheckingFault}
 use Rattle.xa_commands.specs.declared.scanning_fault.ScanningFault.{ScanningFault}
 use Rattle.xa_commands.specs.declared.server.Reach.{Reach}
@@ -20,17 +22,17 @@ use Rattle.xa_operate.specs.declared.fault.OperateFault.{OperateFault}
 use Rattle.xa_operate.specs.declared.format.Format.{Format}
 use Rattle.xa_operate.specs.declared.task.Task.{Task}
 use Rattle.xa_script.specs.Requests.{is_name}
+use Rattle.xa_script.specs.declared.style.Style.{Style}
 use Rattle.xa_play.specs.declared.fault.PlayFault.{PlayFault}
 use Rattle.xa_play.specs.declared.fault.PlayFault.TheVariants as play
 use Rattle.xa_talk.specs.Shutdowns.{ShutsDown}
-use Rattle.xa_talk.specs.declared.fault.TalkFault.{TalkFault}
-use Rattle.xa_talk.specs.declared.shutdown_fault.ShutdownFault.{ShutdownFault}
-use Rattle.xa_talk.specs.declared.tick_fault.TickFault.{TickFault}
+use Rattle.xa_talk.specs.declared.manner.Manner.{Manner}
 use Rattle.xa_words.specs.Asks.{AsksOf}
 use Rattle.xa_words.specs.Line.{xarm}
 use Rattle.xa_words.specs.Terminals.{are_both}
 use Rattle.xa_words.specs.declared.asked.Asked.{Asked}
-use Rattle.xa_words.specs.declared.asked.Asked.TheVariants.{Play, Scan, Check, Copy, Serve, Talk, Tick, Shutdown, Operate, Script, Unconfirmed, Malformed, Conflict, Nowhere}
+use Rattle.xa_words.specs.declared.asked.Asked.TheVariants.{Play, Scan, Check, Copy, AddUser, Serve, Talk, Tick, Shutdown, Operate}
+use Rattle.xa_words.specs.declared.asked.Asked.TheVariants.{Script, Unconfirmed, Malformed, Conflict, Nowhere}
 use Rattle.xa_words.specs.declared.ran.Ran.{Ran}
 use Rattle.xa_words.specs.declared.ran.Ran.TheVariants.{Ended, Serves}
 use Rattle.xa_words.specs.declared.terminals.Terminals.{Terminals}
@@ -48,10 +50,22 @@ IsRefusal DisplayHelp status = (status ≡ 0) ⊎ (status ≡ 1)
 IsRefusal DisplayVersion status = (status ≡ 0) ⊎ (status ≡ 1)
 IsRefusal kind status = status ≡ 2
 
+-- some end, of which this holds, is told by its status
+abbrev pub EndsAs : {E : Type 0} → (Result (Unit {0}) E → Type 0) → ℕ → Type 0
+EndsAs {E} holds status = (end : Result (Unit {0}) E) × holds end × (status ≡ status_of end)
+
+-- the same of a task
+abbrev pub EndsAsTask : (Result (Unit {0}) OperateFault → Type 0) → ℕ → Type 0
+EndsAsTask holds status = (end : Result (Unit {0}) OperateFault) × holds end × (status ≡ operate.status_of end)
+
+-- in which manner a server is talked to: where somebody types, and sees what is asked, each line is asked for
+abbrev pub manner_of : Style → Bool → Terminals → Manner
+manner_of style strict terminals = record { style = style; is_strict = strict; is_typed = are_both terminals }
+
 -- a resource manager is named as scripts can
 abbrev pub NamesWell : Asked → Type 0
-NamesWell (Operate reach seconds format name task) = is_name name.now ≡ true
-NamesWell (Unconfirmed reach seconds format name task about) = is_name name.now ≡ true
+NamesWell (Operate reach user seconds format name task) = is_name name.now ≡ true
+NamesWell (Unconfirmed reach user seconds format name task about) = is_name name.now ≡ true
 NamesWell _ = Unit {0}
 
 -- a script was played under this name, with files of this size
@@ -61,9 +75,10 @@ pub record IsPlayed {I X : Type 0} (remaining : I → Option Text) (name : Text)
   pub bad : IsBadSetting name log_bytes → IsErrOf end play.Setting ⊎ IsErrOf end play.Memory
   pub played : IsErrOf end play.Memory ⊎ HasPlayed remaining name log_bytes end
 
--- by which streams are terminals, and what the runtime's readers, disks, connections and clocks are
-module _ {I D C : Type 0} (terminals : Terminals) (T : Type 0) (remaining : I → Option Text) (honest : Type 0) (seen : D → Text)
-    (opened : D → Text → Type 0) (refused : Text → FileFault → Type 0) (sent left : C → Option Text) where
+-- by which streams are terminals, and what the runtime's readers, disks, files, connections and clocks are
+module _ {I D F C : Type 0} (terminals : Terminals) (T : Type 0) (remaining : I → Option Text) (honest : Type 0) (seen : D → Text)
+    (opened : D → Text → Type 0) (refused : Text → FileFault → Type 0) (contents : F → Option Text)
+    (sent left : C → Option Text) where
   -- What can't be taken back wasn't confirmed by the words: where nobody types, it is told what would be done; where
   -- somebody does, it is done once he has said yes, if it is known where.
   abbrev pub HasAsked : Option Reach → Format → Text → Task → ℕ → Type 0
@@ -71,8 +86,7 @@ module _ {I D C : Type 0} (terminals : Terminals) (T : Type 0) (remaining : I �
       ((terminals.input ≡ false) × (status ≡ 2))
       ⊎ (((reach ≡ None) × (status ≡ 2))
       ⊎ ((terminals.input ≡ true) × IsSome reach
-      × ((end : Result (Unit {0}) OperateFault) × HasConfirmed format task remaining sent left name end
-      × (status ≡ operate.status_of end))))
+      × EndsAsTask (HasConfirmed format task remaining sent left name) status))
 
   -- The command that was asked for was done, and that end's status is told; a server is handed on, unless it was to open
   -- what stands of a damaged log, and that failed.
@@ -86,20 +100,19 @@ module _ {I D C : Type 0} (terminals : Terminals) (T : Type 0) (remaining : I �
       (end : Result Bool CheckingFault) × Checked honest seen opened refused path.now log_bytes end
       × (exit_status code ≡ checked_status end)
   HasDone (Copy path to log_bytes follows) (Ended code) = (exit_status code ≡ 0) ⊎ (exit_status code ≡ 1)
-  HasDone (Talk reach seconds style strict) (Ended code) =
-      (end : Result (Unit {0}) TalkFault) × (typed : Bool) × (typed ≡ are_both terminals)
-      × HasTalked (record { style = style; is_strict = strict; is_typed = typed }) remaining sent left end
-      × (exit_status code ≡ status_of end)
-  HasDone (Tick reach every) (Ended code) =
-      (end : Result (Unit {0}) TickFault) × HasTicked T sent left end × (exit_status code ≡ status_of end)
-  HasDone (Shutdown reach) (Ended code) =
-      (end : Result (Unit {0}) ShutdownFault) × ShutsDown sent left end × (exit_status code ≡ status_of end)
-  HasDone (Operate reach seconds format name task) (Ended code) =
-      (end : Result (Unit {0}) OperateFault) × HasOperated format task sent left name.now end
-      × (exit_status code ≡ operate.status_of end)
+  HasDone (AddUser path name role secret) (Ended code) =
+      ((exit_status code ≡ 0) × HasAdded contents name.now role) ⊎ (exit_status code ≡ 1)
+  HasDone (Talk reach user seconds style strict) (Ended code) =
+      EndsAs (HasTalked (manner_of style strict terminals) remaining sent left) (exit_status code)
+  HasDone (Tick reach user every) (Ended code) =
+      EndsAs (HasTicked T sent left) (exit_status code)
+  HasDone (Shutdown reach user) (Ended code) =
+      EndsAs (ShutsDown sent left) (exit_status code)
+  HasDone (Operate reach user seconds format name task) (Ended code) =
+      EndsAsTask (HasOperated format task sent left name.now) (exit_status code)
   HasDone (Script name task) (Ended code) =
-      (end : Result (Unit {0}) OperateFault) × HasShown name.now task end × (exit_status code ≡ operate.status_of end)
-  HasDone (Unconfirmed reach seconds format name task about) (Ended code) =
+      EndsAsTask (HasShown name.now task) (exit_status code)
+  HasDone (Unconfirmed reach user seconds format name task about) (Ended code) =
       HasAsked reach format name.now task (exit_status code)
   HasDone (Malformed what) (Ended code) = exit_status code ≡ 2
   HasDone Conflict (Ended code) = exit_status code ≡ 2

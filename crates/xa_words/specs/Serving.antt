@@ -8,6 +8,7 @@ use Rattle.xa_service.specs.declared.at.At.TheVariants as at
 use Rattle.xa_service.specs.declared.service.Service.{Service}
 use Rattle.xa_service.specs.declared.service.TheConstants.{MOST_SERVED}
 use Rattle.xa_words.specs.Given.{is_given}
+use Rattle.xa_words.specs.Modes.{mode_of}
 use Rattle.xa_words.specs.Rows.{IsPort, IsSet, most_16, most_64, number_in, text_in}
 
 -- the number of workers, 0 where none is given
@@ -55,6 +56,10 @@ IsAtIn rows (Some (at.Both address port path)) =
     × (address.now ≡ text_in rows (codes "listen") (codes "127.0.0.1"))
 IsAtIn rows None = IsPort rows 0
 
+-- the permissions of its Unix socket; None where the word spells none
+abbrev pub mode_in : List Row → Option ℕ
+mode_in rows = mode_of (text_in rows (codes "socket-mode") (codes "0600"))
+
 -- each field of what is to be served is that of its own argument
 pub record IsServiceIn (rows : List Row) (service : Service) : Type 0 where
   pub path : service.path.now ≡ text_in rows (codes "log") []
@@ -71,3 +76,7 @@ pub record IsServiceIn (rows : List Row) (service : Service) : Type 0 where
   pub ends_when_down : IsSet (one_of (codes "exit-when-down") rows) service.ends_when_down
   pub audits : IsAudited rows service.audits
   pub history : option_map (λ path. path.now) service.history ≡ first_of (codes "audit-out") rows
+  pub users : option_map (λ path. path.now) service.users ≡ first_of (codes "users") rows
+  pub opens_to_all : IsSet (one_of (codes "open-to-all") rows) service.opens_to_all
+  pub socket_mode : mode_in rows ≡ Some service.socket_mode
+  pub socket_group : option_map (λ group. group.now) service.socket_group ≡ first_of (codes "socket-group") rows

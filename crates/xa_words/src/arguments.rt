@@ -231,7 +231,7 @@ pub fn listen<'a>(alloc: Global) -> Arg<'a>
         .long("listen")
         .value_name("ADDR")
         .help(
-            "The address to listen on. There is no authentication: whoever reaches it can do anything",
+            "The address to listen on. One that other machines may reach needs --users or --open-to-all",
         )
         .action(ArgAction::Set)
         .default_value("127.0.0.1")
@@ -355,7 +355,7 @@ pub fn socket<'a>(alloc: Global) -> Arg<'a>
     Arg::new(alloc, "socket")
         .long("socket")
         .value_name("PATH")
-        .help("A Unix socket to use instead of the port; only its owner and root can connect")
+        .help("A Unix socket to use instead of the port")
         .action(ArgAction::Set)
 }
 
@@ -366,7 +366,7 @@ pub fn serve_socket<'a>(alloc: Global) -> Arg<'a>
         .long("socket")
         .value_name("PATH")
         .help(
-            "A Unix socket to use beside the port, or instead of it; only its owner and root can connect. The last 4 of 1023 connections are for it, or without it for loopback addresses",
+            "A Unix socket to use beside the port, or instead of it. The last 4 of 1023 connections are for it, or without it for loopback addresses",
         )
         .action(ArgAction::Set)
 }

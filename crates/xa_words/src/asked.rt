@@ -1,6 +1,7 @@
 use crate::malformed::Malformed;
 use xa_commands::Reach;
 use xa_operate::{Format, Task};
+use xa_roles::Role;
 use xa_script::Style;
 use xa_service::Service;
 
@@ -32,8 +33,19 @@ pub enum Asked<'a> {
         /// Whether the copy goes on with what the server appends.
         follows: bool,
     },
+    /// A user is to be added to those who may log in.
+    AddUser {
+        /// Of the file that says them.
+        path: &'a str,
+        name: &'a str,
+        role: Role,
+        /// The file whose first line is the secret; None for standard input.
+        secret: Option<&'a str>,
+    },
     Talk {
         reach: Reach<'a>,
+        /// Under which name each connection is logged in, if it is.
+        user: Option<&'a str>,
         /// How many seconds an answer may be waited for: 0 for no end.
         seconds: u64,
         style: Style,
@@ -42,11 +54,13 @@ pub enum Asked<'a> {
     },
     Tick {
         reach: Reach<'a>,
+        user: Option<&'a str>,
         /// How many seconds there are from one moment to the next.
         every: u64,
     },
     Shutdown {
         reach: Reach<'a>,
+        user: Option<&'a str>,
     },
     Serve {
         service: Service<'a>,
@@ -56,6 +70,7 @@ pub enum Asked<'a> {
     /// A server is to be asked a task.
     Operate {
         reach: Reach<'a>,
+        user: Option<&'a str>,
         /// How many seconds an answer may be waited for.
         seconds: u64,
         format: Format,
@@ -72,6 +87,7 @@ pub enum Asked<'a> {
     Unconfirmed {
         /// None where neither a port nor a path was given.
         reach: Option<Reach<'a>>,
+        user: Option<&'a str>,
         seconds: u64,
         format: Format,
         name: &'a str,

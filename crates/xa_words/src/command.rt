@@ -1,14 +1,16 @@
 //! What is done of a command line.
 ghost use Rattle.std.specs.IoError.{error_kind};
-ghost use Rattle.std.specs.Prelude.{◌≡◌, IfErr, IfOk, IfSome, map, string_bytes, true};
+ghost use Rattle.std.specs.Prelude.{◌≡◌, ◌⊎◌, IfErr, IfOk, IfSome, map, string_bytes, true};
 ghost use Rattle.std.specs.Process.{exit_status};
 ghost use Rattle.clap.specs.Values.{kind_of};
 ghost use Rattle.xa_operate.specs.Courses.{status_of};
 ghost use Rattle.xa_words.specs.Runs.{HasDone, HasRun, IsRefusal, IsUnread, NamesWell};
+ghost use Rattle.xa_commands.specs.Enrolled.{HasAdded};
 ghost use Rattle.xa_commands.specs.declared.ticking.Watch.{Watch};
 ghost use Rattle.xa_talk.specs.declared.dial.Connection.{Connection};
 
 use crate::asked::Asked;
+use crate::asking::{confirmed, shut_down, talked, tasked, ticked};
 use crate::malformed::Malformed;
 use crate::ran::Ran;
 use crate::terminals::Terminals;
@@ -19,18 +21,19 @@ use std::fs::Files;
 use std::io::{Read, Write};
 use std::net::{Net, TcpStream};
 use std::process::ExitCode;
+use std::random::RandomSource;
 use std::rt::{Clock, Env};
 use std::{env, io};
 use xa_codes::Direction;
 use xa_commands::{
-    Server, Stream, accept_damage, check, checked, confirm, copy, ended, ended_at, operate,
-    operated, play, scan, show_script, shutdown, talk, tick, words_fault,
+    Server, Stream, accept_damage, add_user, check, checked, copy, ended, play, scan, show_script,
+    words_fault,
 };
 use xa_copy::Sources;
 use xa_disk::Opens;
 use xa_operate::{OperateFault, Task, operate_status};
 use xa_play::PlayFault;
-use xa_talk::Manner;
+use xa_roles::Role;
 
 /// Does what the command line says, but that it serves. Status 0: done. 1: a fault, its line on standard error. 2: the
 /// command line was refused. Of a check 1: a server doesn't open the files; 2: a fault, too. Of a task that a server is
@@ -46,10 +49,12 @@ pub fn run<
         + Sources
         + Files
         + Clock
-        + Net<Stream = TcpStream>,
+        + Net<Stream = TcpStream>
+        + Env
+        + RandomSource,
 >(rt: &R, words: &'a io::Result<Vec<String>>, terminals: Terminals) -> Ran<'a>
     ensures run { IfOk words.now (λ words. HasRun {C = Connection Stream Stream} terminals (Watch R) R.Reader.remaining
-        R.Disk.honest R.Disk.seen R.opened R.refused (λ c. ⟦<Stream as Write>⟧.contents c.writer)
+        R.Disk.honest R.Disk.seen R.opened R.refused R.File.contents (λ c. ⟦<Stream as Write>⟧.contents c.writer)
         (λ c. ⟦<Stream as Read>⟧.remaining c.reader) (map string_bytes words.items) result) }
     ensures unread { IfErr words.now (λ error. IsUnread (error_kind error) result) }
 {
@@ -74,69 +79,69 @@ fn done<
         + Sources
         + Files
         + Clock
-        + Net<Stream = TcpStream>,
+        + Net<Stream = TcpStream>
+        + Env
+        + RandomSource,
 >(rt: &R, asked: Asked<'a>, terminals: Terminals) -> Ran<'a>
     requires { NamesWell asked }
     ensures { HasDone {C = Connection Stream Stream} terminals (Watch R) R.Reader.remaining R.Disk.honest R.Disk.seen
-        R.opened R.refused (λ c. ⟦<Stream as Write>⟧.contents c.writer)
+        R.opened R.refused R.File.contents (λ c. ⟦<Stream as Write>⟧.contents c.writer)
         (λ c. ⟦<Stream as Read>⟧.remaining c.reader) asked.entry result }
 {
-    Ran::Ended(match asked {
-        Asked::Play { name, log_bytes } => ended(rt, &play(rt, name, log_bytes)),
-        Asked::Scan { path, format } => ended(rt, &scan(rt, path, format)),
-        Asked::Check { path, log_bytes } => checked(rt, &check(rt, path, log_bytes)),
+    match asked {
+        Asked::Play { name, log_bytes } => Ran::Ended(ended(rt, &play(rt, name, log_bytes))),
+        Asked::Scan { path, format } => Ran::Ended(ended(rt, &scan(rt, path, format))),
+        Asked::Check { path, log_bytes } => Ran::Ended(checked(rt, &check(rt, path, log_bytes))),
         Asked::Copy {
             path,
             to,
             log_bytes,
             follows,
-        } => ended(rt, &copy(rt, path, to, log_bytes, follows)),
+        } => Ran::Ended(ended(rt, &copy(rt, path, to, log_bytes, follows))),
+        Asked::AddUser {
+            path,
+            name,
+            role,
+            secret,
+        } => Ran::Ended(added(rt, path, name, role, secret)),
         Asked::Serve {
             service,
             accepts_damage,
         } => match accepted(rt, accepts_damage, service.path, service.log_bytes) {
-            Some(status) => status,
-            None => return Ran::Serves(service),
+            Some(status) => Ran::Ended(status),
+            None => Ran::Serves(service),
         },
         Asked::Talk {
             reach,
+            user,
             seconds,
             style,
             is_strict,
         } => {
-            let mut server = Server::new(rt, reach, seconds);
-            let manner = Manner {
-                style,
-                is_strict,
-                is_typed: terminals.are_both(),
-            };
-            let end = talk(rt, &mut server, manner);
-            ended_at(rt, &end, &server)
+            let server = Server::new(rt, reach, seconds, user);
+            Ran::Ended(talked(rt, server, style, is_strict, terminals))
         }
-        Asked::Tick { reach, every } => {
-            let mut server = Server::new(rt, reach, 0);
-            let end = tick(rt, &mut server, every);
-            ended_at(rt, &end, &server)
+        Asked::Tick { reach, user, every } => {
+            Ran::Ended(ticked(rt, Server::new(rt, reach, 0, user), every))
         }
-        Asked::Shutdown { reach } => {
-            let mut server = Server::new(rt, reach, 0);
-            let end = shutdown(rt, &mut server);
-            ended_at(rt, &end, &server)
+        Asked::Shutdown { reach, user } => {
+            Ran::Ended(shut_down(rt, Server::new(rt, reach, 0, user)))
         }
         Asked::Operate {
             reach,
+            user,
             seconds,
             format,
             name,
             task,
         } => {
-            let mut server = Server::new(rt, reach, seconds);
-            let end = operate(rt, &mut server, name, &task, format);
-            operated(rt, &end, Some(&server))
+            let server = Server::new(rt, reach, seconds, user);
+            Ran::Ended(tasked(rt, server, name, &task, format))
         }
-        Asked::Script { name, task } => shown(rt, &show_script(rt, name, &task)),
+        Asked::Script { name, task } => Ran::Ended(shown(rt, &show_script(rt, name, &task))),
         Asked::Unconfirmed {
             reach,
+            user,
             seconds,
             format,
             name,
@@ -144,19 +149,33 @@ fn done<
             about,
         } => {
             if !terminals.input {
-                unconfirmed(rt, &task, about)
-            } else if let Some(reach) = reach {
-                let mut server = Server::new(rt, reach, seconds);
-                let end = confirm(rt, &mut server, name, &task, format);
-                operated(rt, &end, Some(&server))
-            } else {
-                nowhere(rt)
+                return Ran::Ended(unconfirmed(rt, &task, about));
+            }
+            match reach {
+                Some(reach) => {
+                    let server = Server::new(rt, reach, seconds, user);
+                    Ran::Ended(confirmed(rt, server, name, &task, format))
+                }
+                None => Ran::Ended(nowhere(rt)),
             }
         }
-        Asked::Malformed(malformed) => told(rt, &malformed),
-        Asked::Conflict => conflicting(rt),
-        Asked::Nowhere => nowhere(rt),
-    })
+        Asked::Malformed(malformed) => Ran::Ended(told(rt, &malformed)),
+        Asked::Conflict => Ran::Ended(conflicting(rt)),
+        Asked::Nowhere => Ran::Ended(nowhere(rt)),
+    }
+}
+
+// The status of a user who was to be added to those who may log in.
+fn added<'a, R: AllocGlobal + Input + Eprint + Files + RandomSource>(
+    rt: &R,
+    path: &'a str,
+    name: &'a str,
+    role: Role,
+    secret: Option<&'a str>,
+) -> ExitCode
+    ensures { ((exit_status result ≡ 0) × HasAdded R.File.contents name.now role) ⊎ (exit_status result ≡ 1) }
+{
+    ended(rt, &add_user(rt, path, name, role, secret))
 }
 
 // The status of a server whose log is to be opened though it is damaged, and wasn't. None where it is to serve.

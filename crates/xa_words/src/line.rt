@@ -1,16 +1,22 @@
 //! The command line, as `clap` reads it.
 ghost use Rattle.std.specs.Prelude.{IfOk};
-ghost use Rattle.clap.specs.Simple.{App};
+ghost use Rattle.clap.specs.Simple.{App, Shape, with_subcommand};
 ghost use Rattle.clap.specs.Walk.{Rule};
-ghost use Rattle.xa_words.specs.Line.{HasRule, HasShape, format_rule, IsApp, asking, bare, check_shape, copy_shape, deciding, others};
-ghost use Rattle.xa_words.specs.Line.{verb_shape, with_given, play_shape, scan_shape, serve_shape};
-ghost use Rattle.xa_words.specs.Line.{shutdown_shape, talk_shape, tick_shape, xarm};
+ghost use Rattle.xa_words.specs.Line.{HasRule, HasShape, IsApp, bare, branch_order_shapes, check_shape, copy_shape, file_shapes};
+ghost use Rattle.xa_words.specs.Line.{format_rule, login_rules, loop_rules, order_shapes, place_rules, play_shape};
+ghost use Rattle.xa_words.specs.Line.{question_shapes, quiet_rules, reach_rules, scan_shape, serve_shape, served_rules};
+ghost use Rattle.xa_words.specs.Line.{server_shapes, shutdown_shape, talk_shape, tick_shape, upkeep_rules, user_shape};
+ghost use Rattle.xa_words.specs.Line.{verb_shape, with_commands, with_given, with_rules, xarm};
 
 use crate::arguments::{
     accept_damage, audit, audit_out, branch_seconds, connections, copy_path, dest, every,
     exit_when_down, first_path, follow, frame_seconds, host, idle_seconds, listen, log, log_bytes,
     loops, name, names, path, play_name, port, serve_log_bytes, serve_socket, socket, strict, text,
     tick, trim, workers,
+};
+use crate::login_arguments::{
+    action, open_to_all, password_file, role, socket_group, socket_mode, to_users, user, user_name,
+    users,
 };
 use crate::operator_arguments::{
     direction, format, open_name, print_script, seconds, session, status_format, talk_seconds, xid,
@@ -24,58 +30,73 @@ use std::alloc::{AllocError, Global};
 pub fn command_line<'a>(alloc: Global) -> Result<Command<'a>, AllocError>
     ensures { IfOk result (IsApp xarm) }
 {
-    let line = other_line(alloc)?;
+    let line = with_files(alloc, bare_line(alloc))?;
+    let line = with_servers(alloc, line)?;
     let line = with_questions(alloc, line)?;
     let line = with_branch_orders(alloc, line)?;
     with_orders(alloc, line)
 }
 
-// The command line with the commands that ask a server nothing, or more than one thing.
-fn other_line<'a>(alloc: Global) -> Result<Command<'a>, AllocError>
-    ensures { IfOk result (IsApp others) }
+// The command line with the commands that ask no server.
+fn with_files<'a>(alloc: Global, line: Command<'a>) -> Result<Command<'a>, AllocError>
+    ensures { (app : App) → IsApp app line.entry → IfOk result (IsApp (with_commands app file_shapes)) }
 {
-    bare_line(alloc)
-        .subcommand(check_command(alloc)?)?
-        .subcommand(copy_command(alloc)?)?
-        .subcommand(play_command(alloc)?)?
-        .subcommand(scan_command(alloc)?)?
-        .subcommand(serve_command(alloc)?)?
-        .subcommand(shutdown_command(alloc)?)?
-        .subcommand(talk_command(alloc)?)?
-        .subcommand(tick_command(alloc)?)
+    let line = with_command(line, check_command(alloc))?;
+    let line = with_command(line, copy_command(alloc))?;
+    let line = with_command(line, play_command(alloc))?;
+    let line = with_command(line, scan_command(alloc))?;
+    with_command(line, user_command(alloc))
 }
 
-// The same with the commands that ask a server how things are.
-fn with_questions<'a>(alloc: Global, line: Command<'a>) -> Result<Command<'a>, AllocError>
-    requires { IsApp others line }
-    ensures { IfOk result (IsApp asking) }
+// The same with those that are a server, or ask one more than one thing.
+fn with_servers<'a>(alloc: Global, line: Command<'a>) -> Result<Command<'a>, AllocError>
+    ensures { (app : App) → IsApp app line.entry → IfOk result (IsApp (with_commands app server_shapes)) }
 {
-    line.subcommand(verb_command(alloc, Verb::Status)?)?
-        .subcommand(verb_command(alloc, Verb::Branches)?)?
-        .subcommand(verb_command(alloc, Verb::Recover)?)
+    let line = with_command(line, serve_command(alloc))?;
+    let line = with_command(line, shutdown_command(alloc))?;
+    let line = with_command(line, talk_command(alloc))?;
+    with_command(line, tick_command(alloc))
+}
+
+// The same with those that ask a server how things are.
+fn with_questions<'a>(alloc: Global, line: Command<'a>) -> Result<Command<'a>, AllocError>
+    ensures { (app : App) → IsApp app line.entry → IfOk result (IsApp (with_commands app question_shapes)) }
+{
+    let line = with_command(line, verb_command(alloc, Verb::Status))?;
+    let line = with_command(line, verb_command(alloc, Verb::Branches))?;
+    with_command(line, verb_command(alloc, Verb::Recover))
 }
 
 // The same with those that have it do something to a branch.
 fn with_branch_orders<'a>(alloc: Global, line: Command<'a>) -> Result<Command<'a>, AllocError>
-    requires { IsApp asking line }
-    ensures { IfOk result (IsApp deciding) }
+    ensures { (app : App) → IsApp app line.entry → IfOk result (IsApp (with_commands app branch_order_shapes)) }
 {
-    line.subcommand(verb_command(alloc, Verb::Commit)?)?
-        .subcommand(verb_command(alloc, Verb::Rollback)?)?
-        .subcommand(verb_command(alloc, Verb::Forget)?)?
-        .subcommand(verb_command(alloc, Verb::Decide)?)?
-        .subcommand(verb_command(alloc, Verb::Doom)?)
+    let line = with_command(line, verb_command(alloc, Verb::Commit))?;
+    let line = with_command(line, verb_command(alloc, Verb::Rollback))?;
+    let line = with_command(line, verb_command(alloc, Verb::Forget))?;
+    let line = with_command(line, verb_command(alloc, Verb::Decide))?;
+    with_command(line, verb_command(alloc, Verb::Doom))
 }
 
 // The same with the other ones that have it do something.
 fn with_orders<'a>(alloc: Global, line: Command<'a>) -> Result<Command<'a>, AllocError>
-    requires { IsApp deciding line }
-    ensures { IfOk result (IsApp xarm) }
+    ensures { (app : App) → IsApp app line.entry → IfOk result (IsApp (with_commands app order_shapes)) }
 {
-    line.subcommand(verb_command(alloc, Verb::Disconnect)?)?
-        .subcommand(verb_command(alloc, Verb::Trim)?)?
-        .subcommand(verb_command(alloc, Verb::Restart)?)?
-        .subcommand(verb_command(alloc, Verb::RollbackMarked)?)
+    let line = with_command(line, verb_command(alloc, Verb::Disconnect))?;
+    let line = with_command(line, verb_command(alloc, Verb::Trim))?;
+    let line = with_command(line, verb_command(alloc, Verb::Restart))?;
+    with_command(line, verb_command(alloc, Verb::RollbackMarked))
+}
+
+// The line with one command more, if that could be made.
+fn with_command<'a>(
+    line: Command<'a>,
+    command: Result<Command<'a>, AllocError>,
+) -> Result<Command<'a>, AllocError>
+    ensures { (app : App) (shape : Shape) → IsApp app line.entry → IfOk command.entry (HasShape shape)
+        → IfOk result (IsApp (with_subcommand app shape)) }
+{
+    line.subcommand(command?)
 }
 
 fn verb_command<'a>(alloc: Global, verb: Verb) -> Result<Command<'a>, AllocError>
@@ -87,10 +108,7 @@ fn verb_command<'a>(alloc: Global, verb: Verb) -> Result<Command<'a>, AllocError
     let command = with_argument(command, direction(alloc), verb.names_direction())?;
     let command = with_argument(command, xid(alloc), verb.names_branch())?;
     let command = with_argument(command, session(alloc), verb.names_session())?;
-    let command = command
-        .arg(port(alloc))?
-        .arg(host(alloc))?
-        .arg(socket(alloc))?;
+    let command = with_reach(alloc, command)?;
     let command = with_argument(command, open_name(alloc), verb.opens_session())?;
     let command = command.arg(seconds(alloc))?;
     let command = with_argument(command, format_of(alloc, verb), verb.lists())?;
@@ -106,6 +124,17 @@ fn format_of<'a>(alloc: Global, verb: Verb) -> Arg<'a>
         Verb::Status => status_format(alloc),
         _ => format(alloc),
     }
+}
+
+// The command with the arguments that say how a server is reached, and who logs in to it.
+fn with_reach<'a>(alloc: Global, command: Command<'a>) -> Result<Command<'a>, AllocError>
+    ensures { (app : App) → IsApp app command.entry → IfOk result (IsApp (with_rules app reach_rules)) }
+{
+    command
+        .arg(port(alloc))?
+        .arg(host(alloc))?
+        .arg(socket(alloc))?
+        .arg(user(alloc))
 }
 
 // The command with one argument more, if it is given.
@@ -191,31 +220,27 @@ fn scan_command<'a>(alloc: Global) -> Result<Command<'a>, AllocError>
 fn shutdown_command<'a>(alloc: Global) -> Result<Command<'a>, AllocError>
     ensures { IfOk result (HasShape shutdown_shape) }
 {
-    Command::new(alloc, "shutdown")
+    let command = Command::new(alloc, "shutdown")
         .about(
             "Ends a server once it has answered what was asked, and waits until it has closed the connection",
         )
         .after_help(
             "Example: xarm shutdown --port 4187\nStatus 0: it has closed the connection. 1: it takes no shutdown, as an \
              older one, or can't be reached.",
-        )
-        .arg(port(alloc))?
-        .arg(host(alloc))?
-        .arg(socket(alloc))
+        );
+    with_reach(alloc, command)
 }
 
 fn talk_command<'a>(alloc: Global) -> Result<Command<'a>, AllocError>
     ensures { IfOk result (HasShape talk_shape) }
 {
-    Command::new(alloc, "talk")
+    let command = Command::new(alloc, "talk")
         .about("Sends the calls of a script from standard input to a server and prints the replies")
         .after_help(
             "Example: xarm talk --port 4187\nEach connect opens a connection, at most 1024. \
              Each line is answered before the next one is read.",
-        )
-        .arg(port(alloc))?
-        .arg(host(alloc))?
-        .arg(socket(alloc))?
+        );
+    with_reach(alloc, command)?
         .arg(names(alloc))?
         .arg(text(alloc))?
         .arg(strict(alloc))?
@@ -225,39 +250,102 @@ fn talk_command<'a>(alloc: Global) -> Result<Command<'a>, AllocError>
 fn tick_command<'a>(alloc: Global) -> Result<Command<'a>, AllocError>
     ensures { IfOk result (HasShape tick_shape) }
 {
-    Command::new(alloc, "tick")
+    let command = Command::new(alloc, "tick")
         .about("Sends a server the time, so that branches reach their time limits")
         .after_help(
             "Example: xarm tick --port 4187\nIt uses one of the server's connections, and runs until it is killed or the \
              server is gone.",
+        );
+    with_reach(alloc, command)?.arg(every(alloc))
+}
+
+fn user_command<'a>(alloc: Global) -> Result<Command<'a>, AllocError>
+    ensures { IfOk result (HasShape user_shape) }
+{
+    Command::new(alloc, "user")
+        .about("Adds a user to the file that says who may log in to a server")
+        .after_help(
+            "Example: xarm user add ada --role client --users users.toml\nThe secret is the first line of FILE, or of standard \
+             input. The file of users has verifiers, never secrets.\nStatus 0: the user is added. 1: a fault.",
         )
-        .arg(port(alloc))?
-        .arg(host(alloc))?
-        .arg(socket(alloc))?
-        .arg(every(alloc))
+        .arg(action(alloc))?
+        .arg(user_name(alloc))?
+        .arg(role(alloc))?
+        .arg(to_users(alloc))?
+        .arg(password_file(alloc))
 }
 
 fn serve_command<'a>(alloc: Global) -> Result<Command<'a>, AllocError>
     ensures { IfOk result (HasShape serve_shape) }
 {
-    Command::new(alloc, "serve")
+    let command = Command::new(alloc, "serve")
         .about(
             "Serves a resource manager on a port, a Unix socket or both, and prints ready for each once it can be reached",
         )
-        .after_help("Example: xarm serve --log bank.log --name bank --port 4187")
+        .after_help("Example: xarm serve --log bank.log --name bank --port 4187");
+    let command = with_served(alloc, command)?;
+    let command = with_loops(alloc, command)?;
+    let command = with_places(alloc, command)?;
+    let command = with_logins(alloc, command)?;
+    let command = with_quiet(alloc, command)?;
+    with_upkeep(alloc, command)
+}
+
+// The command with the arguments that say what is served, and on which port.
+fn with_served<'a>(alloc: Global, command: Command<'a>) -> Result<Command<'a>, AllocError>
+    ensures { (app : App) → IsApp app command.entry → IfOk result (IsApp (with_rules app served_rules)) }
+{
+    command
         .arg(log(alloc))?
         .arg(name(alloc))?
         .arg(port(alloc))?
-        .arg(serve_log_bytes(alloc))?
+        .arg(serve_log_bytes(alloc))
+}
+
+// The same with those that say by how many loops, for how many connections, and whether that is audited.
+fn with_loops<'a>(alloc: Global, command: Command<'a>) -> Result<Command<'a>, AllocError>
+    ensures { (app : App) → IsApp app command.entry → IfOk result (IsApp (with_rules app loop_rules)) }
+{
+    command
         .arg(workers(alloc))?
         .arg(audit(alloc))?
         .arg(connections(alloc))?
-        .arg(loops(alloc))?
+        .arg(loops(alloc))
+}
+
+// The same with those that say where it listens, apart from the port.
+fn with_places<'a>(alloc: Global, command: Command<'a>) -> Result<Command<'a>, AllocError>
+    ensures { (app : App) → IsApp app command.entry → IfOk result (IsApp (with_rules app place_rules)) }
+{
+    command
         .arg(listen(alloc))?
         .arg(serve_socket(alloc))?
+        .arg(socket_mode(alloc))?
+        .arg(socket_group(alloc))
+}
+
+// The same with those that say who has to log in.
+fn with_logins<'a>(alloc: Global, command: Command<'a>) -> Result<Command<'a>, AllocError>
+    ensures { (app : App) → IsApp app command.entry → IfOk result (IsApp (with_rules app login_rules)) }
+{
+    command.arg(users(alloc))?.arg(open_to_all(alloc))
+}
+
+// The same with those that say for how long a connection may be quiet.
+fn with_quiet<'a>(alloc: Global, command: Command<'a>) -> Result<Command<'a>, AllocError>
+    ensures { (app : App) → IsApp app command.entry → IfOk result (IsApp (with_rules app quiet_rules)) }
+{
+    command
         .arg(frame_seconds(alloc))?
         .arg(idle_seconds(alloc))?
-        .arg(branch_seconds(alloc))?
+        .arg(branch_seconds(alloc))
+}
+
+// The same with those that say what it does of its own accord, and when it ends.
+fn with_upkeep<'a>(alloc: Global, command: Command<'a>) -> Result<Command<'a>, AllocError>
+    ensures { (app : App) → IsApp app command.entry → IfOk result (IsApp (with_rules app upkeep_rules)) }
+{
+    command
         .arg(trim(alloc))?
         .arg(tick(alloc))?
         .arg(exit_when_down(alloc))?

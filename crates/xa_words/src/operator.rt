@@ -11,7 +11,7 @@ ghost use Rattle.xa_words.specs.Verbs.{verb_of};
 use crate::asked::Asked;
 use crate::malformed::Malformed;
 use crate::verb::Verb;
-use crate::words::{flag_of, number_of, reach_of, text_of};
+use crate::words::{flag_of, number_of, optional_text_of, reach_of, text_of};
 use clap::ArgMatches;
 use xa_codes::Direction;
 use xa_operate::{Format, Task, is_name};
@@ -55,6 +55,7 @@ fn order_of<'a>(
         let about = about_of(matches, &task);
         return Asked::Unconfirmed {
             reach: reach_of(matches),
+            user: optional_text_of(matches, "user"),
             seconds: number_of(matches, "seconds", 10),
             format,
             name,
@@ -65,6 +66,7 @@ fn order_of<'a>(
     match reach_of(matches) {
         Some(reach) => Asked::Operate {
             reach,
+            user: optional_text_of(matches, "user"),
             seconds: number_of(matches, "seconds", 10),
             format,
             name,

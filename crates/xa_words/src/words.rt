@@ -4,18 +4,21 @@ ghost use Rattle.clap.specs.{Faults.fault_of, Kinds.FailsBy, Matches.found_of, S
 ghost use Rattle.clap.specs.Walk.{first_of, one_of, rows_of};
 ghost use Rattle.xa_words.specs.Asks.{AsksBy, AsksOf, IsCommand, IsOther, IsReachIn, IsSet, most_16, most_64, number_in, text_in};
 ghost use Rattle.xa_words.specs.Line.{xarm};
-ghost use Rattle.xa_words.specs.Serving.{IsAtIn, IsServiceIn, gives_workers, own_number_in, workers_in};
+ghost use Rattle.xa_words.specs.Logins.{is_addition};
+ghost use Rattle.xa_words.specs.Serving.{IsAtIn, IsServiceIn, gives_workers, mode_in, own_number_in, workers_in};
 
 use crate::asked::Asked;
 use crate::given::is_given;
 use crate::line::command_line;
 use crate::malformed::Malformed;
+use crate::mode::read_mode;
 use crate::operator::{operator_of, read_format};
 use crate::verb::read_verb;
 use clap::{ArgMatches, Error};
 use std::alloc::Global;
 use xa_commands::Reach;
 use xa_limits::MOST_LOG;
+use xa_roles::Role;
 use xa_script::Style;
 use xa_service::{At, MOST_SERVED, Service};
 
@@ -74,6 +77,7 @@ fn read_other<'a>(command: &str, matches: &ArgMatches<'a>) -> Asked<'a>
         "shutdown" => shutdown_of(matches),
         "talk" => talk_of(matches),
         "tick" => tick_of(matches),
+        "user" => new_user_of(matches),
         _ => play_of(matches),
     }
 }
@@ -106,9 +110,12 @@ fn serve_of<'a>(matches: &ArgMatches<'a>) -> Asked<'a>
     if workers != 0 && is_given(matches, "loops") {
         return Asked::Conflict;
     }
+    let Some(mode) = read_mode(text_of(matches, "socket-mode", "0600")) else {
+        return Asked::Malformed(Malformed::SocketMode);
+    };
     match at_of(matches) {
         Some(at) => Asked::Serve {
-            service: service_of(matches, at, workers),
+            service: service_of(matches, at, workers, mode),
             accepts_damage: flag_of(matches, "accept-damage"),
         },
         None => Asked::Nowhere,
@@ -116,15 +123,16 @@ fn serve_of<'a>(matches: &ArgMatches<'a>) -> Asked<'a>
 }
 
 // What is to be served at this place, by the number of workers, 0 where none is given: with workers as many loops, and an
-// audit.
-fn service_of<'a>(matches: &ArgMatches<'a>, at: At<'a>, workers: u64) -> Service<'a>
+// audit; and by a Unix socket with these permissions.
+fn service_of<'a>(matches: &ArgMatches<'a>, at: At<'a>, workers: u64, mode: u32) -> Service<'a>
     requires at { IsAtIn (rows_of (found_of matches.now)) (Some at) }
     requires workers { workers ≡ workers_in (rows_of (found_of matches.now)) }
+    requires mode { mode_in (rows_of (found_of matches.now)) ≡ Some mode }
     ensures { IsServiceIn (rows_of (found_of matches.now)) result }
 {
     let has_workers = workers != 0;
     let is_audited = flag_of(matches, "audit");
-    let history = history_of(matches);
+    let history = optional_text_of(matches, "audit-out");
     Service {
         path: text_of(matches, "log", ""),
         name: text_of(matches, "name", ""),
@@ -148,14 +156,11 @@ fn service_of<'a>(matches: &ArgMatches<'a>, at: At<'a>, workers: u64) -> Service
         ends_when_down: flag_of(matches, "exit-when-down"),
         audits: is_audited || has_workers || history.is_some(),
         history,
+        users: optional_text_of(matches, "users"),
+        opens_to_all: flag_of(matches, "open-to-all"),
+        socket_mode: mode,
+        socket_group: optional_text_of(matches, "socket-group"),
     }
-}
-
-// Where the history is to be written.
-fn history_of<'a>(matches: &ArgMatches<'a>) -> Option<&'a str>
-    ensures { option_map (λ path. path.now) result ≡ first_of (codes "audit-out") (rows_of (found_of matches.now)) }
-{
-    matches.get_str("audit-out")
 }
 
 // By which number a server calls its manager of its own accord: with workers 0, unless the words give it.
@@ -178,6 +183,7 @@ fn talk_of<'a>(matches: &ArgMatches<'a>) -> Asked<'a>
     };
     Asked::Talk {
         reach,
+        user: optional_text_of(matches, "user"),
         seconds: number_of(matches, "seconds", 0),
         style: Style {
             has_names: flag_of(matches, "names"),
@@ -190,9 +196,10 @@ fn talk_of<'a>(matches: &ArgMatches<'a>) -> Asked<'a>
 fn tick_of<'a>(matches: &ArgMatches<'a>) -> Asked<'a>
     ensures { AsksBy (codes "tick") (rows_of (found_of matches.now)) result }
 {
+    let user = optional_text_of(matches, "user");
     let every = number_of(matches, "every", 1);
     match reach_of(matches) {
-        Some(reach) => Asked::Tick { reach, every },
+        Some(reach) => Asked::Tick { reach, user, every },
         None => Asked::Nowhere,
     }
 }
@@ -200,10 +207,35 @@ fn tick_of<'a>(matches: &ArgMatches<'a>) -> Asked<'a>
 fn shutdown_of<'a>(matches: &ArgMatches<'a>) -> Asked<'a>
     ensures { AsksBy (codes "shutdown") (rows_of (found_of matches.now)) result }
 {
+    let user = optional_text_of(matches, "user");
     match reach_of(matches) {
-        Some(reach) => Asked::Shutdown { reach },
+        Some(reach) => Asked::Shutdown { reach, user },
         None => Asked::Nowhere,
     }
+}
+
+// Who is to be added to those who may log in.
+fn new_user_of<'a>(matches: &ArgMatches<'a>) -> Asked<'a>
+    ensures { AsksBy (codes "user") (rows_of (found_of matches.now)) result }
+{
+    if !is_addition(matches) {
+        return Asked::Malformed(Malformed::Action);
+    }
+    match Role::of_text(text_of(matches, "role", "")) {
+        Some(role) => Asked::AddUser {
+            path: text_of(matches, "users", ""),
+            name: text_of(matches, "name", ""),
+            role,
+            secret: optional_text_of(matches, "password-file"),
+        },
+        None => Asked::Malformed(Malformed::Role),
+    }
+}
+
+fn is_addition(matches: &ArgMatches<'_>) -> bool
+    ensures { result ≡ is_addition (rows_of (found_of matches.now)) }
+{
+    text_of(matches, "action", "") == "add"
 }
 
 // Where a server is to listen: at the path and on the port, as they are given.
@@ -212,7 +244,7 @@ fn at_of<'a>(matches: &ArgMatches<'a>) -> Option<At<'a>>
 {
     let port = port_of(matches);
     let address = text_of(matches, "listen", "127.0.0.1");
-    match socket_of(matches) {
+    match optional_text_of(matches, "socket") {
         Some(path) if port == 0 => Some(At::Socket(path)),
         Some(path) => Some(At::Both {
             address,
@@ -228,7 +260,7 @@ fn at_of<'a>(matches: &ArgMatches<'a>) -> Option<At<'a>>
 pub(crate) fn reach_of<'a>(matches: &ArgMatches<'a>) -> Option<Reach<'a>>
     ensures { IsReachIn (rows_of (found_of matches.now)) result }
 {
-    if let Some(path) = socket_of(matches) {
+    if let Some(path) = optional_text_of(matches, "socket") {
         return Some(Reach::Socket(path));
     }
     let port = port_of(matches);
@@ -240,10 +272,10 @@ pub(crate) fn reach_of<'a>(matches: &ArgMatches<'a>) -> Option<Reach<'a>>
     }
 }
 
-fn socket_of<'a>(matches: &ArgMatches<'a>) -> Option<&'a str>
-    ensures { option_map (λ path. path.now) result ≡ first_of (codes "socket") (rows_of (found_of matches.now)) }
+pub(crate) fn optional_text_of<'a>(matches: &ArgMatches<'a>, id: &str) -> Option<&'a str>
+    ensures { option_map (λ text. text.now) result ≡ first_of id.now (rows_of (found_of matches.now)) }
 {
-    matches.get_str("socket")
+    matches.get_str(id)
 }
 
 pub(crate) fn flag_of(matches: &ArgMatches<'_>, id: &str) -> bool

@@ -11,7 +11,12 @@ use Rattle.xa_frame.specs.declared.request.Request.{Request}
 use Rattle.xa_frame.specs.declared.request.Request.TheVariants.{Tick}
 use Rattle.xa_frame.specs.Spelling.{SpellsRequest}
 use Rattle.xa_roles.specs.declared.role.Role.{Role}
+use Rattle.xa_roles.specs.declared.role.Role.TheVariants.{Operator}
 use Rattle.xa_roles.specs.Believed.Roles.{may_ask}
+use Rattle.xa_scram.specs.Believed.Exchanges.{Begun}
+use Rattle.xa_scram.specs.declared.opening.Opening.{Opening}
+use Rattle.xa_users.specs.Believed.Logins.{Shows, begun}
+use Rattle.xa_users.specs.declared.users.Users.{Users}
 use Rattle.xa_reactor.specs.Aside.{Visits}
 use Rattle.xa_reactor.specs.declared.common.Settings.{Settings}
 use Rattle.xa_reactor.specs.declared.loops.Ended.{Ended}
@@ -24,10 +29,16 @@ abbrev pub HaveObeyed : {D : Type 0} → Settings → List (Ended D) → Type 0
 HaveObeyed {D} settings ended =
     (i : ℕ) (e : Ended D) → i < length ended → (slice_index_or ended i e).settings ≡ settings
 
--- a session that is served, and the role that its connection has shown, if any
+-- a session that is served, the role that its connection has shown, if any, and the login that it has begun, if one
 pub record Seat : Type 0 where
   pub session : ℕ
   pub standing : Option Role
+  pub login : Option Begun
+
+-- the role of a connection from its beginning: none if there are users, who have to log in, else an operator's
+abbrev pub first_standing : Option Users → Option Role
+first_standing None = Some Operator
+first_standing (Some users) = None
 
 -- what is served under each key
 abbrev pub Table : Type 0
@@ -37,7 +48,7 @@ abbrev pub nobody : Table
 nobody key = None
 
 abbrev pub seat_of : Peer → Seat
-seat_of p = record { session = p.session; standing = p.standing }
+seat_of p = record { session = p.session; standing = p.standing; login = p.login }
 
 abbrev pub sessions_of : Slab Peer → Table
 sessions_of peers key = option_map seat_of (get peers key)
@@ -69,15 +80,50 @@ DoesSome {D} does old d new e = (before : List (Table × D)) × DoesAll does old
 abbrev pub IsOwn : List ℕ → Type 0
 IsOwn content = (content ≡ TRIM) ⊎ ((moment : ℕ) × SpellsRequest content (Tick moment))
 
--- by which roles a door lets connections in with, and by what a connect, a call of a session and its hang-up do there
-module _ {D : Type 0} (lets_in : D → Option Role → Type 0) (connected : D → Result ℕ ConnectFault → D → Type 0)
+-- The connection of a session that is served has begun a login, in place of any other one, as one of these users, or as nobody
+-- that they are: it was asked to prove, with bytes of the server's own.
+pub record Begins (users : Users) (old new : Table) : Type 0 where
+  pub key : ℕ
+  pub seat : Seat
+  pub has : old key ≡ Some seat
+  pub opening : Opening
+  pub own : List ℕ
+  pub secret : List ℕ
+  pub puts : Puts old new key (Some (record seat { login = Some (begun users opening own secret) }))
+
+-- By the login that it had begun it has shown to be one of them, and has the role of that one; the login is over.
+pub record Admits (users : Users) (old new : Table) : Type 0 where
+  pub key : ℕ
+  pub seat : Seat
+  pub has : old key ≡ Some seat
+  pub login : Begun
+  pub began : seat.login ≡ Some login
+  pub message : List ℕ
+  pub role : Role
+  pub shows : Shows users login message role
+  pub puts : Puts old new key (Some (record seat { standing = Some role; login = None }))
+
+-- It has shown nothing, and what it had begun is over.
+pub record Denies (old new : Table) : Type 0 where
+  pub key : ℕ
+  pub seat : Seat
+  pub has : old key ≡ Some seat
+  pub puts : Puts old new key (Some (record seat { login = None }))
+
+-- a part of a login, if there are users
+abbrev pub LogsIn : Option Users → Table → Table → Type 0
+LogsIn None old new = ⊥
+LogsIn (Some users) old new = Begins users old new ⊎ (Admits users old new ⊎ Denies old new)
+
+-- by who may log in, if anybody has to, and by what a connect, a call of a session and its hang-up do at a door
+module _ {D : Type 0} (users : Option Users) (connected : D → Result ℕ ConnectFault → D → Type 0)
     (called : ℕ → D → Question → Reply → D → Type 0) (left : ℕ → D → D → Type 0) where
-  -- a session was connected, and is served under a key that was free
+  -- a session was connected, and is served under a key that was free, with the role that each has at first
   pub record Connects (old new : Table) (d e : D) : Type 0 where
     pub key : ℕ
     pub seat : Seat
     pub free : old key ≡ None
-    pub lets : lets_in d seat.standing
+    pub first : (seat.standing ≡ first_standing users) × (seat.login ≡ None)
     pub connects : connected d (Ok seat.session) e
     pub puts : Puts old new key (Some seat)
 
@@ -113,22 +159,25 @@ module _ {D : Type 0} (lets_in : D → Option Role → Type 0) (connected : D �
     pub visits : Visits connected called left content d reply e
     pub same : old ≡ new
 
+  -- a part of a login reaches no door
   abbrev pub Does : Table → Table → D → D → Type 0
-  Does old new d e = Connects old new d e ⊎ (Refuses old new d e ⊎ (Converses old new d e ⊎ (Leaves old new d e ⊎ Keeps old new d e)))
+  Does old new d e =
+      Connects old new d e ⊎ (Refuses old new d e ⊎ (Converses old new d e ⊎ (Leaves old new d e ⊎ (Keeps old new d e ⊎ (LogsIn users old new × (d ≡ e))))))
 
   -- Whatever the loop did where it posts nothing, it was one of these things after the other.
   abbrev pub Tends : Table → D → Table → D → Type 0
   Tends old d new e = DoesSome Does old d new e
 
 -- by what a post does, too
-module _ {D : Type 0} (posts : ℕ → Request → D → D → Type 0) (lets_in : D → Option Role → Type 0)
+module _ {D : Type 0} (posts : ℕ → Request → D → D → Type 0) (users : Option Users)
     (connected : D → Result ℕ ConnectFault → D → Type 0) (called : ℕ → D → Question → Reply → D → Type 0)
     (left : ℕ → D → D → Type 0) where
   abbrev pub DoesOrPosts : Table → Table → D → D → Type 0
-  DoesOrPosts old new d e = Does lets_in connected called left old new d e ⊎ Posts posts old new d e
+  DoesOrPosts old new d e = Does users connected called left old new d e ⊎ Posts posts old new d e
 
   -- Whatever the loop did, it was one of these things after the other. So from nobody to nobody each session that was
-  -- connected was hung up, once, and only in between it was answered, and its calls were posted.
+  -- connected was hung up, once, and only in between it was answered, and its calls were posted: if there are users, only what
+  -- the role may ask that it had shown by then, and before that nothing.
   abbrev pub TendsPosting : Table → D → Table → D → Type 0
   TendsPosting old d new e = DoesSome DoesOrPosts old d new e
 

@@ -17,8 +17,6 @@ use Rattle.xa_manager.specs.Believed.Opening.{HasBegun}
 use Rattle.xa_model.specs.State.{State}
 use Rattle.xa_model.specs.declared.event.Event.TheVariants.{Call}
 use Rattle.xa_reactor.specs.Believed.Tending.{HasTended}
-use Rattle.xa_roles.specs.declared.role.Role.{Role}
-use Rattle.xa_roles.specs.declared.role.Role.TheVariants.{Operator}
 use Rattle.xa_history.specs.Believed.Book.{receipt_of}
 use Rattle.xa_history.specs.declared.entry.Entry.{Entry}
 use Rattle.xa_history.specs.Believed.Manages.{Behaviour}
@@ -31,6 +29,7 @@ use Rattle.xa_server.specs.Believed.Watching.{is_down_after}
 use Rattle.xa_tokens.specs.Believed.Account.{Account, Owes}
 use Rattle.xa_tokens.specs.Believed.Receipts.{AreSame}
 use Rattle.xa_tokens.specs.declared.receipt.Receipt.{Receipt}
+use Rattle.xa_users.specs.declared.users.Users.{Users}
 
 -- What an event of the sequencer that the loops share does to the account of the loop that asked.
 abbrev pub Connected : {M : Type 0} → Behaviour M → (State → Type 0) → ℕ × ℕ → Account → Result ℕ ConnectFault → Account → Type 0
@@ -50,22 +49,19 @@ Left m start base session old new = (was : Bool) × LeftBy m start base session 
 abbrev pub Posted : ℕ → Request → Account → Account → Type 0
 Posted session request old new = Posts old (Call session request) new
 
--- whoever can connect may ask all
-abbrev pub LetsIn : Account → Option Role → Type 0
-LetsIn a standing = standing ≡ Some Operator
-
 -- A loop by its account: each session that it connected it hung up, once, and answered only in between, each call by one
--- entry that it was told, or none where memory was wanted; it was told of nothing else. In the end it owes nothing.
-abbrev pub HasLooped : {M : Type 0} → Behaviour M → (State → Type 0) → ℕ × ℕ → Account → Account → Type 0
-HasLooped m start base old new =
-    HasTended {D = Account} Posted LetsIn (Connected m start base) (Called m start base) (Left m start base) (λ a. Owes a 0) old new
+-- entry that it was told, or none where memory was wanted; it was told of nothing else. In the end it owes nothing. If there are
+-- users, a session is answered only what the role may ask that its connection has shown by logging in as one of them.
+abbrev pub HasLooped : {M : Type 0} → Behaviour M → (State → Type 0) → ℕ × ℕ → Option Users → Account → Account → Type 0
+HasLooped m start base users old new =
+    HasTended {D = Account} Posted users (Connected m start base) (Called m start base) (Left m start base) (λ a. Owes a 0) old new
 
 -- each of them, one by one
-abbrev pub AllLoop : {M : Type 0} → Behaviour M → (State → Type 0) → ℕ × ℕ → List Account → List Account → Type 0
-AllLoop m start base [] [] = Unit {0}
-AllLoop m start base [] (b ∷ ended) = ⊥
-AllLoop m start base (a ∷ rest) [] = ⊥
-AllLoop m start base (a ∷ rest) (b ∷ ended) = HasLooped m start base a b × AllLoop m start base rest ended
+abbrev pub AllLoop : {M : Type 0} → Behaviour M → (State → Type 0) → ℕ × ℕ → Option Users → List Account → List Account → Type 0
+AllLoop m start base users [] [] = Unit {0}
+AllLoop m start base users [] (b ∷ ended) = ⊥
+AllLoop m start base users (a ∷ rest) [] = ⊥
+AllLoop m start base users (a ∷ rest) (b ∷ ended) = HasLooped m start base users a b × AllLoop m start base users rest ended
 
 -- what all of them were told
 abbrev pub told_by : List Account → List Receipt
@@ -77,22 +73,22 @@ abbrev pub IsFresh : Account → Type 0
 IsFresh a = (a.asked ≡ []) × (a.told ≡ []) × (a.given_up ≡ [])
 
 -- so many loops, which had asked nothing when they began
-pub record RunsLoops {M : Type 0} (m : Behaviour M) (start : State → Type 0) (base : ℕ × ℕ) (loops : ℕ)
+pub record RunsLoops {M : Type 0} (m : Behaviour M) (start : State → Type 0) (base : ℕ × ℕ) (users : Option Users) (loops : ℕ)
     (ended : List Account) : Type 0 where
   pub begun : List Account
   pub count : length begun ≡ loops
   pub fresh : AllByRecursion IsFresh begun
-  pub loop : AllLoop m start base begun ended
+  pub loop : AllLoop m start base users begun ended
 
 -- From each starting state the history is a legal one, with what that promises, and tells of no more failures than were
 -- counted. Its entries are what the loops were told, each entry by one of them, once, and no other. Whether the manager is
 -- down in the end is what their replies say.
-pub record ServesByLoops {M : Type 0} (m : Behaviour M) (start : State → Type 0) (base : ℕ × ℕ) (loops : ℕ)
+pub record ServesByLoops {M : Type 0} (m : Behaviour M) (start : State → Type 0) (base : ℕ × ℕ) (users : Option Users) (loops : ℕ)
     (told : Looped) : Type 0 where
   pub now : M
   pub entries : List Entry
   pub ended : List Account
-  pub runs : RunsLoops m start base loops ended
+  pub runs : RunsLoops m start base users loops ended
   pub receipts : List Receipt
   pub are : map receipt_of entries ≡ map shown receipts
   pub once : AreSame receipts (told_by ended)
@@ -103,9 +99,9 @@ pub record ServesByLoops {M : Type 0} (m : Behaviour M) (start : State → Type 
   pub down_is : told.is_down ≡ is_down_after false (map receipt_of entries)
 
 -- the same, and this is the manager in the end
-abbrev pub ServesTo : {M : Type 0} → Behaviour (GroupManager M) → (State → Type 0) → ℕ × ℕ → ℕ → Looped → M → Type 0
-ServesTo m start base loops told manager =
-    (serves : ServesByLoops m start base loops told) × (serves.now.manager ≡ manager)
+abbrev pub ServesTo : {M : Type 0} → Behaviour (GroupManager M) → (State → Type 0) → ℕ × ℕ → Option Users → ℕ → Looped → M → Type 0
+ServesTo m start base users loops told manager =
+    (serves : ServesByLoops m start base users loops told) × (serves.now.manager ≡ manager)
 
 -- ---- law
 
@@ -114,6 +110,6 @@ abbrev pub LoopedPromises : {D : Type 0} → disk.Ghosts D → Type 0
 LoopedPromises {D} disks =
     (manager : Manager D) (bodies : List (List ℕ)) (name : List ℕ) (log_bytes : ℕ)
     → HasBegun disks bodies name log_bytes manager
-    → (base : ℕ × ℕ) (loops : ℕ) (told : Looped)
-    → ServesByLoops (manages_of disks) ((manages_of disks).stands (alone manager)) base loops told
+    → (base : ℕ × ℕ) (users : Option Users) (loops : ℕ) (told : Looped)
+    → ServesByLoops (manages_of disks) ((manages_of disks).stands (alone manager)) base users loops told
     → KeepsServed (manages_of disks) (alone manager) told.calls

@@ -37,6 +37,8 @@ use Rattle.xa_service.specs.declared.at.At.{At}
 use Rattle.xa_service.specs.declared.at.At.TheVariants as at
 use Rattle.xa_service.specs.declared.service.Service.{Service}
 use Rattle.xa_service.specs.declared.service.TheConstants.{MOST_LOOPS}
+use Rattle.xa_users.specs.Believed.Users.{SaysUsers, all_of}
+use Rattle.xa_users.specs.declared.users.Users.{Users}
 
 -- The manager is what these two disks were opened to: one that begins with what their records come to; a new one, where
 -- both were empty; and one that stands for the opening of each state that they stood for. The first holds of any disks,
@@ -132,14 +134,19 @@ settings_of service = record {
 
 -- The manager's sessions were served by loops, from each state that it stood for: without an audit, or with one, which told
 -- this.
-abbrev pub ServesAs : {D : Type 0} → disk.Ghosts D → Manager D → ℕ → Looped → Option Audited → Type 0
-ServesAs disks manager loops told None =
+abbrev pub ServesAs : {D : Type 0} → disk.Ghosts D → Manager D → Option Users → ℕ → Looped → Option Audited → Type 0
+ServesAs disks manager users loops told None =
     ServesByLoops (manages_of disks) ((manages_of disks).stands (alone manager)) ((manages_of disks).failures (alone manager))
-    loops told
-ServesAs disks manager loops told (Some audited) =
+    users loops told
+ServesAs disks manager users loops told (Some audited) =
     (done : Worked) × (done.looped ≡ told) × (done.audited ≡ audited)
     × ServesAudited (manages_of disks) ((manages_of disks).stands (alone manager))
-    ((manages_of disks).failures (alone manager)) loops done
+    ((manages_of disks).failures (alone manager)) users loops done
+
+-- who may log in: those that a text says, if a file of users is named, else nobody has to
+abbrev pub AreUsers : Bool → Option Users → Type 0
+AreUsers false users = users ≡ None
+AreUsers true users = (those : Users) × (users ≡ Some those) × (text : List ℕ) × SaysUsers text (all_of those)
 
 -- unless an audit found a fault
 abbrev pub is_sound : Option Audited → Bool
@@ -153,12 +160,14 @@ pub record HasServed {D R : Type 0} (disks : disk.Ghosts D) (opened : D → List
   pub listener : Listening
   pub manager : Manager D
   pub ready : IsReady disks opened net service.log_bytes (place_of service) listener manager
+  pub users : Option Users
+  pub users_are : AreUsers (is_some service.users) users
   pub loops : ℕ
   pub loops_are : AreLoops service.loops loops
   pub told : Looped
   pub audited : Option Audited
   pub audits : is_some audited ≡ service.audits
-  pub serves : ServesAs disks manager loops told audited
+  pub serves : ServesAs disks manager users loops told audited
   pub whole : told.is_whole ≡ true
   pub settings : told.settings ≡ settings_of service
   pub well : is_well ≡ (not (service.ends_when_down && (told.is_down || told.ended_down)) && is_sound audited)
@@ -220,7 +229,8 @@ abbrev pub WasReady : {D R : Type 0} → disk.Ghosts D → (D → List ℕ → T
 WasReady {D} disks opened net log_bytes place =
     (listener : Listening) × (manager : Manager D) × IsReady disks opened net log_bytes place listener manager
 
--- What was asked before it failed, and how that ended: a file was refused; no manager was opened on the files, or one of
+-- What was asked before it failed, and how that ended: the file of users says none, it may not listen there, or there is no such group, and nothing was
+-- opened; a file was refused; no manager was opened on the files, or one of
 -- them is missing, is no log or is damaged; the files were there, and the port was refused; all was ready, and it
 -- couldn't print, or write the history, or it didn't serve for what `late` says.
 abbrev pub HasFailedBy : {D R : Type 0} → disk.Ghosts D → (D → List ℕ → Type 0) → (List ℕ → FileFault → Type 0)
@@ -246,19 +256,39 @@ HasFailedBy {D} disks opened refused net log_bytes place late fault.Listen =
 HasFailedBy disks opened refused net log_bytes place late fault.Write = WasReady disks opened net log_bytes place
 HasFailedBy disks opened refused net log_bytes place late (fault.History history_file why) =
     WasReady disks opened net log_bytes place
+HasFailedBy disks opened refused net log_bytes place late (fault.Users users_file why) = Unit {0}
+HasFailedBy disks opened refused net log_bytes place late (fault.Open address) = Unit {0}
+HasFailedBy disks opened refused net log_bytes place late (fault.Group group_name) = Unit {0}
+HasFailedBy disks opened refused net log_bytes place late fault.Random = WasReady disks opened net log_bytes place × late fault.Random
 HasFailedBy disks opened refused net log_bytes place late fault.Start =
     WasReady disks opened net log_bytes place × late fault.Start
 HasFailedBy disks opened refused net log_bytes place late fault.Wait =
     WasReady disks opened net log_bytes place × late fault.Wait
 
+-- the file of users says none
+abbrev pub IsUsersFault : ServeFault → Type 0
+IsUsersFault (fault.Users users_file why) = Unit {0}
+IsUsersFault _ = ⊥
+
+-- it may not listen there
+abbrev pub IsOpenFault : ServeFault → Type 0
+IsOpenFault (fault.Open address) = Unit {0}
+IsOpenFault _ = ⊥
+
+-- its Unix socket is to have a group that there isn't
+abbrev pub IsGroupFault : ServeFault → Type 0
+IsGroupFault (fault.Group group_name) = Unit {0}
+IsGroupFault _ = ⊥
+
 -- before it serves, nothing
 abbrev pub never : ServeFault → Type 0
 never why = ⊥
 
--- there are no such loops, or the system gave nothing to wait for connections by
+-- there are no such loops, or the system gave nothing to wait for connections by, or no random bytes
 abbrev pub NoLoops : ℕ → ServeFault → Type 0
 NoLoops loops fault.Start = MOST_LOOPS < loops
 NoLoops loops fault.Wait = Unit {0}
+NoLoops loops fault.Random = Unit {0}
 NoLoops loops _ = ⊥
 
 abbrev pub HasFailed : {D R : Type 0} → disk.Ghosts D → (D → List ℕ → Type 0) → (List ℕ → FileFault → Type 0)

@@ -6,6 +6,7 @@ use crate::tests::clients::{OPEN, listening, reach, replies, send};
 use std::alloc::Global;
 use std::io::{Eprint, Print};
 use std::net::{Net, SocketAddr, TcpListener, TcpStream};
+use std::random::RandomSource;
 use std::rt::Clock;
 use std::sync::Wait;
 use std::sync::atomic::{AtomicBool, Ordering};
@@ -145,6 +146,7 @@ fn worked<
         + Print
         + Eprint
         + Net<Listener = TcpListener, Stream = TcpStream>
+        + RandomSource
         + Threads
         + Wait
         + Sync,
@@ -166,7 +168,7 @@ fn worked<
     };
     let (done, came) = join(
         rt,
-        || run_workers(rt, listener, manager, gate, count, settings),
+        || run_workers(rt, listener, manager, gate, None, count, settings),
         || clients(address),
     );
     Some((done.ok()?, came))

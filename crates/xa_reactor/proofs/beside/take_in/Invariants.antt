@@ -1,6 +1,7 @@
 use Rattle.xa_reactor.specs.Believed.Tending.{Tends, sessions_of}
+use Rattle.xa_reactor.specs.Users.{users_of}
 use Rattle.xa_reactor.proofs.beside.take_in.Given as goal
 
 abbrev pub invariant-loop : goal.invariant-loop
 invariant-loop g l =
-    Tends g.D.Reception.lets_in g.D.Reception.connected g.D.Door.called g.D.Door.left (sessions_of l.initial.peers.all) l.initial.door (sessions_of l.peers.all) l.door
+    Tends (users_of l.fn.common) g.D.Reception.connected g.D.Door.called g.D.Door.left (sessions_of l.initial.peers.all) l.initial.door (sessions_of l.peers.all) l.door

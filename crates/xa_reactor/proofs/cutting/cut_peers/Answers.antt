@@ -4,7 +4,7 @@ use Rattle.slab.specs.Slab.{get}
 use Rattle.xa_reactor.specs.Believed.Tending.{sessions_of}
 use Rattle.xa_reactor.specs.Cuts.{left_by}
 use Rattle.xa_reactor.proofs.Left.{cut_beyond}
-use Rattle.xa_reactor.proofs.Doing.{tends_twice}
+use Rattle.xa_reactor.proofs.ForAll.{all_twice}
 use Rattle.xa_reactor.proofs.cutting.cut_peers.Goals as goal
 
 pub loop-key-preserved : goal.loop-key-preserved
@@ -14,7 +14,7 @@ loop-key-preserved g c =
     let first = c.args.peers.now.all in
     let i = c.loop-key.invariant in
     record {
-      tends = tends_twice g.D.Reception.lets_in g.D.Reception.connected g.D.Door.called g.D.Door.left (sessions_of first) (sessions_of last) (sessions_of next)
+      tends = all_twice g.D.Reception.connected g.D.Door.called g.D.Door.left (sessions_of first) (sessions_of last) (sessions_of next)
           c.args.door.now c.loop-key.door c.cut_one-ends.new.door i.tends c.cut_one-ends.ensures.tends;
       left = below_more (λ key. get next key ≡ left_by c.args.cut (get first key)) c.loop-key.key
           (λ key below. c.cut_one-ends.ensures.others key (λ is. absurd (omega (arith, is, below))) ∙ i.left key below)

@@ -5,13 +5,13 @@ use Rattle.mio.specs.declared.token.Token.{Token}
 use Rattle.xa_reactor.specs.Believed.Tending.{sessions_of}
 use Rattle.xa_reactor.specs.Peers.{NoticesAll}
 use Rattle.xa_reactor.specs.declared.noticing.TheConstants.{LISTENER}
-use Rattle.xa_reactor.proofs.Doing.{tends_twice}
 use Rattle.xa_reactor.proofs.Noticed.{none_left, told_all, told_more}
+use Rattle.xa_reactor.proofs.ForAll.{all_twice}
 use Rattle.xa_reactor.proofs.noticing.notice_all.Goals as goal
 
 pub loop-event-preserved : goal.loop-event-preserved
 loop-event-preserved g c = record {
-  tends = tends_twice g.D.Reception.lets_in g.D.Reception.connected g.D.Door.called g.D.Door.left (sessions_of c.args.peers.now.all) (sessions_of c.loop-event.peers.all) (sessions_of c.notice.new.self.all)
+  tends = all_twice g.D.Reception.connected g.D.Door.called g.D.Door.left (sessions_of c.args.peers.now.all) (sessions_of c.loop-event.peers.all) (sessions_of c.notice.new.self.all)
       c.args.door.now c.loop-event.door c.notice.new.door c.loop-event.invariant.tends c.notice.ensures.tends;
   noticed = λ final later.
       c.loop-event.invariant.noticed final

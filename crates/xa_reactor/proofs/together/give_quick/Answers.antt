@@ -3,16 +3,18 @@ use Rattle.std.specs.Prelude.{All}
 use Rattle.std.proofs.lemmas.List.Elements.{All-append, All-drop, All-take}
 use Rattle.xa_reactor.specs.declared.ask.Ask.{Ask}
 use Rattle.xa_reactor.specs.Asking.{IsLeft, IsLent}
-use Rattle.xa_reactor.specs.Believed.Tending.{Table, Tends, sessions_of}
-use Rattle.xa_reactor.proofs.Asking.{are_left, are_open, left_turned, tends_turned}
+use Rattle.xa_reactor.specs.Believed.Tending.{Table, sessions_of}
+use Rattle.xa_reactor.proofs.Asking.{are_left, are_open, left_turned}
+use Rattle.xa_reactor.specs.ForAll.{TendsForAll}
+use Rattle.xa_reactor.proofs.ForAll.{all_turned}
 use Rattle.xa_reactor.proofs.together.give_quick.Goals as goal
 
 pub returns-clause-tends : goal.returns-clause-tends
 returns-clause-tends g c =
     let table : Table = sessions_of c.args.peers.now.all in
     let lent : All (IsLent table) c.deref_mut.result.now = subst (λ (xs : List Ask). All (IsLent table) xs) (sym c.deref_mut.ensures.value) c.requires.lent in
-    subst (λ (t : Table). Tends g.D.Reception.lets_in g.D.Reception.connected g.D.Door.called g.D.Door.left table c.args.door.now t c.answer_quick.new.door) (sym c.send_answered.ensures.same)
-    (tends_turned g.D.Door.called g.D.Reception.lets_in g.D.Reception.connected g.D.Door.left table c.deref_mut.result.now c.answer_quick.ensures.turned.told c.args.door.now c.answer_quick.new.door
+    subst (λ (t : Table). TendsForAll g.D.Reception.connected g.D.Door.called g.D.Door.left table c.args.door.now t c.answer_quick.new.door) (sym c.send_answered.ensures.same)
+    (all_turned g.D.Reception.connected g.D.Door.called g.D.Door.left table c.deref_mut.result.now c.answer_quick.ensures.turned.told c.args.door.now c.answer_quick.new.door
     lent c.answer_quick.ensures.turned.tells)
 
 pub send_answered-requires-clause-asks : goal.send_answered-requires-clause-asks

@@ -4,7 +4,7 @@ use Rattle.std.specs.Vec.{vec_len}
 use Rattle.std.proofs.lemmas.List.{take_all}
 use Rattle.xa_reactor.specs.Believed.Tending.{sessions_of}
 use Rattle.xa_reactor.specs.Together.{GoesOnAll}
-use Rattle.xa_reactor.proofs.Doing.{tends_none, tends_twice}
+use Rattle.xa_reactor.proofs.ForAll.{all_none, all_twice}
 use Rattle.xa_reactor.proofs.together.go_on_all.Goals as goal
 
 pub loop-key-init : goal.loop-key-init
@@ -15,7 +15,7 @@ loop-key-init g c =
     ∙ (c.drain-key-items.ensures.rest ∙ take_all (vec_len over - 0) over.items (omega arith)) in
     record {
       goes = λ final later. subst (λ turns. GoesOnAll c.args.peers.now turns final) all later;
-      tends = tends_none g.D.Reception.lets_in g.D.Reception.connected g.D.Door.called g.D.Door.left _ _ c.args.door.now refl;
+      tends = all_none g.D.Reception.connected g.D.Door.called g.D.Door.left _ _ c.args.door.now refl;
     }
 
 pub loop-key-preserved : goal.loop-key-preserved
@@ -23,7 +23,7 @@ loop-key-preserved g c = record {
   goes = λ final later.
       c.loop-key.invariant.goes final
       (subst (λ turns. GoesOnAll c.loop-key.peers turns final) (sym c.in-Some.ensures.steps.0) (c.go_on.new.self, c.go_on.ensures.goes, later));
-  tends = tends_twice g.D.Reception.lets_in g.D.Reception.connected g.D.Door.called g.D.Door.left (sessions_of c.args.peers.now.all) (sessions_of c.loop-key.peers.all) (sessions_of c.go_on.new.self.all)
+  tends = all_twice g.D.Reception.connected g.D.Door.called g.D.Door.left (sessions_of c.args.peers.now.all) (sessions_of c.loop-key.peers.all) (sessions_of c.go_on.new.self.all)
       c.args.door.now c.loop-key.door c.go_on.new.door c.loop-key.invariant.tends c.go_on.ensures.tends;
 }
 

@@ -1,12 +1,13 @@
-use Rattle.std.proofs.Common.{ap, rules, Err}
+use Rattle.std.proofs.Common.{ap, rules, subst, sym, is_some, Err}
+use Rattle.std.specs.Option.{option_map}
 use Rattle.std.proofs.lemmas.Result.{err_from_is_err_and}
-use Rattle.xa_server.specs.Believed.Served.{NoLoops, place_of}
+use Rattle.xa_server.specs.Believed.Served.{AreUsers, NoLoops, place_of}
 use Rattle.xa_server.proofs.Failing.{failed_early, history_failed, loops_failed, tell_failed}
 use Rattle.xa_server.proofs.serving.serve.Goals as goal
 
 pub returns-in_err-listening-clause-failed : goal.returns-in_err-listening-clause-failed
 returns-in_err-listening-clause-failed g c =
-    let told = err_from_is_err_and c.from_residual.result c.from_residual.ensures.1 in
+    let told = err_from_is_err_and c.from_residual-in_err-listening.result c.from_residual-in_err-listening.ensures.1 in
     rw (told.1, told.2)
     (failed_early g.R.Disk.Disk g.R.Opens.opened g.R.Opens.refused g.R.Listens c.args.service.now.log_bytes (place_of c.args.service.now)
     (NoLoops c.args.service.now.loops) c.in_err-listening.field-0.0 c.in_err-listening.ensures.failed)
@@ -41,6 +42,8 @@ returns-clause-served g c = record {
   listener = c.in_ok-listening.listening;
   manager = c.in_ok-listening.manager;
   ready = c.in_ok-listening.ensures.ready;
+  users = option_map (λ u. u.now) c.as_ref.result;
+  users_are = subst (AreUsers (is_some c.args.service.now.users)) (sym c.as_ref.ensures.value) c.in_ok-users.ensures.users;
   loops = c.loops_of-loops.result;
   loops_are = c.loops_of-loops.ensures;
   told = c.in_ok-told.told;

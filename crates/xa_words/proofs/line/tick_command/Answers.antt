@@ -1,14 +1,13 @@
 use Rattle.std.proofs.Common.{rules, codes}
 use Rattle.clap.specs.Simple.{new_app}
-use Rattle.xa_words.specs.Line.{IsApp, every_rule, host_rule, port_rule, socket_rule}
-use Rattle.xa_words.proofs.Building.{adds_rule, last_rule}
+use Rattle.xa_words.specs.Line.{IsApp, every_rule, reach_rules, with_rules}
+use Rattle.xa_words.proofs.Building.{last_rule}
 use Rattle.xa_words.proofs.line.tick_command.Goals as goal
 
 pub returns : goal.returns
 returns c =
     let none = new_app (codes "tick") in
-    let first : IsApp none c.after_help.result = record { app_is = search rules; local = search rules } in
-    let one = adds_rule c.after_help.result c.port.result c.in_ok-arg.field-0 none port_rule first c.port.ensures c.in_ok-arg.ensures in
-    let two = adds_rule c.in_ok-arg.field-0 c.host.result c.in_ok-arg-2.field-0 _ host_rule one c.host.ensures c.in_ok-arg-2.ensures in
-    let three = adds_rule c.in_ok-arg-2.field-0 c.socket.result c.in_ok-arg-3.field-0 _ socket_rule two c.socket.ensures c.in_ok-arg-3.ensures in
-    last_rule c.in_ok-arg-3.field-0 c.every.result c.arg-4.result _ every_rule three c.every.ensures c.arg-4.ensures
+    let first : IsApp none c.after_help-command.result = record { app_is = search rules; local = search rules } in
+    let reached = c.in_ok-with_reach.ensures none first in
+    last_rule c.in_ok-with_reach.field-0 c.every.result c.arg.result (with_rules none reach_rules) every_rule reached c.every.ensures
+    c.arg.ensures

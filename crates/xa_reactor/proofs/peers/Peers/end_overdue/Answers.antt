@@ -3,8 +3,8 @@ use borrow.Author.Count.{below_more}
 use Rattle.slab.specs.Slab.{get}
 use Rattle.xa_reactor.specs.Believed.Tending.{sessions_of}
 use Rattle.xa_reactor.specs.Since.{IsLooked}
-use Rattle.xa_reactor.proofs.Doing.{tends_twice}
 use Rattle.xa_reactor.proofs.Looking.{looked_at, looked_one, looked_other}
+use Rattle.xa_reactor.proofs.ForAll.{all_twice}
 use Rattle.xa_reactor.proofs.peers.Peers.end_overdue.Goals as goal
 
 pub loop-key-preserved : goal.loop-key-preserved
@@ -14,7 +14,7 @@ loop-key-preserved g c =
     let next = c.end_if_overdue.new.all in
     let first = c.args.self.now.all in
     record {
-      tends = tends_twice g.D.Reception.lets_in g.D.Reception.connected g.D.Door.called g.D.Door.left (sessions_of first) (sessions_of last) (sessions_of next)
+      tends = all_twice g.D.Reception.connected g.D.Door.called g.D.Door.left (sessions_of first) (sessions_of last) (sessions_of next)
           c.args.door.now c.loop-key.door c.end_if_overdue.new.door c.loop-key.invariant.tends c.end_if_overdue.ensures.tends;
       looked = below_more (λ key. IsLooked g.D.Reception.ties c.args.settings.now c.args.now (get first key) (get next key)) c.loop-key.key
           (λ key below.

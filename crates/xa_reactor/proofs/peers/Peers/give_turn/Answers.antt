@@ -1,7 +1,7 @@
 use Rattle.std.proofs.Common.{◌≡◌, ◌∙◌, ℕ, List, ◌∷◌, refl, subst, sym}
 use Rattle.xa_reactor.specs.Believed.Tending.{sessions_of}
 use Rattle.xa_reactor.specs.Peers.{GoesOn, HadTurn}
-use Rattle.xa_reactor.proofs.Doing.{tends_twice}
+use Rattle.xa_reactor.proofs.ForAll.{all_twice}
 use Rattle.xa_reactor.proofs.peers.Peers.give_turn.Goals as goal
 
 heads : (x y : ℕ) (xs ys : List ℕ) → x ∷ xs ≡ y ∷ ys → x ≡ y
@@ -12,7 +12,7 @@ tails x y xs ys is = cc
 
 pub returns-clause-tends : goal.returns-clause-tends
 returns-clause-tends g c =
-    tends_twice g.D.Reception.lets_in g.D.Reception.connected g.D.Door.called g.D.Door.left (sessions_of c.args.self.now.all) (sessions_of c.turn_in-step.new.all) (sessions_of c.go_on.new.self.all)
+    all_twice g.D.Reception.connected g.D.Door.called g.D.Door.left (sessions_of c.args.self.now.all) (sessions_of c.turn_in-step.new.all) (sessions_of c.go_on.new.self.all)
     c.args.door.now c.turn_in-step.new.door c.go_on.new.door c.turn_in-step.ensures.tends c.go_on.ensures.tends
 
 pub returns-clause-turn : goal.returns-clause-turn

@@ -1,12 +1,12 @@
 use Rattle.xa_reactor.specs.Believed.Tending.{Table, sessions_of}
-use Rattle.xa_reactor.proofs.Doing.{posting_twice}
+use Rattle.xa_reactor.proofs.ForAll.{all_posting_twice}
 use Rattle.xa_reactor.proofs.tending.Loop.give_more.Goals as goal
 
 pub returns-in_default-clause-tends : goal.returns-in_default-clause-tends
 returns-in_default-clause-tends g c =
     let before : Table = sessions_of c.loop.peers.all in
     let after : Table = sessions_of c.linger_once.new.peers.all in
-    posting_twice g.D.Reception.posts g.D.Reception.lets_in g.D.Reception.connected g.D.Door.called g.D.Door.left (sessions_of c.args.peers.now.all) before after
+    all_posting_twice g.D.Reception.connected g.D.Door.called g.D.Door.left g.D.Reception.posts (sessions_of c.args.peers.now.all) before after
     c.args.door.now c.loop.door c.linger_once.new.door c.loop.invariant.tends c.linger_once.ensures.tends
 
 pub loop-preserved : goal.loop-preserved
@@ -14,7 +14,7 @@ loop-preserved g c =
     let before : Table = sessions_of c.loop.peers.all in
     let after : Table = sessions_of c.linger_once.new.peers.all in
     record {
-      tends = posting_twice g.D.Reception.posts g.D.Reception.lets_in g.D.Reception.connected g.D.Door.called g.D.Door.left (sessions_of c.args.peers.now.all) before after
+      tends = all_posting_twice g.D.Reception.connected g.D.Door.called g.D.Door.left g.D.Reception.posts (sessions_of c.args.peers.now.all) before after
           c.args.door.now c.loop.door c.linger_once.new.door c.loop.invariant.tends c.linger_once.ensures.tends;
       lent = c.linger_once.ensures.lent;
     }

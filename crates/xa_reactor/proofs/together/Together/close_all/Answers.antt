@@ -4,8 +4,7 @@ use Rattle.std.specs.VecDeque.{deque_len}
 use Rattle.xa_reactor.specs.Believed.Tending.{sessions_of}
 use Rattle.xa_reactor.proofs.Asking.{lent_still}
 use Rattle.xa_reactor.proofs.Keeping.{kept_count, kept_more}
-use Rattle.xa_reactor.proofs.Doing.{tends_thrice, tends_twice}
-use Rattle.xa_reactor.proofs.Settled.{still_settled}
+use Rattle.xa_reactor.proofs.ForAll.{all_thrice, all_twice, settled_by_all}
 use Rattle.xa_reactor.proofs.together.Together.close_all.Goals as goal
 
 pub give_waiting-requires-clause-lent : goal.give_waiting-requires-clause-lent
@@ -18,9 +17,9 @@ give_waiting-requires-2-clause-lent g c =
 
 pub returns-clause-tends : goal.returns-clause-tends
 returns-clause-tends g c =
-    tends_twice g.D.Reception.lets_in g.D.Reception.connected g.D.Door.called g.D.Door.left (sessions_of c.args.peers.now.all) (sessions_of c.give_waiting-2.new.peers.all)
+    all_twice g.D.Reception.connected g.D.Door.called g.D.Door.left (sessions_of c.args.peers.now.all) (sessions_of c.give_waiting-2.new.peers.all)
     (sessions_of c.go_on_all.new.peers.all) c.args.door.now c.give_waiting-2.new.door c.go_on_all.new.door
-    (tends_thrice g.D.Reception.lets_in g.D.Reception.connected g.D.Door.called g.D.Door.left (sessions_of c.args.peers.now.all) (sessions_of c.answer_quick.new.peers.all)
+    (all_thrice g.D.Reception.connected g.D.Door.called g.D.Door.left (sessions_of c.args.peers.now.all) (sessions_of c.answer_quick.new.peers.all)
     (sessions_of c.give_waiting.new.peers.all) (sessions_of c.give_waiting-2.new.peers.all)
     c.args.door.now c.answer_quick.new.door c.give_waiting.new.door c.give_waiting-2.new.door
     c.answer_quick.ensures.tends c.give_waiting.ensures.tends c.give_waiting-2.ensures.tends)
@@ -47,6 +46,6 @@ returns-clause-goes g c =
 
 pub returns-clause-settled : goal.returns-clause-settled
 returns-clause-settled g c =
-    still_settled g.D.Reception.lets_in g.D.Reception.connected g.D.Door.called g.D.Door.left g.D.Reception.is_settled g.met.D.Reception.keeps_settled
+    settled_by_all g.D.Reception.connected g.D.Door.called g.D.Door.left g.D.Reception.is_settled g.met.D.Reception.keeps_settled
     (sessions_of c.give_waiting-2.new.peers.all) (sessions_of c.go_on_all.new.peers.all)
     c.give_waiting-2.new.door c.go_on_all.new.door c.go_on_all.ensures.tends c.give_waiting-2.ensures.settled

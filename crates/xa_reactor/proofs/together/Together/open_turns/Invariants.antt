@@ -1,10 +1,11 @@
-use Rattle.xa_reactor.specs.Believed.Tending.{TendsPosting, sessions_of}
+use Rattle.xa_reactor.specs.Believed.Tending.{sessions_of}
 use Rattle.xa_reactor.specs.Together.{HasLent, KeepsTurns}
+use Rattle.xa_reactor.specs.ForAll.{PostsForAll}
 use Rattle.xa_reactor.proofs.together.Together.open_turns.Given as goal
 
 abbrev pub invariant-loop : goal.invariant-loop
 invariant-loop g l = record {
-  tends : TendsPosting g.D.Reception.posts g.D.Reception.lets_in g.D.Reception.connected g.D.Door.called g.D.Door.left (sessions_of l.initial.peers.all) l.initial.door (sessions_of l.peers.all) l.door;
+  tends : PostsForAll g.D.Reception.connected g.D.Door.called g.D.Door.left g.D.Reception.posts (sessions_of l.initial.peers.all) l.initial.door (sessions_of l.peers.all) l.door;
   lent : HasLent (sessions_of l.peers.all) l.self;
   turns : KeepsTurns l.initial.self l.initial.peers l.self l.peers;
 }
