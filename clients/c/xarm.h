@@ -13,11 +13,21 @@
        host=127.0.0.1          its host, an address or a name; 127.0.0.1 if it isn't given
        socket=/run/xarm.sock   its Unix socket, of at most 107 bytes, in place of port and host
        name=bank               the name of the resource manager (the server's --name), which has to be given
+       user=ada                who logs in, if the server wants a login (its --users): 1 to 64 letters, digits, '-', '_', '.' and '@'
+       password_file=/etc/x    the file whose first line is that user's password, of 1 to 1,024 bytes. If it isn't given, the environment
+                               variable XARM_PASSWORD_FILE names it. Nobody but its owner may have access to it (mode 0600)
        timeout=30              how long a call waits, connecting included, in seconds, 1 to 3600; 30 if it isn't given. The look-up of a
                                host's name takes its own time
 
    Anything else is XAER_INVAL, as are a name that isn't the server's, and another info string for an rmid that is open. The string of
    xa_close isn't looked at, and may be NULL.
+
+   LOGINS. With a user each connection logs in, by SCRAM-SHA-256, before it asks for anything else, also one that a later call makes anew.
+   The password is read from its file each time, wiped after that, and never sent.
+   - XAER_INVAL from xa_open: an argument is wrong. The server refuses the name or the password, takes no logins, or doesn't let the user
+     open the resource manager; it wants a login, and there is no user; or there is no password, or no file that is its owner's alone.
+   - XAER_RMERR from xa_open: the server doesn't know the password's verifier, so it isn't who it says; or the connection broke.
+   - In other calls each is XAER_RMFAIL. Either way the connection is closed, and xarm_why tells which it was.
 
    XIDS have a format of 32 bits, a gtrid of 1 to 64 bytes, and a bqual of 0 to 64 (in the standard 1 to 64; other clients of the same
    server may use an empty one, and xa_recover lists it). Others are XAER_INVAL, and nothing is sent.

@@ -15,12 +15,20 @@ success is raised as an `Error` with the code and the detail. Keys and values ar
 A connection that breaks is a `ConnectionLost`: whether the call was done isn't known, and the next call connects anew. Of what
 docs/CLIENT.md says of lost replies, a connection does by itself: it rolls back the branch of a start whose reply was lost, and asks a
 completion again until the server has hung the broken session up. `tpc_*` do the rest.
+
+With `user` and `password` each connection logs in before it asks for anything else (SCRAM-SHA-256), and is closed unless the server shows
+that it knows the password's verifier. The password itself is never sent.
 """
 
 from __future__ import annotations
 
+import base64
 import enum
+import hashlib
+import hmac
 import itertools
+import re
+import secrets
 import socket
 import threading
 import time
@@ -33,6 +41,12 @@ _REVISION = 1  # of the protocol
 _MOST_CONTENT = 65535
 _MOST_XIDS = 256
 _MOST_KNOWN = 4096
+_MOST_SECRET = 1024
+_MOST_MESSAGE = 256  # of a login
+_MOST_SALT = 32
+_MOST_NONCE = 64
+_ITERATIONS = range(4096, 1_000_001)
+_NONCE_BYTES = 18
 
 
 class Code(enum.IntEnum):
@@ -125,14 +139,14 @@ class Heuristic(Error):
     """XA_HEURCOM, XA_HEURRB: the operator completed the branch; `xa_forget` it."""
 
 
-def _error(call: str, code: int, detail: int) -> Error:
+def _error(call: str, code: int, detail: int, why: str = "") -> Error:
     if code in (Code.XAER_RMERR, Code.XAER_RMFAIL):
-        return OperationalError(call, code, detail)
+        return OperationalError(call, code, detail, why)
     if code < 0:
-        return ProgrammingError(call, code, detail)
+        return ProgrammingError(call, code, detail, why)
     if code >= Code.XA_RBROLLBACK:
-        return RolledBack(call, code, detail)
-    return (Retry if code == Code.XA_RETRY else Heuristic)(call, code, detail)
+        return RolledBack(call, code, detail, why)
+    return (Retry if code == Code.XA_RETRY else Heuristic)(call, code, detail, why)
 
 
 class Xid(NamedTuple):
@@ -240,15 +254,19 @@ class _Reading:
             return dict(zip(numbers[::2], numbers[1::2]))
         if kind == 10:
             return [self.number(8) for _ in range(self.number(2))]
+        if kind in (11, 12):
+            if len(self.rest) > _MOST_MESSAGE:
+                raise ValueError("its length")
+            return self.take(len(self.rest))
         raise ValueError("its kind")
 
 
 # The byte of each request, and the kinds of body that a success has, if not 0.
 _OPERATIONS = {name: number for number, name in enumerate("open close start end prepare commit rollback recover forget get".split(), 1)}
 _OPERATIONS.update(put=11, delete=12, decide=13, doom=14, restart=15, timeout=16, tick=17, trim=65, branches=66, status=67, hello=70, disconnect=71)
-_OPERATIONS.update(metrics=72, sessions=73)
+_OPERATIONS.update(metrics=72, sessions=73, first=74, final=75)
 _BODIES = {"start": (1,), "get": (2, 3), "recover": (4,), "tick": (1,), "trim": (1,), "branches": (5,), "status": (6,), "hello": (8,)}
-_BODIES.update(metrics=(9,), sessions=(10,))
+_BODIES.update(metrics=(9,), sessions=(10,), first=(11,), final=(12,))
 
 
 def _detail(number: int, code: int) -> Detail:
@@ -290,6 +308,64 @@ def _keyed(key: bytes) -> bytes:
     if not 1 <= len(key) <= 64:
         raise ValueError(f"a key of {len(key)} bytes")
     return bytes([len(key)]) + key
+
+
+_USER = re.compile(r"[A-Za-z0-9_.@-]{1,64}")
+_CHALLENGE = re.compile(rb"r=([!-+\x2d-~]+),s=([A-Za-z0-9+/]+={0,2}),i=([1-9][0-9]{3,6})")
+
+
+def _secret(user: Optional[str], password: Union[str, bytes, None]) -> bytes:
+    """The bytes of a user's password. ValueError if there is none, or one without a user."""
+    if user is None:
+        if password is not None:
+            raise ValueError("a password without a user")
+        return b""
+    if not _USER.fullmatch(user):
+        raise ValueError(f"no user can have the name {user!r}")
+    found = password.encode() if isinstance(password, str) else bytes(password or b"")
+    if not 1 <= len(found) <= _MOST_SECRET:
+        raise ValueError(f"a password of {len(found)} bytes")
+    return found
+
+
+def _nonce() -> str:
+    """Another one for each login, which nobody can guess."""
+    return base64.b64encode(secrets.token_bytes(_NONCE_BYTES)).decode()
+
+
+def _mac(key: bytes, text: bytes) -> bytes:
+    return hmac.new(key, text, "sha256").digest()
+
+
+class _Login:
+    """The client's side of one login by SCRAM-SHA-256 (RFC 5802, RFC 7677), without channel binding."""
+
+    def __init__(self, user: str, secret: bytes, nonce: str):
+        self.secret, self.nonce = secret, nonce.encode()
+        self.bare = f"n={user},r={nonce}".encode()
+        self.acceptance = b""  # by which the server shows that it knows the secret's verifier
+
+    def first(self) -> bytes:
+        return b"n,," + self.bare
+
+    def final(self, challenge: bytes) -> bytes:
+        """The answer to a challenge. ValueError if it is none, or not to this login."""
+        match = _CHALLENGE.fullmatch(challenge)
+        if not match or not match[1].startswith(self.nonce) or not 1 <= len(match[1]) - len(self.nonce) <= _MOST_NONCE:
+            raise ValueError("no challenge to this login")
+        salt, count = base64.b64decode(match[2]), int(match[3])
+        if base64.b64encode(salt) != match[2] or not 1 <= len(salt) <= _MOST_SALT or count not in _ITERATIONS:
+            raise ValueError(f"a challenge with {len(salt)} bytes of salt and {count} iterations")
+        bare = b"c=" + base64.b64encode(b"n,,") + b",r=" + match[1]
+        signed = b",".join((self.bare, challenge, bare))
+        salted = hashlib.pbkdf2_hmac("sha256", self.secret, salt, count)
+        key = _mac(salted, b"Client Key")
+        signature = _mac(hashlib.sha256(key).digest(), signed)
+        self.acceptance = b"v=" + base64.b64encode(_mac(_mac(salted, b"Server Key"), signed))
+        return bare + b",p=" + base64.b64encode(bytes(one ^ other for one, other in zip(key, signature)))
+
+    def is_accepted_by(self, last: bytes) -> bool:
+        return hmac.compare_digest(last, self.acceptance)
 
 
 class _Known:
@@ -364,13 +440,17 @@ class Connection:
         timeout: float = 30.0,
         login_timeout: Optional[float] = None,
         idle: float = 0.5,
+        user: Optional[str] = None,
+        password: Union[str, bytes, None] = None,
     ):
         """A server's host and port, or the `path` of its Unix socket, and its resource manager's name: None opens none, for the
         operator's calls alone. A call waits for `timeout` seconds at most, `connect` for `login_timeout`. If a connection was idle for
-        `idle` seconds, a start or a scan first asks whether it stands, and else makes it anew."""
+        `idle` seconds, a start or a scan first asks whether it stands, and else makes it anew. A `user` logs in with a `password` of 1 to
+        1,024 bytes, text in UTF-8; None doesn't log in. ValueError if there is no such user or password."""
         self._address: Any = path if path is not None else (host, port)
         self.name = name
         self._name = None if name is None else name.encode()
+        self._user, self._secret = user, _secret(user, password)
         self._timeout, self._login_timeout, self._idle = timeout, login_timeout or timeout, idle
         self._known = _Known.all.setdefault((self._address, name), _Known())
         self._number = next(self._count)
@@ -384,14 +464,18 @@ class Connection:
         return self
 
     def __str__(self) -> str:
-        address = self._address if isinstance(self._address, str) else "%s:%d" % self._address
-        return f"{(self._name or b'').decode()} at {address}"
+        return f"{(self._name or b'').decode()} at {self._where()}"
+
+    def _where(self) -> str:
+        return self._address if isinstance(self._address, str) else "%s:%d" % self._address
 
     def __exit__(self, *_: Any) -> None:
         self.close()
 
     def connect(self) -> "Connection":
-        """Connects now. ConnectionLost; ProgrammingError if the resource manager has another name."""
+        """Connects now. ConnectionLost; ProgrammingError if the resource manager has another name, with detail Access if the server
+        refuses the user or the password, the user may not open it, or there is none and the server wants one, and with detail Frame if
+        the server takes no logins; OperationalError if the server doesn't know the password's verifier. So do calls that connect anew."""
         with self._lock:
             self._run("open", lambda deadline: None, self._login_timeout)
         return self
@@ -441,13 +525,37 @@ class Connection:
             self._socket.connect(self._address)
         if self._is_closed:
             raise OSError("the connection was closed")
+        if self._user is not None:
+            self._log_in(self._user, deadline)
         if self._name is not None:
             reply = self._exchange("open", bytes(4) + bytes([len(self._name)]) + self._name, deadline)
             if reply.code:
-                raise _error("open", reply.code, reply.detail)
+                wants = "" if reply.detail != Detail.Access else f"{self._user} may not" if self._user else "the server wants a login"
+                raise _error("open", reply.code, reply.detail, wants)
         if self._limit:
             self._exchange("timeout", self._limit.to_bytes(4, "big"), deadline)
         self._settle(None, deadline)
+
+    def _log_in(self, user: str, deadline: float) -> None:
+        """Before anything else is asked. Whatever it raises, the connection is closed."""
+        login, who = _Login(user, self._secret, _nonce()), f"{user} at {self._where()}"
+        challenge = self._say(who, "first", login.first(), deadline)
+        try:
+            final = login.final(challenge)
+        except ValueError as fault:
+            raise ValueError(f"the login of {who}: {fault}") from fault
+        if not login.is_accepted_by(self._say(who, "final", final, deadline)):
+            why = f"{who}: the server doesn't know the password's verifier, so it isn't who it says"
+            raise OperationalError("login", Code.XAER_RMFAIL, 0, why)
+
+    def _say(self, who: str, operation: str, message: bytes, deadline: float) -> bytes:
+        """A message of a login, and the server's."""
+        reply = self._exchange(operation, message, deadline)
+        if reply.code:
+            told = {Detail.Access: "the server refuses the name or the password", Detail.Frame: "the server takes no logins"}
+            why = told.get(Detail(reply.detail), "") if reply.code == Code.XAER_INVAL else ""
+            raise _error("login", reply.code, reply.detail, f"{who}{why and ': ' + why}")
+        return reply.body
 
     def _disconnect(self) -> None:
         if self._socket is not None:

@@ -3,6 +3,8 @@
 #include <string.h>
 #include <unistd.h>
 
+#include "scram.h"
+#include "secret.h"
 #include "socket.h"
 #include "why.h"
 
@@ -22,8 +24,9 @@ void connection_break(struct connection *connection)
 static bool broken(struct connection *connection, enum operation operation, const char *fault)
 {
     char words[MOST_WORDS];
+    const char *user = connection->server.user;
     info_words(&connection->server, words, sizeof words);
-    why_set("%s at %s: %s", operation_name(operation), words, fault);
+    why_set("%s at %s%s%s: %s", operation_name(operation), words, user[0] == '\0' ? "" : " as ", user, fault);
     connection_break(connection);
     return false;
 }
@@ -72,27 +75,102 @@ static bool exchange(struct connection *connection, struct request *request, str
     return true;
 }
 
-/* Connects, and opens the resource manager, in the time that the call has. The code of an xa_open. */
-static int connect_and_open(struct connection *connection)
+/* What a server that refuses a login says of it. */
+static const char *words_of_refusal(const struct reply *reply)
 {
-    const char *fault = NULL;
+    if (reply->code == XAER_INVAL && reply->detail == DETAIL_ACCESS)
+        return "the server refuses the name or the password";
+    if (reply->code == XAER_INVAL && reply->detail == DETAIL_FRAME)
+        return "the server takes no logins";
+    return "the server refused it";
+}
+
+/* Asks for one of the two steps of a login. The code of an xa_open. */
+static int say(struct connection *connection, enum operation step, const char *message, struct reply *reply)
+{
     struct request request;
+    request_begin(&request, step);
+    request_text(&request, 0, message, strlen(message));
+    if (!exchange(connection, &request, reply))
+        return XAER_RMERR;
+    if (reply->code == XA_OK)
+        return XA_OK;
+    broken(connection, step, words_of_refusal(reply));
+    return reply->code == XAER_INVAL ? XAER_INVAL : XAER_RMERR;
+}
+
+/* Logs in, before anything else is asked, and sees that the server knows the password's verifier. The code of an xa_open. */
+static int log_in(struct connection *connection, const struct secret *secret)
+{
+    struct scram scram;
     struct reply reply;
-    connection->socket = socket_connect(&connection->server, connection->deadline, &fault);
-    if (connection->socket < 0) {
-        broken(connection, OPEN, fault);
+    char nonce[NONCE_LENGTH + 1];
+    if (!scram_nonce(nonce)) {
+        broken(connection, FIRST, "the system has no random bytes");
         return XAER_RMERR;
     }
+    scram_begin(&scram, connection->server.user, nonce);
+    int code = say(connection, FIRST, scram.first, &reply);
+    if (code != XA_OK)
+        return code;
+    if (!scram_answer(&scram, (struct part){secret->bytes, secret->length}, reply.body, reply.count)) {
+        broken(connection, FIRST, "no reply of an xarm server: no challenge to this login");
+        return XAER_RMERR;
+    }
+    code = say(connection, FINAL, scram.final, &reply);
+    if (code != XA_OK)
+        return code;
+    if (!scram_is_accepted(&scram, reply.body, reply.count)) {
+        broken(connection, FINAL, "the server doesn't know the password's verifier, so it isn't who it says");
+        return XAER_RMERR;
+    }
+    return XA_OK;
+}
+
+/* Of the server that it is connected to. The code of an xa_open. */
+static int open_there(struct connection *connection)
+{
+    struct request request;
+    struct reply reply;
+    bool has_user = connection->server.user[0] != '\0';
+    const char *no_access = has_user ? "the user may not open the resource manager" : "the server wants a login, and there is no user";
     request_begin(&request, OPEN);
     request_number(&request, TMNOFLAGS);
     request_text(&request, 1, connection->server.name, strlen(connection->server.name));
     if (!exchange(connection, &request, &reply))
         return XAER_RMERR;
-    if (reply.code == XAER_INVAL)
+    if (reply.code == XAER_INVAL && reply.detail == DETAIL_ACCESS)
+        broken(connection, OPEN, no_access);
+    else if (reply.code == XAER_INVAL)
         broken(connection, OPEN, "the resource manager has another name");
     else if (reply.code != XA_OK)
         broken(connection, OPEN, "the server refused it");
     return reply.code;
+}
+
+/* Connects, and logs in if there is a user. The code of an xa_open. */
+static int connect_as(struct connection *connection, const struct secret *secret)
+{
+    const char *fault = NULL;
+    connection->socket = socket_connect(&connection->server, connection->deadline, &fault);
+    if (connection->socket < 0) {
+        broken(connection, OPEN, fault);
+        return XAER_RMERR;
+    }
+    return secret ? log_in(connection, secret) : XA_OK;
+}
+
+/* Connects, logs in, and opens the resource manager, in the time that the call has. The code of an xa_open. */
+static int connect_and_open(struct connection *connection)
+{
+    struct secret secret;
+    bool has_user = connection->server.user[0] != '\0';
+    if (has_user && !secret_read(&connection->server, &secret))
+        return XAER_INVAL;
+    int code = connect_as(connection, has_user ? &secret : NULL);
+    if (has_user)
+        secret_wipe(&secret);
+    return code == XA_OK ? open_there(connection) : code;
 }
 
 /* A new call has all of its time, and notices that the server closed the connection, or sent what nobody asked for. */

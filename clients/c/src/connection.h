@@ -21,7 +21,7 @@ struct connection {
     unsigned char content[LENGTH_BYTES + MOST_REPLY + 1];
 };
 
-/* Connects, and opens the resource manager, if there is no connection. The code that xa_open returns. */
+/* Connects, logs in if there is a user, and opens the resource manager, if there is no connection. The code that xa_open returns. */
 int connection_open(struct connection *connection);
 
 /* Begins a call if there is a connection that the server didn't close since; doesn't connect. */

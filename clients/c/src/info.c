@@ -34,6 +34,16 @@ static bool keep(const char *value, size_t length, size_t least, char *to, size_
     return true;
 }
 
+/* Whether a user can have a name: nothing in it has to be escaped in a login's messages. */
+static bool is_user(const char *name, size_t length)
+{
+    size_t at = 0;
+    while (at < length && name[at] != '\0'
+        && strchr("ABCDEFGHIJKLMNOPQRSTUVWXYZabcdefghijklmnopqrstuvwxyz0123456789-_.@", name[at]))
+        at++;
+    return at == length;
+}
+
 /* Reads one word, KEY=VALUE. Each may be given once; has_name tells of the name, which may be empty. */
 static bool read_word(const char *word, size_t length, struct info *to, bool *has_name)
 {
@@ -49,6 +59,10 @@ static bool read_word(const char *word, size_t length, struct info *to, bool *ha
         return number_of(value, rest, 65535) > 0 && keep(value, rest, 1, to->port, MOST_PORT);
     if (key == 6 && memcmp(word, "socket", key) == 0)
         return keep(value, rest, 1, to->path, MOST_PATH);
+    if (key == 4 && memcmp(word, "user", key) == 0)
+        return is_user(value, rest) && keep(value, rest, 1, to->user, MOST_USER);
+    if (key == 13 && memcmp(word, "password_file", key) == 0)
+        return keep(value, rest, 1, to->password_file, MOST_FILE);
     if (key == 7 && memcmp(word, "timeout", key) == 0) {
         int seconds = number_of(value, rest, MOST_SECONDS);
         bool is_first = to->milliseconds == 0;
@@ -96,6 +110,10 @@ bool info_read(const char *text, struct info *to)
         why_set("xa_open: the info string wants a name, and either a port or a socket");
         return false;
     }
+    if (to->password_file[0] != '\0' && to->user[0] == '\0') {
+        why_set("xa_open: the info string has a password_file, and no user");
+        return false;
+    }
     if (to->path[0] == '\0' && to->host[0] == '\0')
         strcpy(to->host, "127.0.0.1");
     if (to->milliseconds == 0)
@@ -107,6 +125,12 @@ bool is_one_server(const struct info *one, const struct info *other)
 {
     return strcmp(one->host, other->host) == 0 && strcmp(one->port, other->port) == 0 && strcmp(one->path, other->path) == 0
         && strcmp(one->name, other->name) == 0;
+}
+
+bool is_one_info(const struct info *one, const struct info *other)
+{
+    return is_one_server(one, other) && one->milliseconds == other->milliseconds && strcmp(one->user, other->user) == 0
+        && strcmp(one->password_file, other->password_file) == 0;
 }
 
 void info_words(const struct info *info, char *to, size_t room)

@@ -13,6 +13,8 @@
 #include <time.h>
 #include <unistd.h>
 
+#include "why.h"
+
 enum { PAUSE = 10 };
 
 static const char too_late[] = "no answer within the time-out";
@@ -22,15 +24,6 @@ int64_t milliseconds_now(void)
     struct timespec now;
     clock_gettime(CLOCK_MONOTONIC, &now);
     return (int64_t)now.tv_sec * 1000 + now.tv_nsec / 1000000;
-}
-
-/* An error's text, in memory of the thread. */
-static const char *words_of(int error)
-{
-    static _Thread_local char text[128];
-    if (strerror_r(error, text, sizeof text) != 0)
-        return "an unknown error";
-    return text;
 }
 
 /* Waits until the socket is ready for the events, or has failed. */

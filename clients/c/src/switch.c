@@ -43,7 +43,7 @@ static int refused_flags(enum operation operation, long flags)
 /* Of an rmid that is open it connects anew if the connection broke, and forgets which associations were lost with it. */
 static int open_again(struct connection *connection, const struct info *server)
 {
-    if (!is_one_server(&connection->server, server) || connection->server.milliseconds != server->milliseconds)
+    if (!is_one_info(&connection->server, server))
         return invalid(OPEN, "it is open with another info string");
     int code = connection_open(connection);
     if (code == XA_OK)

@@ -4,4 +4,7 @@
 
 __attribute__((format(printf, 1, 2))) void why_set(const char *form, ...);
 
+/* The text of an errno, in memory of the thread. */
+const char *words_of(int error);
+
 #endif

@@ -10,7 +10,7 @@ const char *operation_name(enum operation operation)
         "", "xa_open", "xa_close", "xa_start", "xa_end", "xa_prepare", "xa_commit", "xa_rollback", "xa_recover", "xa_forget", "xarm_get",
         "xarm_put", "xarm_delete",
     };
-    return names[operation];
+    return operation == FIRST || operation == FINAL ? "login" : names[operation];
 }
 
 const char *detail_name(int detail)
@@ -134,6 +134,11 @@ static bool read_body(const unsigned char *body, size_t length, struct reply *to
         return length == 0;
     case NUMBER:
         return length == 8;
+    case CHALLENGE:
+    case WELCOME:
+        to->count = length;
+        to->body = body;
+        return length <= MOST_MESSAGE;
     case VALUE:
     case XIDS:
         break;
@@ -191,5 +196,7 @@ bool is_answer_to(enum operation operation, const struct reply *reply)
         return reply->kind == NUMBER;
     if (operation == GET && reply->code == XA_OK)
         return reply->kind == VALUE || reply->kind == ABSENT;
+    if ((operation == FIRST || operation == FINAL) && reply->code == XA_OK)
+        return reply->kind == (operation == FIRST ? CHALLENGE : WELCOME);
     return reply->kind == NOTHING;
 }

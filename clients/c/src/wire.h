@@ -14,12 +14,13 @@ enum {
     MOST_VALUE = 16384,
     MOST_XID = 134,
     MOST_XIDS = 256,
+    MOST_MESSAGE = 256, /* of a login */
     MOST_REQUEST = 2 + 1 + MOST_KEY + 2 + MOST_VALUE, /* of a put */
     LEAST_REPLY = 15,
     MOST_REPLY = LEAST_REPLY + 2 + MOST_XIDS * MOST_XID /* of a recover */
 };
 
-enum operation { OPEN = 1, CLOSE, START, END, PREPARE, COMMIT, ROLLBACK, RECOVER, FORGET, GET, PUT, DELETE };
+enum operation { OPEN = 1, CLOSE, START, END, PREPARE, COMMIT, ROLLBACK, RECOVER, FORGET, GET, PUT, DELETE, FIRST = 74, FINAL };
 
 /* The name of a request, as "prepare". */
 const char *operation_name(enum operation operation);
@@ -44,23 +45,23 @@ struct request {
 void request_begin(struct request *to, enum operation operation);
 void request_number(struct request *to, uint32_t number);
 void request_xid(struct request *to, const struct packed *xid);
-/* A length of so many bytes, and the text. */
+/* A length of `length_bytes` bytes, which may be none, and the text. */
 void request_text(struct request *to, size_t length_bytes, const void *text, size_t length);
 void request_end(struct request *to);
 
-enum kind { NOTHING, NUMBER, VALUE, ABSENT, XIDS };
+enum kind { NOTHING, NUMBER, VALUE, ABSENT, XIDS, CHALLENGE = 11, WELCOME };
 enum detail { DETAIL_NOTHING, DETAIL_MEMORY, DETAIL_DEVICE, DETAIL_BUSY, DETAIL_LATE, DETAIL_LIMIT, DETAIL_FRAME, DETAIL_LOG_FULL, DETAIL_ACCESS };
 
 /* The name of a detail, as "Busy". */
 const char *detail_name(int detail);
 
-/* What a reply says. The value, and the XIDs, lie in the content that was read. */
+/* What a reply says. The value, the XIDs, and a login's message lie in the content that was read. */
 struct reply {
     int code;
     int detail;
     uint64_t place; /* in the server's history, from 1; 0 if it has none */
     int kind;
-    size_t count; /* the value's bytes, or how many XIDs there are */
+    size_t count; /* the value's bytes, or the message's, or how many XIDs there are */
     const unsigned char *body;
 };
 

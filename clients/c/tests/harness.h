@@ -37,5 +37,8 @@ void broken_tests(void);
 void reply_tests(void);
 void thread_tests(void);
 void recover_tests(void);
+void hash_tests(void);
+void login_tests(void);
+void secret_tests(void);
 
 #endif

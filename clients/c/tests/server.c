@@ -57,12 +57,16 @@ bool server_make(struct server *server, const char *program, const char *folder,
 static void run(const struct server *server, const char *program)
 {
     char port[12];
-    const char *words[] = {program, "serve", "--log", server->log, "--name", server->name, "--port", port, "--tick", "0", NULL};
+    const char *words[] = {
+        program, "serve", "--log", server->log, "--name", server->name, "--port", port, "--tick", "0", NULL, server->users, NULL,
+    };
     snprintf(port, sizeof port, "%d", server->port);
     if (server->socket[0] != '\0') {
         words[6] = "--socket";
         words[7] = server->socket;
     }
+    if (server->users[0] != '\0')
+        words[10] = "--users";
     execv(program, (char *const *)words);
     _exit(127);
 }

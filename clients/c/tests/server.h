@@ -11,6 +11,7 @@ struct server {
     char name[32];
     char log[256];
     char socket[100]; /* empty: it has the port */
+    char users[256];  /* who may log in; empty: it takes no logins */
     char info[300];   /* the info string of xa_open */
 };
 

@@ -17,7 +17,9 @@ enum Operation {
     DELETE(12),
     TIMEOUT(16),
     STATUS(67),
-    HELLO(70);
+    HELLO(70),
+    FIRST(74),
+    FINAL(75);
 
     private final int number;
 
@@ -46,6 +48,10 @@ enum Operation {
                 return reply.kind() == (reply.code() == XA_OK ? Reply.STATUS : Reply.NOTHING);
             case HELLO:
                 return reply.kind() == (reply.code() == XA_OK ? Reply.HELLO : Reply.NOTHING);
+            case FIRST:
+                return reply.kind() == (reply.code() == XA_OK ? Reply.CHALLENGE : Reply.NOTHING);
+            case FINAL:
+                return reply.kind() == (reply.code() == XA_OK ? Reply.WELCOME : Reply.NOTHING);
             default:
                 return reply.kind() == Reply.NOTHING;
         }

@@ -15,9 +15,12 @@ final class Reply {
     static final int XIDS = 4;
     static final int STATUS = 6;
     static final int HELLO = 8;
+    static final int CHALLENGE = 11;
+    static final int WELCOME = 12;
 
     private static final byte VERSION = 1;
     private static final int MOST_VALUE = 16_384;
+    private static final int MOST_MESSAGE = 256;
     private static final int MOST_XIDS = 256;
     private static final int STATUS_NUMBERS = 10;
 
@@ -85,6 +88,12 @@ final class Reply {
                 revision = content.getInt();
                 features = content.getLong();
                 break;
+            case CHALLENGE:
+            case WELCOME:
+                require(content.remaining() <= MOST_MESSAGE, "its message's length");
+                value = new byte[content.remaining()];
+                content.get(value);
+                break;
             default:
                 require(false, "its kind");
         }
@@ -113,7 +122,7 @@ final class Reply {
         return kind;
     }
 
-    /** The value, or null where there is none. */
+    /** The value, or a login's message; null if there is none. */
     byte[] value() {
         return value;
     }

@@ -58,6 +58,12 @@ final class Request {
         return this;
     }
 
+    /** A login's message, which is all that there is, at most 256 bytes. */
+    Request message(byte[] message) {
+        bytes.put(message);
+        return this;
+    }
+
     Operation operation() {
         return operation;
     }

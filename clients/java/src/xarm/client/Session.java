@@ -15,8 +15,8 @@ import java.util.concurrent.atomic.AtomicLong;
 import javax.transaction.xa.XAException;
 
 /**
- * A connection to a server, which is one session there. Its first request asks what the server speaks and opens the resource manager, and
- * where it broke, the next call connects and opens anew.
+ * A connection to a server, which is one session there. Its first request logs in if there is a user, asks what the server speaks and
+ * opens the resource manager, and if it broke, the next call does so anew.
  *
  * <p>One request is under way at a time, and whatever is thrown between a request and its reply ends the connection: the reply would
  * be taken for that of the next one.
@@ -35,6 +35,7 @@ final class Session {
     private final long number = COUNT.incrementAndGet();
     private final Endpoint endpoint;
     private final Connector connector;
+    private final Login login; // null if nobody logs in
     private final int validationInterval;
     private final Branches branches;
     private volatile int readTimeout;
@@ -47,16 +48,17 @@ final class Session {
     private Reply hello; // of this connection; null where there is none
 
     /**
-     * A session that isn't connected yet. The time-out is in milliseconds, and is one call's, its connect included; so is how long a
-     * connection may be idle before a branch begins on it unasked.
+     * A session that isn't connected yet, with a login or null. The time-out is in milliseconds, and is one call's, its connect included;
+     * so is how long a connection may be idle before a branch begins on it unasked.
      */
-    Session(Endpoint endpoint, int readTimeout, int validationInterval) {
-        this(endpoint, endpoint::transport, readTimeout, validationInterval);
+    Session(Endpoint endpoint, Login login, int readTimeout, int validationInterval) {
+        this(endpoint, endpoint::transport, login, readTimeout, validationInterval);
     }
 
-    Session(Endpoint endpoint, Connector connector, int readTimeout, int validationInterval) {
+    Session(Endpoint endpoint, Connector connector, Login login, int readTimeout, int validationInterval) {
         this.endpoint = endpoint;
         this.connector = connector;
+        this.login = login;
         this.readTimeout = readTimeout;
         this.validationInterval = validationInterval;
         branches = Branches.of(endpoint);
@@ -193,7 +195,7 @@ final class Session {
             isDone = true;
             return reply;
         } catch (IOException fault) {
-            throw new XarmException(operation + " at " + endpoint, fault);
+            throw new XarmException(operation + " at " + endpoint + (login == null ? "" : " as " + login.user()), fault);
         } finally {
             if (!isDone) {
                 disconnect();
@@ -207,17 +209,29 @@ final class Session {
             throw new SocketException("the connection was closed");
         }
         transport.connect(deadline);
+        if (login != null) {
+            login.run(request -> exchange(request, deadline));
+        }
         // an older server refuses it, and goes on
         hello = exchange(new Request(Operation.HELLO).hello(REVISION, 0), deadline);
         byte[] name = endpoint.name().getBytes(StandardCharsets.UTF_8);
         Reply reply = exchange(new Request(Operation.OPEN).flags(TMNOFLAGS).name(name), deadline);
         if (reply.code() != XA_OK) {
-            throw new ProtocolException(
-                    reply.code() == XAException.XAER_INVAL
-                            ? "the resource manager has another name"
-                            : "open was answered " + Codes.name(reply.code()));
+            throw refused(reply);
         }
         settle(null, deadline);
+    }
+
+    /** What an Open that is refused says. */
+    private ProtocolException refused(Reply reply) {
+        if (reply.code() != XAException.XAER_INVAL) {
+            return new ProtocolException("open was answered " + Codes.name(reply.code()));
+        }
+        if (reply.detail() != Detail.ACCESS) {
+            return new ProtocolException("the resource manager has another name");
+        }
+        String why = login == null ? "the server wants a login, and there is no user" : "the user may not open the resource manager";
+        return new RefusedException(why, Detail.ACCESS);
     }
 
     private void disconnect() {

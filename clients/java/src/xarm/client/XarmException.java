@@ -21,7 +21,7 @@ public class XarmException extends Exception {
     XarmException(String asked, Throwable cause) {
         super(asked + ": XAER_RMFAIL: " + (cause.getMessage() == null ? cause : cause.getMessage()), cause);
         code = XAException.XAER_RMFAIL;
-        detail = Detail.NOTHING;
+        detail = cause instanceof RefusedException ? ((RefusedException) cause).detail() : Detail.NOTHING;
     }
 
     /** The code, with the number that {@link XAException} gives it; XAER_RMFAIL of a connection that broke. */

@@ -8,7 +8,7 @@ import javax.naming.Referenceable;
 import javax.naming.StringRefAddr;
 
 /**
- * What a transaction manager is told of a server: where it listens, which name its resource manager has, and how long a call
+ * What a transaction manager is told of a server: where it listens, which name its resource manager has, who logs in, and how long a call
  * waits for an answer. It isn't {@code javax.sql.XADataSource}, since the server has records and no SQL, but has its shape, and its
  * properties have JDBC's names where it has them. Each takes effect for the connections made from then on.
  */
@@ -20,6 +20,8 @@ public final class XarmXADataSource implements Serializable, Referenceable {
     private int portNumber = 4187;
     private String socketPath;
     private String databaseName = "xarm";
+    private String user;
+    private String password;
     private String description;
     private int loginTimeout;
     private int readTimeout = 30_000;
@@ -36,25 +38,54 @@ public final class XarmXADataSource implements Serializable, Referenceable {
         setDatabaseName(name);
     }
 
+    /** The same, and this user logs in. */
+    public XarmXADataSource(String host, int port, String name, String user, String password) {
+        this(host, port, name);
+        setUser(user);
+        setPassword(password);
+    }
+
     /**
-     * Connects, and sends Open.
+     * Connects, logs in if there is a user, and sends Open.
      *
      * @throws XarmException XAER_RMFAIL: nothing listens there; the server has another name (Open was answered XAER_INVAL); it didn't
-     *     answer in time; or Java is too old for a Unix socket
+     *     answer in time; Java is too old for a Unix socket; there is a user and no password; or the server doesn't know the password's
+     *     verifier. With {@link Detail#ACCESS}: the server refuses the user or the password, the user may not open the resource manager, or
+     *     there is no user and the server wants one. With {@link Detail#FRAME}: the server takes no logins
      */
     public XarmXAConnection getXAConnection() throws XarmException {
-        Session session = session();
+        return connected(user, password);
+    }
+
+    /**
+     * Connects as this user.
+     *
+     * @throws XarmException as {@link #getXAConnection()}
+     * @throws IllegalArgumentException as {@link #setUser} and {@link #setPassword}
+     */
+    public XarmXAConnection getXAConnection(String user, String password) throws XarmException {
+        return connected(absent(user), absent(password));
+    }
+
+    private XarmXAConnection connected(String user, String password) throws XarmException {
+        Session session = session(user, password);
         session.open(loginTimeout == 0 ? readTimeout : (int) Math.min(TimeUnit.SECONDS.toMillis(loginTimeout), Integer.MAX_VALUE));
         return new XarmXAConnection(session, useTmJoin);
     }
 
     /** One that connects at its first call. */
     XarmXAConnection unconnected() {
-        return new XarmXAConnection(session(), useTmJoin);
+        return new XarmXAConnection(session(user, password), useTmJoin);
     }
 
-    private Session session() {
-        return new Session(new Endpoint(serverName, portNumber, socketPath, databaseName), readTimeout, validationInterval);
+    private Session session(String user, String password) {
+        Login login = user == null ? null : new Login(user, password);
+        return new Session(new Endpoint(serverName, portNumber, socketPath, databaseName), login, readTimeout, validationInterval);
+    }
+
+    /** A text that a manager sets to nothing isn't there. */
+    private static String absent(String text) {
+        return text == null || text.isEmpty() ? null : text;
     }
 
     public String getServerName() {
@@ -111,7 +142,7 @@ public final class XarmXADataSource implements Serializable, Referenceable {
      * or empty for the port.
      */
     public void setSocketPath(String socketPath) {
-        this.socketPath = socketPath == null || socketPath.isEmpty() ? null : socketPath;
+        this.socketPath = absent(socketPath);
     }
 
     public String getDatabaseName() {
@@ -136,6 +167,31 @@ public final class XarmXADataSource implements Serializable, Referenceable {
         setDatabaseName(name);
     }
 
+    public String getUser() {
+        return user;
+    }
+
+    /**
+     * Who logs in, by SCRAM-SHA-256, on each new connection, before anything else is asked: 1 to 64 letters, digits, {@code -}, {@code _},
+     * {@code .} and {@code @} of ASCII. Null or empty if nobody does. A connection to a server that takes no logins, or that doesn't
+     * know the password's verifier, is refused then.
+     */
+    public void setUser(String user) {
+        this.user = absent(user) == null ? null : Login.checkedUser(user);
+    }
+
+    public String getPassword() {
+        return password;
+    }
+
+    /**
+     * The user's password, 1 to 1,024 bytes in UTF-8. It is never sent, and in no message; it is kept with the other properties, also if
+     * the data source is serialized or named.
+     */
+    public void setPassword(String password) {
+        this.password = absent(password) == null ? null : Login.checkedPassword(password);
+    }
+
     public String getDescription() {
         return description;
     }
@@ -149,7 +205,10 @@ public final class XarmXADataSource implements Serializable, Referenceable {
         return loginTimeout;
     }
 
-    /** How many seconds {@link #getXAConnection} waits for the connection and the answer to Open; 0 for as long as a call waits. */
+    /**
+     * How many seconds {@link #getXAConnection()} waits for the connection, the login and the answer to Open; 0 for as long as a call
+     * waits.
+     */
     public void setLoginTimeout(int seconds) {
         if (seconds < 0) {
             throw new IllegalArgumentException("a login time-out of " + seconds + " s");
@@ -210,6 +269,8 @@ public final class XarmXADataSource implements Serializable, Referenceable {
         add(reference, "portNumber", portNumber);
         add(reference, "socketPath", socketPath);
         add(reference, "databaseName", databaseName);
+        add(reference, "user", user);
+        add(reference, "password", password);
         add(reference, "description", description);
         add(reference, "loginTimeout", loginTimeout);
         add(reference, "readTimeout", readTimeout);

@@ -23,6 +23,8 @@ public final class XarmXADataSourceFactory implements ObjectFactory {
             Map.entry("socketPath", XarmXADataSource::setSocketPath),
             Map.entry("databaseName", XarmXADataSource::setDatabaseName),
             Map.entry("name", XarmXADataSource::setDatabaseName),
+            Map.entry("user", XarmXADataSource::setUser),
+            Map.entry("password", XarmXADataSource::setPassword),
             Map.entry("description", XarmXADataSource::setDescription),
             Map.entry("loginTimeout", (source, value) -> source.setLoginTimeout(Integer.parseInt(value))),
             Map.entry("readTimeout", (source, value) -> source.setReadTimeout(Integer.parseInt(value))),

@@ -10,7 +10,7 @@ public final class Faults {
     /** The next reply isn't read, and this is thrown in its place, if there is something. */
     public static XarmXAConnection connection(int port, String name, AtomicReference<Error> next) {
         Endpoint endpoint = new Endpoint("127.0.0.1", port, null, name);
-        Session session = new Session(endpoint, () -> new Faulty(endpoint.transport(), next), 10_000, Integer.MAX_VALUE);
+        Session session = new Session(endpoint, () -> new Faulty(endpoint.transport(), next), null, 10_000, Integer.MAX_VALUE);
         return new XarmXAConnection(session, true);
     }
 

@@ -116,8 +116,8 @@ final class SourceTests implements Suite {
 
     private void properties() throws Exception {
         List<String> names = settings().stream().map(PropertyDescriptor::getName).collect(Collectors.toList());
-        equal(List.of("databaseName", "description", "host", "loginTimeout", "name", "port", "portNumber", "readTimeout", "serverName",
-                "socketPath", "useTmJoin", "validationInterval"), names);
+        equal(List.of("databaseName", "description", "host", "loginTimeout", "name", "password", "port", "portNumber", "readTimeout",
+                "serverName", "socketPath", "useTmJoin", "user", "validationInterval"), names);
         XarmXADataSource source = source();
         equal("server.example", source.getHost());
         equal(4_711, source.getPort());
@@ -135,6 +135,8 @@ final class SourceTests implements Suite {
         source.setPortNumber(4_711);
         source.setSocketPath("/run/xarm.socket");
         source.setDatabaseName("ledger");
+        source.setUser("ada");
+        source.setPassword("secret, whole");
         source.setDescription("money");
         source.setLoginTimeout(7);
         source.setReadTimeout(8);

@@ -1,5 +1,6 @@
 package xarm.tests;
 
+import java.nio.charset.StandardCharsets;
 import java.nio.file.Path;
 import java.util.Arrays;
 import java.util.List;
@@ -75,6 +76,14 @@ public final class Tests {
     Server server(String name, String... options) throws Exception {
         servers++;
         return new Server(program, folder.resolve("log" + servers), name, options);
+    }
+
+    /** Whether {@code serve} has this option. */
+    boolean hasOption(String option) throws Exception {
+        Process help = new ProcessBuilder(program, "serve", "--help").redirectError(ProcessBuilder.Redirect.DISCARD).start();
+        String text = new String(help.getInputStream().readAllBytes(), StandardCharsets.UTF_8);
+        help.waitFor();
+        return text.contains(option);
     }
 
     /** The top of the repository, whose documents are tested. */
