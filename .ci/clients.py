@@ -20,14 +20,15 @@ ENDING = "xarm: PEER: shutdown\nxarm: shutdown\n"
 
 class Server:
     """A server in a new folder, with so many file handles, on these cores, or with the library of .ci/files.c before its calls on files; by a
-    port, or by a socket."""
+    port, or by a socket; it tells nothing of who may connect, if that is so."""
 
-    def __init__(self, *words, handles=None, env=None, tells=(), library=None, by_socket=False, stderr=None, cores=None):
+    def __init__(self, *words, handles=None, env=None, tells=(), library=None, by_socket=False, stderr=None, cores=None, is_open=True):
         self.room = tempfile.TemporaryDirectory(prefix="served-", dir=ROOM)
         self.port = os.path.join(self.room.name, "s") if by_socket else free_port()
         self.told = open(os.path.join(self.room.name, "told"), "w+b")
         at = "--socket" if by_socket else "--port"
-        serve = [PROGRAM, "serve", "--log", "l", "--name", "n", at, str(self.port), *timeless(*words), *words]
+        opens = ["--open-to-all"] if is_open else []
+        serve = [PROGRAM, "serve", *opens, "--log", "l", "--name", "n", at, str(self.port), *timeless(*words), *words]
         if handles:
             serve = ["bash", "-c", f'ulimit -S -n {handles} && exec "$@"', "bash", *serve]
         how = {**os.environ, **(env or {}), **({"LD_PRELOAD": library, "FAULTS": "faults"} if library else {})}

@@ -42,7 +42,7 @@ class Server:
             # appended to: a server that is started again goes on
             with open(os.path.join(room, "told"), "ab") as told:
                 self.ran = subprocess.Popen(
-                    [program, "serve", "--log", "l", "--name", "n", *where, *timeless(*words), *words], stdout=subprocess.PIPE, stderr=told, cwd=room,
+                    [program, "serve", "--open-to-all", "--log", "l", "--name", "n", *where, *timeless(*words), *words], stdout=subprocess.PIPE, stderr=told, cwd=room,
                     env={**os.environ, **(environment or {})}, pass_fds=handles,
                 )
             if not waits or self.ran.stdout.readline() == b"ready\n":

@@ -15,7 +15,7 @@ _xarm() {
         words=$(sed -n 's/^  \([a-z][a-z-]*\)  .*/\1/p; s/^  \(-.,\)\{0,1\} *\(--[a-z-]*\).*/\2/p' <<< "$help")
         [[ $word == -* ]] || path=$(sed -n 's/^  <\([A-Z]*\)>.*/\1/p' <<< "$help" | head -n 1)
     fi
-    if [ "$path" = PATH ]; then
+    if [ "$path" = PATH ] || [ "$path" = FILE ]; then
         compopt -o filenames 2> /dev/null
         mapfile -t COMPREPLY < <(compgen -f -- "$word")
     elif [ -z "$path" ]; then

@@ -4,7 +4,7 @@ import re
 import shutil
 import sys
 
-from unpacked import Server, Skipped, ends, free_port, run, run_long, same, tool
+from unpacked import OPEN, Server, Skipped, ends, free_port, run, run_long, same, tool
 
 LIBRARIES = "usr/lib/x86_64-linux-gnu"
 # For programs in Java that don't run for long.
@@ -92,7 +92,7 @@ def programs(package):
         words = run(asked, "--cflags", "--libs", "--static", "xarm", env=how).stdout.replace("-lxarm", "-l:libxarm.a").split()
         alone = run(gcc, "-Wall", "-Werror", demo, *words, "-o", f"{made}-alone", env=how)
         yield "c: README's example, with the static library", ends(alone, "") or ends(run(f"{made}-alone"), "0 hello\n")
-        yield "c: the server's end", same(server.stop(), ((0, "", ""), (0, "calls 22\n", "xarm: PEER: shutdown\nxarm: shutdown\n")))
+        yield "c: the server's end", same(server.stop(), ((0, "", ""), (0, "calls 22\n", f"{OPEN}xarm: PEER: shutdown\nxarm: shutdown\n")))
 
 
 def depending(package):

@@ -6,7 +6,7 @@ from unpacked import same
 
 GUIDE = "usr/share/doc/xarm/docs/OPERATING.md"
 # The commands that are none of an operator's.
-OTHERS = {"check", "copy", "play", "scan", "serve", "shutdown", "talk", "tick"}
+OTHERS = {"check", "copy", "play", "scan", "serve", "shutdown", "talk", "tick", "user"}
 
 
 def of_help(text):

@@ -11,6 +11,8 @@ import subprocess
 LIMIT = 55
 UNIT = "lib/systemd/system/xarm.service"
 SETTINGS = "etc/default/xarm"
+# What a server tells that is reached by a port, and has no users.
+OPEN = "xarm: warning: without --users, whoever can connect to 127.0.0.1 may do anything\n"
 
 
 class Skipped(Exception):
