@@ -1,0 +1,4 @@
+pub mod Order
+pub mod Boundaries
+pub mod Raised
+pub mod Written

@@ -1,0 +1,4 @@
+pub mod Ranges
+pub mod Marks
+pub mod Notes
+pub mod Rows

@@ -1,0 +1,18 @@
+//! How far absent keys were read, by ranges: over each key, the greatest timestamp of a scan that walked it. A key that
+//! is absent has no versions that a read could mark, so under multiversion timestamp ordering (Bernstein, Hadzilacos and
+//! Goodman, Concurrency Control and Recovery in Database Systems, 5.3) what a scan has walked is kept here.
+//!
+//! - `ranges`: `Ranges`, with its calls: the mark over a key, the mark of a range, and the low water, which gives back
+//!   what no scan above it has left
+//! - `marks`: the boundaries of ranges, each with the mark of the keys from it on up to the next; `notes`: which
+//!   boundaries each reader's ranges have
+//! - `laws`: `worked_rows`, what the definitions make of a few ranges
+#![tactic(auto)]
+
+mod laws;
+mod marks;
+mod notes;
+mod ranges;
+
+pub use laws::worked_rows;
+pub use ranges::Ranges;
