@@ -1,19 +1,19 @@
 -- Which mark stands over a key once a boundary is put, dropped or raised.
-use Rattle.std.proofs.Common.{◌≡◌, ℕ, ◌≤◌, Bool, true, false, List, [], ◌∷◌, ◌++◌, Option, None, Some, refl, sym, ap, ◌∙◌, arith}
-use Rattle.std.specs.Prelude.{if◌then◌else◌, not, ◌&&◌, IsSome, is_some, Vec, max, cond}
+use Rattle.std.proofs.Common.{◌≡◌, ℕ, Bool, true, false, List, [], ◌∷◌, ◌++◌, None, Some, refl, sym, ap, ◌∙◌}
+use Rattle.std.specs.Prelude.{not, IsSome, Vec, max}
 use Rattle.std.specs.List.{AllByRecursion as Each, filter}
 use Rattle.std.specs.List.Sorted.{IsStrictlySortedBy}
 use Rattle.std.specs.BTreeMap.{insert_entry, is_at}
 use Rattle.std.specs.Map.{lookup, remove_entry, keys_of}
 use Rattle.std.specs.Cmp.Lexicographic.{slice_cmp}
-use Rattle.std.specs.Ordering.{nat_cmp, is_eq, is_lt, is_le}
+use Rattle.std.specs.Ordering.{nat_cmp, is_lt, is_le}
 use Rattle.std.specs.declared.alloc.Global.{Global}
 use Rattle.std.specs.declared.cmp.Ordering.{Ordering}
 use Rattle.std.specs.declared.cmp.Ordering.TheVariants.{Less, Equal, Greater}
 use Rattle.std.proofs.lemmas.Map.Keys.{sorted_head, sorted_tail}
-use Rattle.mv_ranges.specs.Ranges.{Range, Boundaries, is_before, holds, last_mark, walked}
-use Rattle.mv_ranges.specs.Marks.{last_mark_below, raised}
-use Rattle.mv_ranges.proofs.Order.{cmp, before_Less, flipped, before_trans, upto_before, before_upto, before_asym, not_before_itself, le_not_before}
+use Rattle.mv_ranges.specs.Ranges.{Boundaries, is_before, last_mark}
+use Rattle.mv_ranges.specs.Marks.{last_mark_below}
+use Rattle.mv_ranges.proofs.Order.{cmp, before_Less, before_trans, upto_before, le_not_before}
 
 -- the order of a map's keys
 abbrev pub keys_cmp : Vec ℕ Global → Vec ℕ Global → Ordering

@@ -1,18 +1,18 @@
 -- Which mark stands over each key once the boundaries of a range are raised.
-use Rattle.std.proofs.Common.{◌≡◌, ℕ, ◌≤◌, Bool, true, false, List, [], ◌∷◌, map, Option, None, Some, refl, sym, ap, ◌∙◌, arith, ◌⊎◌, inl, inr}
-use Rattle.std.specs.Prelude.{if◌then◌else◌, not, ◌&&◌, IsSome, Vec, max}
+use Rattle.std.proofs.Common.{◌≡◌, ℕ, ◌≤◌, Bool, true, false, List, [], ◌∷◌, map, Option, None, Some, refl, ap, ◌∙◌, arith, ◌⊎◌, inl, inr}
+use Rattle.std.specs.Prelude.{IsSome, Vec, max}
 use Rattle.std.specs.Option.{option_map_or}
 use Rattle.std.specs.List.{AllByRecursion as Each}
 use Rattle.std.specs.BTreeMap.{is_at}
 use Rattle.std.specs.Map.{lookup, keys_of}
-use Rattle.std.specs.Ordering.{is_eq, is_lt, is_le}
+use Rattle.std.specs.Ordering.{is_lt, is_le}
 use Rattle.std.specs.declared.alloc.Global.{Global}
 use Rattle.std.specs.declared.cmp.Ordering.{Ordering}
 use Rattle.std.specs.declared.cmp.Ordering.TheVariants.{Less, Equal, Greater}
 use Rattle.std.proofs.lemmas.Map.Keys.{sorted_head, sorted_tail}
 use Rattle.mv_ranges.specs.Ranges.{Range, Boundaries, is_before, holds, last_mark, walked}
 use Rattle.mv_ranges.specs.Marks.{Marks, MayBegin, MayEnd, last_mark_below, mark_in, raised}
-use Rattle.mv_ranges.proofs.Order.{cmp, before_Less, flipped, upto_before, before_upto, before_asym, le_not_before}
+use Rattle.mv_ranges.proofs.Order.{cmp, before_Less, flipped, upto_before, before_asym}
 use Rattle.mv_ranges.proofs.Boundaries.{keys_cmp, query, Ascending}
 
 -- a range may begin at the key: it is one of the boundaries, or the mark over it is high enough

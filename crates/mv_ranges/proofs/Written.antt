@@ -1,8 +1,7 @@
 -- What raising the boundaries at some keys, one after another, makes of all of them.
-use Rattle.std.proofs.Common.{◌≡◌, ℕ, ◌≤◌, Bool, true, false, List, [], ◌∷◌, map, Option, None, Some, refl, sym, ap, ◌∙◌, subst, arith}
+use Rattle.std.proofs.Common.{◌≡◌, ℕ, ◌≤◌, Bool, true, false, List, [], ◌∷◌, map, None, Some, refl, sym, ap, ◌∙◌, subst, arith}
 use Rattle.std.specs.Prelude.{if◌then◌else◌, not, ◌&&◌, ◌||◌, Vec, max, nat_lt, bytes_eq, IfOk, Result, Ok, Err}
-use Rattle.std.specs.Option.{option_map_or}
-use Rattle.std.specs.List.{AllByRecursion as Each, list_any, filter, fold}
+use Rattle.std.specs.List.{AllByRecursion as Each, list_any, filter}
 use Rattle.std.specs.BTreeMap.{is_at}
 use Rattle.std.specs.Map.{lookup, set_value, keys_of}
 use Rattle.std.specs.Cmp.Lexicographic.{slice_partial_cmp, lists_agrees}
@@ -14,8 +13,8 @@ use Rattle.std.proofs.lemmas.Bool.Decides.{nat_tests}
 use Rattle.std.proofs.lemmas.Map.Keys.{sorted_head, sorted_tail}
 use Rattle.std.proofs.lemmas.Map.Text.{is_eq-slice_cmp}
 use Rattle.std.proofs.lemmas.Slice.Eq.{bytes_eq-Decides}
-use Rattle.mv_ranges.specs.Ranges.{Range, Boundaries, is_before, holds, walked}
-use Rattle.mv_ranges.specs.Marks.{keys_below, lower_keys, raised, raised_at, raised_each}
+use Rattle.mv_ranges.specs.Ranges.{Range, Boundaries, is_before, holds}
+use Rattle.mv_ranges.specs.Marks.{lower_keys, raised, raised_at, raised_each}
 use Rattle.mv_ranges.proofs.Order.{cmp, flipped, upto_before, le_not_before}
 use Rattle.mv_ranges.proofs.Boundaries.{keys_cmp, query, Ascending}
 use Rattle.mv_ranges.proofs.Raised.{absent, absent_after}

@@ -1,16 +1,23 @@
--- Worked rows: what stands over keys once some ranges were walked.
-use Rattle.std.specs.Prelude.{◌≡◌, ℕ, List, [], ◌∷◌, Option, Some, None, Vec}
-use Rattle.mv_ranges.specs.Ranges.{Range, holds, walked}
+-- Worked rows: which marks stand over keys once some ranges were walked.
+use Rattle.std.specs.Prelude.{◌≡◌, ℕ, List, [], ◌∷◌, Some, None, Vec}
+use Rattle.std.specs.declared.alloc.Global.{Global}
+use Rattle.mv_ranges.specs.Ranges.{Range, last_mark, walked}
+
+abbrev pub b : List ℕ
+b = 0x62 ∷ []
+
+abbrev pub d : List ℕ
+d = 0x64 ∷ []
 
 -- the keys from `b` on up to `d`
 abbrev pub from_b_to_d : Range
-from_b_to_d = record { from = 0x62 ∷ []; to = Some (0x64 ∷ []) }
+from_b_to_d = record { from = b; to = Some d }
 
 -- the keys from `b` on
 abbrev pub from_b : Range
-from_b = record { from = 0x62 ∷ []; to = None }
+from_b = record { from = b; to = None }
 
--- the mark over a key where nothing was walked before, once a reader at 7 has walked from `b` to `d`
+-- the mark over a key of which nothing was walked before, once a reader at 7 has walked from `b` to `d`
 abbrev pub once : List ℕ → ℕ
 once key = walked from_b_to_d 7 key 0
 
@@ -18,10 +25,19 @@ once key = walked from_b_to_d 7 key 0
 abbrev pub twice : List ℕ → ℕ
 twice key = walked from_b 5 key (once key)
 
--- a key that comes between keys of the range later is in it, as its first is; its end isn't
+-- a key that comes into the range later has its mark, as its first key has; its end hasn't
 abbrev pub Phantom : Type 0
-Phantom = (once (0x63 ∷ 0x31 ∷ []) ≡ 7) × (once (0x62 ∷ []) ≡ 7) × (once (0x64 ∷ []) ≡ 0) × (once (0x61 ∷ 0x7a ∷ []) ≡ 0)
+Phantom =
+    (once b ≡ 7) × (once (0x63 ∷ 0x31 ∷ []) ≡ 7) × (once (0x63 ∷ 0xff ∷ []) ≡ 7)
+    × (once d ≡ 0) × (once (0x61 ∷ 0xff ∷ []) ≡ 0)
 
 -- where two scans have walked, the greater timestamp stands
 abbrev pub Greatest : Type 0
-Greatest = (twice (0x63 ∷ []) ≡ 7) × (twice (0x64 ∷ []) ≡ 5) × (twice (0xff ∷ []) ≡ 5) × (twice [] ≡ 0)
+Greatest = (twice [] ≡ 0) × (twice (0x63 ∷ []) ≡ 7) × (twice d ≡ 5) × (twice (0xff ∷ []) ≡ 5)
+
+-- what two boundaries say of keys before, at, between and after them
+abbrev pub Stands : Type 0
+Stands = (x y : Vec ℕ Global) → x.items ≡ b → y.items ≡ d
+    → (last_mark 0 (0x61 ∷ 0xff ∷ []) ((x, 7) ∷ (y, 5) ∷ []) ≡ 0) × (last_mark 0 b ((x, 7) ∷ (y, 5) ∷ []) ≡ 7)
+    × (last_mark 0 (0x63 ∷ 0xff ∷ []) ((x, 7) ∷ (y, 5) ∷ []) ≡ 7) × (last_mark 0 d ((x, 7) ∷ (y, 5) ∷ []) ≡ 5)
+    × (last_mark 0 (0xff ∷ []) ((x, 7) ∷ (y, 5) ∷ []) ≡ 5)

@@ -1,7 +1,9 @@
-ghost use Rattle.mv_ranges.specs.Rows.{Phantom, Greatest};
+ghost use Rattle.mv_ranges.specs.Rows.{Phantom, Greatest, Stands};
 
-/// Worked rows: which marks stand over keys once scans have walked some ranges. It does nothing.
+/// Worked rows: which marks stand over keys once scans have walked some ranges, and what boundaries say of keys. It
+/// does nothing.
 pub fn worked_rows()
     ensures phantom { Phantom }
     ensures greatest { Greatest }
+    ensures stands { Stands }
 {}

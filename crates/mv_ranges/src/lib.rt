@@ -13,6 +13,8 @@ mod laws;
 mod marks;
 mod notes;
 mod ranges;
+#[cfg(test)]
+mod tests;
 
 pub use laws::worked_rows;
 pub use ranges::Ranges;

@@ -22,10 +22,7 @@ pub(crate) fn note(
 }
 
 /// Takes out what is noted of the least reader, if the low water has passed it.
-pub(crate) fn next_due(
-    notes: &mut BTreeMap<u64, Vec<Vec<u8>>>,
-    low: u64,
-) -> Option<Vec<Vec<u8>>>
+pub(crate) fn next_due(notes: &mut BTreeMap<u64, Vec<Vec<u8>>>, low: u64) -> Option<Vec<Vec<u8>>>
     ensures fewer { IfSome result (λ _. length notes.new.entries < length notes.old.entries) }
     ensures drained { IfNone result (IsDrained low notes.new) }
 {

@@ -86,7 +86,12 @@ impl Ranges {
     }
 
     /// Like `mark`.
-    fn mark_between(&mut self, from: &Vec<u8>, to: Option<&Vec<u8>>, reader: u64) -> Result<(), AllocError>
+    fn mark_between(
+        &mut self,
+        from: &Vec<u8>,
+        to: Option<&Vec<u8>>,
+        reader: u64,
+    ) -> Result<(), AllocError>
         requires { IsForward from.now.items (option_map (λ t. t.now.items) to) }
         ensures marked { OnOk result ((key : List ℕ) → mark_over key self.new ≡ walked
             (record { from = from.now.items; to = option_map (λ t. t.now.items) to.entry }) reader key

@@ -1,4 +1,4 @@
-use Rattle.std.proofs.Common.{◌≡◌, ◌∙◌, ℕ, ap, sym, arith, rules}
+use Rattle.std.proofs.Common.{◌≡◌, ◌∙◌, ap, sym, arith, rules}
 use Rattle.std.specs.Prelude.{max, Some}
 use Rattle.std.specs.BTreeMap.{is_at}
 use Rattle.std.specs.Map.{lookup}
@@ -12,7 +12,7 @@ use Rattle.mv_ranges.proofs.marks.join.Goals.{then-mark-before-via-then-mark-bef
 alike : (c : goal.After-remove) → max c.args.low c.below-before.result ≡ max c.args.low c.in-Some.mark.now
 alike c =
     elim c.then-mark-before.branch [
-      then-mark-before-via-then-mark-before w ↦ let e : c.in-Some.mark.now ≡ c.below-before.result = w.if-mark-before.true in omega arith
+      | then-mark-before-via-then-mark-before w ↦ let e : c.in-Some.mark.now ≡ c.below-before.result = w.if-mark-before.true in omega arith
       | then-mark-before-via-else-mark-before+then-before-low w ↦ elim w.if-mark-low.branch [ then-mark-low w' ↦ omega arith | else-mark-low w' ↦ search rules ]
     ]
 

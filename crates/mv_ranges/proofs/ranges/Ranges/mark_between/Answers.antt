@@ -1,4 +1,4 @@
-use Rattle.std.proofs.Common.{◌≡◌, ◌≤◌, ℕ, List, ap, ◌∙◌, sym, subst, inl, inr}
+use Rattle.std.proofs.Common.{◌≤◌, ℕ, ap, ◌∙◌, sym, subst, inl, inr}
 use Rattle.std.specs.Prelude.{option_map}
 use Rattle.mv_ranges.specs.Ranges.{Range, Boundaries, last_mark, walked}
 use Rattle.mv_ranges.specs.Marks.{MayBegin, raised_each}
