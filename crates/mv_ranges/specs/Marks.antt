@@ -1,5 +1,6 @@
 -- What becomes of the boundaries: how one is put, dropped and raised.
-use Rattle.std.specs.Prelude.{◌≡◌, ℕ, ◌≤◌, List, [], ◌∷◌, Option, Some, None, ◌⊎◌, ⊤, IsSome, Vec, if◌then◌else◌, max, map, nat_lt, bytes_eq, false}
+use Rattle.std.specs.Prelude.{◌≡◌, ◌⊎◌, ⊤, ℕ, ◌≤◌, max, nat_lt, false, if◌then◌else◌, bytes_eq}
+use Rattle.std.specs.Prelude.{List, [], ◌∷◌, map, Option, Some, None, IsSome, Vec}
 use Rattle.std.specs.List.{filter, fold}
 use Rattle.std.specs.BTreeMap.{BTreeMap, IsOrdered, get_by}
 use Rattle.std.specs.Cmp.Lexicographic.{slice_cmp}

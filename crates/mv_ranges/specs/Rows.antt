@@ -1,7 +1,7 @@
 -- Worked rows: which marks stand over keys once some ranges were walked.
 use Rattle.std.specs.Prelude.{◌≡◌, ℕ, List, [], ◌∷◌, Some, None, Vec}
 use Rattle.std.specs.declared.alloc.Global.{Global}
-use Rattle.mv_ranges.specs.Ranges.{Range, last_mark, walked}
+use Rattle.mv_ranges.specs.Ranges.{Range, Boundaries, last_mark, walked}
 
 abbrev pub b : List ℕ
 b = 0x62 ∷ []
@@ -35,9 +35,12 @@ Phantom =
 abbrev pub Greatest : Type 0
 Greatest = (twice [] ≡ 0) × (twice (0x63 ∷ []) ≡ 7) × (twice d ≡ 5) × (twice (0xff ∷ []) ≡ 5)
 
--- what two boundaries say of keys before, at, between and after them
+-- keys before, at, between and after `b` and `d`
+abbrev pub AreOver : Boundaries → Type 0
+AreOver both =
+    (last_mark 0 (0x61 ∷ 0xff ∷ []) both ≡ 0) × (last_mark 0 b both ≡ 7) × (last_mark 0 (0x63 ∷ 0xff ∷ []) both ≡ 7)
+    × (last_mark 0 d both ≡ 5) × (last_mark 0 (0xff ∷ []) both ≡ 5)
+
+-- two boundaries: what they say of keys
 abbrev pub Stands : Type 0
-Stands = (x y : Vec ℕ Global) → x.items ≡ b → y.items ≡ d
-    → (last_mark 0 (0x61 ∷ 0xff ∷ []) ((x, 7) ∷ (y, 5) ∷ []) ≡ 0) × (last_mark 0 b ((x, 7) ∷ (y, 5) ∷ []) ≡ 7)
-    × (last_mark 0 (0x63 ∷ 0xff ∷ []) ((x, 7) ∷ (y, 5) ∷ []) ≡ 7) × (last_mark 0 d ((x, 7) ∷ (y, 5) ∷ []) ≡ 5)
-    × (last_mark 0 (0xff ∷ []) ((x, 7) ∷ (y, 5) ∷ []) ≡ 5)
+Stands = (x y : Vec ℕ Global) → x.items ≡ b → y.items ≡ d → AreOver ((x, 7) ∷ (y, 5) ∷ [])

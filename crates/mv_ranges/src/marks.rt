@@ -75,7 +75,7 @@ fn copies(
     Ok(keys)
 }
 
-/// Copies of the boundaries of the range whose mark is below the reader.
+/// Copies of the boundaries of the range whose mark is below the reader: a map can't be written while it is walked.
 pub(crate) fn lower(
     alloc: Global,
     marks: &BTreeMap<Vec<u8>, u64>,
@@ -111,7 +111,7 @@ pub(crate) fn raise(marks: &mut BTreeMap<Vec<u8>, u64>, keys: &[Vec<u8>], reader
     }
 }
 
-/// Drops the boundary, if above the low water it parts nothing.
+/// Drops the boundary, if above the low water the marks at its two sides are the same. Takes no memory.
 pub(crate) fn join(marks: &mut BTreeMap<Vec<u8>, u64>, key: &Vec<u8>, low: u64)
     ensures { SameAbove low marks.old marks.new }
 {

@@ -1,7 +1,8 @@
 ghost use Rattle.std.specs.Prelude.{◌≡◌, ℕ, List, max, option_map, OnOk, OnErr};
-ghost use Rattle.mv_ranges.specs.Ranges.{Range, mark_over, walked};
-ghost use Rattle.mv_ranges.specs.Marks.{SameMarks, SameAbove, KeepsBoundaries, IsAscending, IsBoundary, IsForward, MayBegin, MayEnd};
 ghost use Rattle.std.specs.BTreeMap.{btree_map_len};
+ghost use Rattle.mv_ranges.specs.Ranges.{Range, mark_over, walked};
+ghost use Rattle.mv_ranges.specs.Marks.{SameMarks, SameAbove, KeepsBoundaries, IsAscending, IsBoundary, IsForward};
+ghost use Rattle.mv_ranges.specs.Marks.{MayBegin, MayEnd};
 ghost use Rattle.mv_ranges.specs.Notes.{IsDrained};
 
 use crate::marks::{below, copied, join, lower, over, raise, split};
@@ -57,7 +58,8 @@ impl Ranges {
         split(self.alloc, &mut self.marks, key)
     }
 
-    /// Makes the key the boundary at which a range of the reader begins, unless its mark stands there already.
+    /// Makes the key the boundary at which a range of the reader begins, unless so high a mark stands over it already
+    /// that raising the range changes nothing there.
     fn begin(&mut self, from: &Vec<u8>, reader: u64) -> Result<(), AllocError>
         ensures same { SameMarks self.old.marks self.new.marks }
         ensures ascending { OnOk result (IsAscending self.new.marks) }
@@ -69,7 +71,7 @@ impl Ranges {
         self.bound(from, reader)
     }
 
-    /// The same of the boundary at which it ends.
+    /// The same of the boundary at which it ends: it isn't needed if the mark just below it is as high.
     fn end(&mut self, to: Option<&Vec<u8>>, reader: u64) -> Result<(), AllocError>
         ensures same { SameMarks self.old.marks self.new.marks }
         ensures kept { KeepsBoundaries self.old.marks self.new.marks }
@@ -85,7 +87,7 @@ impl Ranges {
         self.bound(to, reader)
     }
 
-    /// Like `mark`.
+    /// Like `mark`, of a range that doesn't run backwards.
     fn mark_between(
         &mut self,
         from: &Vec<u8>,
@@ -105,7 +107,8 @@ impl Ranges {
         Ok(())
     }
 
-    /// A scan by the reader has walked the keys from `from` on, up to `to`, which isn't among them, or without end.
+    /// A scan by the reader has walked the keys from `from` on, up to `to`, which isn't among them, or without end. It
+    /// costs a look-up for each end, and for each boundary of the range whose mark it raises.
     ///
     /// # Errors
     /// Out of memory: no mark has changed.
