@@ -19,7 +19,7 @@ ENDING = "xarm: PEER: shutdown\nxarm: shutdown\n"
 
 
 class Server:
-    """A server in a new folder, with so many file handles, on these cores, or with the library of .ci/files.c before its calls on files; by a
+    """A server in a new folder, with this many file handles, on these cores, or with the library of .ci/files.c before its calls on files; by a
     port, or by a socket; it tells nothing of who may connect, if that is so."""
 
     def __init__(self, *words, handles=None, env=None, tells=(), library=None, by_socket=False, stderr=None, cores=None, is_open=True):
@@ -112,7 +112,7 @@ def asks(peer, lines):
 
 
 def replies(peers, count):
-    """The same of so many lines that were sent over each connection."""
+    """The same of this many lines that were sent over each connection."""
     until = time.monotonic() + PATIENCE
     for peer in peers:
         found = []
@@ -159,7 +159,7 @@ def is_open_again(server):
 
 
 def is_closed(peer, seconds):
-    """Whether a connection is closed within so many seconds, with no byte before."""
+    """Whether a connection is closed within this many seconds, with no byte before."""
     peer.socket.settimeout(seconds)
     try:
         return peer.socket.recv(1) == b""
@@ -178,7 +178,7 @@ def status(peer):
 
 
 def is_answered(peer, seconds):
-    """Whether an Open is answered within so many seconds."""
+    """Whether an Open is answered within this many seconds."""
     peer.socket.settimeout(seconds)
     try:
         return shown(peer.reply())[1] == OK

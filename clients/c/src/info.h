@@ -29,7 +29,7 @@ bool is_one_server(const struct info *one, const struct info *other);
 /* Whether two say the same. */
 bool is_one_info(const struct info *one, const struct info *other);
 
-/* The server in words, as "127.0.0.1:4187", in at most so many bytes with the ending null. */
+/* The server in words, as "127.0.0.1:4187", in at most this many bytes with the ending null. */
 void info_words(const struct info *info, char *to, size_t room);
 
 #endif

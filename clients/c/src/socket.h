@@ -16,7 +16,7 @@ int socket_connect(const struct info *server, int64_t deadline, const char **fau
 /* Sends all of it. What failed, or NULL. */
 const char *socket_send(int socket, const unsigned char *bytes, size_t length, int64_t deadline);
 
-/* Reads between 1 byte and so many: what has come. What failed, or NULL. */
+/* Reads between 1 byte and this many: what has come. What failed, or NULL. */
 const char *socket_receive(int socket, unsigned char *to, size_t room, size_t *came, int64_t deadline);
 
 /* Whether nothing has come, and the peer hasn't closed it. */

@@ -122,7 +122,7 @@ void request_end(struct request *to)
     write_number(to->bytes, LENGTH_BYTES, to->length - LENGTH_BYTES);
 }
 
-/* Whether a body of this kind, of so many bytes, is one, exactly. */
+/* Whether a body of this kind, of this many bytes, is one, exactly. */
 static bool read_body(const unsigned char *body, size_t length, struct reply *to)
 {
     size_t at = 2;

@@ -20,7 +20,7 @@ void expect_holds(const char *file, int line, const char *what, bool holds);
 /* Ends the test with what is wrong, as of printf. */
 __attribute__((format(printf, 1, 2), noreturn)) void fail(const char *form, ...);
 
-/* Before the first test. Whichever one runs after so many seconds has failed. */
+/* Before the first test. Whichever one runs after this many seconds has failed. */
 void begin_tests(const char *the_program, const char *the_folder, int seconds);
 /* How many passed and failed, printed; the status of the program. */
 int end_of_tests(void);

@@ -13,7 +13,7 @@ struct relay *relay_make(int port);
 struct relay *fake_make(int pause);
 int relay_port(const struct relay *relay);
 
-/* Of the next request, or reply, so many bytes come, and then the connection ends. */
+/* Of the next request, or reply, this many bytes come, and then the connection ends. */
 void relay_cut_request(struct relay *relay, int bytes);
 void relay_cut_reply(struct relay *relay, int bytes);
 /* The next reply doesn't come, and the connection stays. */

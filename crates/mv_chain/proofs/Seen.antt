@@ -7,7 +7,7 @@ use Rattle.mv_chain.specs.declared.fate.Fate.{Fate}
 use Rattle.mv_chain.specs.declared.fate.Fate.TheVariants.{Committed, RolledBack}
 use Rattle.mv_chain.specs.Accesses.{Written, Seen, shown, newest, seen_of, seen_without, stands, deciding, decided, has_undecided, seen, nobody, IsUndecided}
 
--- what stands behind a write matters by what it shows alone
+-- what stands after a write matters by what it shows alone
 pub seen_behind : (p : Written → Bool) (w : Written) (xs ys : List Written) → newest p xs ≡ newest p ys → newest p (w ∷ xs) ≡ newest p (w ∷ ys)
 seen_behind p w xs ys e = grind (arith, nat_tests)
 

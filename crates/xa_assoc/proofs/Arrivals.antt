@@ -164,7 +164,7 @@ least_number xs t free taken = by_order (nat_lt (free_number xs) (t + 1)) (nat_l
         absurd (cc (free, there))
     by_order false false e h = grind (arith, nat_tests)
 
--- not all of so many numbers are taken by fewer sessions
+-- not all of this many numbers are taken by fewer sessions
 pub never_full : (xs : List Session) (limit : ℕ) → length xs < limit → ((j : ℕ) → j < limit → is_some (session_of xs (j + 1)) ≡ true) → ⊥
 never_full xs limit fewer taken =
     let low = lower xs (length xs) 1 in

@@ -55,7 +55,7 @@ impl<R> fmt::Debug for Watch<'_, R> {
 }
 
 /// Tells a server what the system's clock says, in whole seconds since 1970: at once, and then again every
-/// so many seconds.
+/// this many seconds.
 pub fn tick<R: AllocGlobal + Clock + Eprint + Env + Files + Net<Stream = TcpStream> + RandomSource>(
     rt: &R,
     server: &mut Server<'_, '_, R>,

@@ -36,7 +36,7 @@ more-delivers replies reply sent is = record {
   last = inr (replies, reply, [], refl, is ∙ sym (append-nil (frames_of replies)), refl);
 }
 
--- so many bytes more were sent
+-- this many bytes more were sent
 sent-delivers : (replies : List Reply) (sent unsent : List ℕ) (count : ℕ) → Delivers replies sent unsent → Delivers replies (sent ++ take count unsent) (drop count unsent)
 sent-delivers replies sent unsent count h = record {
   in_order = h.in_order ∙ ap (λ (bs : List ℕ). sent ++ bs) (sym (take-append-drop count unsent)) ∙ sym (append_assoc sent (take count unsent) (drop count unsent));
@@ -62,7 +62,7 @@ sends-by : (end end' : Option Served) (replies : List Reply) (input sent unsent 
 sends-by end end' replies input sent unsent unsent' p q h =
     subst (λ (x : Option Served). Sends x replies input sent unsent) (sym p) (subst (λ (y : List ℕ). Sends end' replies input sent y) (sym q) h)
 
--- so many bytes more were sent
+-- this many bytes more were sent
 sent-sends : (end : Option Served) (replies : List Reply) (input sent unsent : List ℕ) (count : ℕ) → Sends end replies input sent unsent → Sends end replies input (sent ++ take count unsent) (drop count unsent)
 sent-sends None replies input sent unsent count h = sent-delivers replies sent unsent count h
 sent-sends (Some TooLong) replies input sent unsent count h = (h.0, sent-delivers (replies ++ bad_frame ∷ []) sent unsent count h.1)

@@ -58,7 +58,7 @@ IsReady c = (c.end ≡ None) × (c.output ≡ [])
 abbrev pub IsIdle : Connection → Type 0
 IsIdle c = IsSome c.end ⊎ ((c.output ≢ []) ⊎ IsCut c.input)
 
--- the frame at the front, whose content has so many bytes, asks this of the server itself
+-- the frame at the front, whose content has this many bytes, asks this of the server itself
 abbrev pub AsksServer : List ℕ → ℕ → Control → Type 0
 AsksServer input count control = BeginsWhole input count × SpellsControl (take count (drop 4 input)) control
 

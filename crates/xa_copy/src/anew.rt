@@ -81,7 +81,7 @@ impl<D: Disk> Standby<D> {
     }
 }
 
-// A checkpoint of these bodies, of which the longest one has so many bytes at most.
+// A checkpoint of these bodies, of which the longest one has this many bytes at most.
 fn replace<D: Disk>(
     log: &mut Log<D>,
     bodies: &[SharedBytes],

@@ -51,7 +51,7 @@ impl<D: Disk> Standby<D> {
         Ok(self.followed(is_anew, had))
     }
 
-    // What was taken, where so many records were there before.
+    // What was taken, where this many records were there before.
     fn followed(&self, is_anew: bool, had: u64) -> Followed
         ensures records { result.records ≡ self.now.copied.records - (if is_anew then 0 else had) }
         ensures is_anew { result.is_anew ≡ is_anew }

@@ -30,7 +30,7 @@ pub(crate) fn new_buffer(alloc: Global, len: usize) -> Result<Vec<u8>, CopyFault
     Ok(buffer)
 }
 
-// Reads this many bytes into a part of a buffer, and returns whether there are so many.
+// Reads this many bytes into a part of a buffer, and returns whether there are this many.
 pub(crate) fn read_part<S: Source>(
     source: &mut S,
     at: u64,
@@ -88,7 +88,7 @@ impl Gather {
         Ok(())
     }
 
-    // Has the buffer room for so many bytes more.
+    // Has the buffer room for this many bytes more.
     pub(crate) fn make_room<D: Disk>(&mut self, to: &mut D, count: usize) -> Result<(), CopyFault>
         requires room { self.old.pending ≤ length self.old.buffer.items }
         requires small { end_of self.old < 2 ^ 64 }

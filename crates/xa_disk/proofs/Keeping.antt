@@ -11,7 +11,7 @@ use Rattle.xa_disk.specs.MemDiskView.{MemDiskView}
 use Rattle.xa_disk.specs.Memory.{Crashes, CrashesKeeping}
 use Rattle.xa_disk.specs.Keeping.{unsynced, written_bytes, put_front, put_fronts, kept}
 
--- the ranges of writes behind those that were pending, the newest first
+-- the ranges of writes after those that were pending, the newest first
 abbrev ranges : List Call → List (ℕ × ℕ) → List (ℕ × ℕ)
 ranges [] pending = pending
 ranges (Write at bytes ∷ calls) pending = ranges calls ((at, length bytes.items) ∷ pending)

@@ -1,4 +1,4 @@
--- A write in two steps: zeros behind the end, and then the bytes over what is there.
+-- A write in two steps: zeros after the end, and then the bytes over what is there.
 use Rattle.std.proofs.Common.{◌≡◌, ℕ, ◌+◌, ◌-◌, ◌≤◌, List, ◌++◌, length, take, drop, replicate, arith, rules}
 use Rattle.std.proofs.lemmas.List.{places, same_lists, take_at}
 use Rattle.xa_disk.specs.Disk.{put}

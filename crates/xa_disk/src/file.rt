@@ -45,7 +45,7 @@ impl FileDisk<HostFile> {
     }
 
     /// The regular file at a path, or that a link there leads to, locked for this disk alone until it is dropped. One that
-    /// isn't there is created, readable and writable by its owner alone, but not behind a link. It is synced, and so are
+    /// isn't there is created, readable and writable by its owner alone, but not through a link. It is synced, and so are
     /// its directory entry and the link's; the system is told to drop what it keeps of it in memory, so that reads give
     /// what the medium has.
     pub fn open(rt: &HostRuntime, path: &str) -> Result<FileDisk, FileFault>

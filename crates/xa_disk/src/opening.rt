@@ -57,7 +57,7 @@ fn sync_names(rt: &HostRuntime, path: &str) -> io::Result<()> {
     Ok(())
 }
 
-// The file at a path, for reading and writing; a new one is its owner's alone. None is made behind a link: if it leads
+// The file at a path, for reading and writing; a new one is its owner's alone. None is made through a link: if it leads
 // nowhere, the volume of its file may not be there yet, and an empty file in its place would be taken for a new log's.
 fn opened(rt: &HostRuntime, path: &str) -> Result<File, FileFault> {
     let mut how = OpenOptions::new();

@@ -34,7 +34,7 @@ takes {spell = spell} F bytes x rest small e =
     let behind : drop (length (spell x)) bytes ≡ rest = ap (drop (length (spell x))) t.0 ∙ drop_at (spell x) rest (length (spell x)) refl in
     (record { parts = t.0; rest_fits = subst (λ (s : List ℕ). IsBytes s) behind (IsBytes-drop (length (spell x)) bytes small) }, t.1)
 
--- ---- so many bytes
+-- ---- this many bytes
 
 bytes_take : (n : ℕ) (bytes text rest : List ℕ) → bytes_at n bytes ≡ Ok (text, rest) → (bytes ≡ text ++ rest) × (length text ≡ n)
 bytes_take n bytes text rest e =

@@ -12,7 +12,7 @@ use Rattle.xa_frame.specs.Reading.{Reads, number_at, field_as, and_number, ten, 
 use Rattle.xa_frame.proofs.Readers.{IsField, number64, both, as_made}
 use Rattle.xa_frame.proofs.BranchReaders.{other_facts}
 
--- ---- so many bytes, and then so many
+-- ---- this many bytes, and then this many
 
 split : (b : Bool) (m n : ℕ) (bytes : List ℕ) → ltb (length bytes) m ≡ b
     → and_then (cond b (Err Short) (Ok (drop m bytes))) (after_bytes n) ≡ after_bytes (m + n) bytes
@@ -27,7 +27,7 @@ split false m n bytes h =
 both_bytes : (m n : ℕ) (bytes : List ℕ) → after_both (after_bytes m) (after_bytes n) bytes ≡ after_bytes (m + n) bytes
 both_bytes m n bytes = split (ltb (length bytes) m) m n bytes refl
 
--- a number, and what has so many bytes
+-- a number, and what has this many bytes
 and_then_more : {A : Type 0} {at : Reads A} {spell : A → List ℕ} {fits : A → Type 0} (n : ℕ) → IsField A at spell fits (after_bytes n)
     → IsField (ℕ × A) (and_number at) (λ x. to_be_bytes w64 x.0 ++ spell x.1) (λ x. (x.0 < 2 ^ 64) × fits x.1) (after_bytes (8 + n))
 and_then_more n F =

@@ -1,4 +1,4 @@
--- That a share owes so many answers is known in one way.
+-- That a share owes this many answers is known in one way.
 use Rattle.std.proofs.Common.{◌≡◌, ℕ}
 use native.Mathlib.Nat.{ℕ_set}
 use Rattle.xa_tokens.specs.Believed.Account.{Account, Owes}

@@ -12,7 +12,7 @@ abbrev pub code_id : ℤ → ℕ
 code_id (pos n) = if nat_le n 107 then 500 + n else 490
 code_id (negsuc n) = if nat_le n 8 then 500 - suc n else 490
 
--- how often a number can be halved until it is 0, so many times at most
+-- how often a number can be halved until it is 0, this many times at most
 abbrev pub halvings : ℕ → ℕ → ℕ
 halvings zero n = 0
 halvings (suc most) n = if n == 0 then 0 else suc (halvings most (n / 2))

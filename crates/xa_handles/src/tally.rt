@@ -54,7 +54,7 @@ impl Tally {
         self.add(code_id(code), 1);
     }
 
-    /// The sync of a group of so many calls was made, and took so many microseconds.
+    /// The sync of a group of this many calls was made, and took this many microseconds.
     pub fn synced(&self, calls: u64, micros: u64) {
         self.add(SYNCS, 1);
         self.add(SYNCED_CALLS, calls);

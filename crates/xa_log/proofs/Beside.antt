@@ -33,7 +33,7 @@ pub log_filled : (file : List ℕ) → has_log file ≡ true → HasBytes file
 log_filled [] is = absurd (cc is)
 log_filled (b ∷ file) is = omega arith
 
--- the bodies that a log has, whatever became of what was to go behind them, or instead of them
+-- the bodies that a log has, whatever became of what was to go after them, or instead of them
 abbrev pub bodies_in : LogState → List (List ℕ)
 bodies_in (Whole bodies stood) = bodies
 bodies_in (LostAppend bodies group stood) = bodies

@@ -1,4 +1,4 @@
--- The zeros behind a checkpoint's last record.
+-- The zeros after a checkpoint's last record.
 use Rattle.std.proofs.Common.{◌≡◌, inl, inr, ℕ, zero, suc, ◌+◌, ◌-◌, ◌≤◌, min, true, List, [], ◌∷◌, ◌++◌, length, take, drop, replicate, refl, sym, ◌∙◌, ap, subst, arith, append_assoc, length-drop}
 use Rattle.std.specs.List.{AllByRecursion}
 use Rattle.std.specs.Int.{w32, to_be_bytes}
@@ -20,7 +20,7 @@ use Rattle.xa_log.proofs.Records.{length-text, record_to}
 use Rattle.xa_log.proofs.Steps.{zeros_more}
 use Rattle.xa_log.proofs.Torn.{put_within}
 
--- behind a log's text stands what follows it
+-- after a log's text stands what follows it
 behind_is : (format : Format) (bodies : List (List ℕ)) (file rest : List ℕ) → file ≡ text format bodies ++ rest → behind_text format bodies file ≡ rest
 behind_is format bodies file rest is =
     ap (λ (l : List ℕ). drop (length (text format bodies)) l) is ∙ drop_at (text format bodies) rest (length (text format bodies)) refl

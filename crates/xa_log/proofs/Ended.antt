@@ -29,7 +29,7 @@ use Rattle.xa_log.proofs.Whole.{behind_closing, damaged_headed, whole_file}
 
 -- ---- one file
 
--- what a file is that is ended behind these bodies
+-- what a file is that is ended after these bodies
 record Ends (bodies : List (List ℕ)) (new : List ℕ) : Type 0 where
   pub log : has_log new ≡ true
   pub logged_is : logged new ≡ bodies
@@ -74,7 +74,7 @@ module _ (format : Format) (bodies : List (List ℕ)) (file rest : List ℕ) (si
         (behind_closing format bodies (put file (length (text format bodies)) cleared) behind ended_split (inr refl));
   }
 
--- it is ended behind its records, or behind its name
+-- it is ended after its records, or after its name
 module _ (format : Format) (bodies : List (List ℕ)) (file : List ℕ) (at : ℕ) (r : Rests format bodies file) where
   ended_last : at ≡ length (text format bodies) → Ends bodies (put file at cleared)
   ended_last is = subst (λ (n : ℕ). Ends bodies (put file n cleared)) (sym is) (ended_ends format bodies file r.rest r.sizes r.split)
@@ -158,7 +158,7 @@ refused most a b is = by (nat_lt most (length a) || nat_lt most (length b)) refl
           log = named_by (is_newer (take 8 a) || is_newer (take 8 b)) (has_log a || has_log b) refl is;
         }
 
--- the place is in a log, and behind its records
+-- the place is in a log, and after its records
 abbrev IsPlace : List ℕ → List ℕ → Damage → Type 0
 IsPlace a b d = (has_log (cond d.on_first a b) ≡ true) × (d.at ≡ length (text (format_in (cond d.on_first a b)) (logged (cond d.on_first a b))))
 

@@ -39,7 +39,7 @@ fetch_more len upto n upto' first now new f short next within most large is = re
   full = λ more. omega (arith, f.full short, large more, next);
 }
 
--- the piece behind what a window has, up to the file's end or the window's
+-- the piece after what a window has, up to the file's end or the window's
 pub piece : (len from have at count kept last n upto' : ℕ) (first now new : Counts) → Fetched len (from + have) first now → from ≤ at → at ≤ from + have → from + have ≤ len → at + count ≤ len → count ≤ 524324 → from + have < at + count
     → kept ≡ have - (at - from) → last ≡ min (len - at) 1048576 → n ≡ last - kept → upto' ≡ at + last → new ≡ with_read n now → Fetched len upto' first new
 piece len from have at count kept last n upto' first now new f begins reaches inside within fits missing k l is upto is_new =
@@ -58,7 +58,7 @@ pub on_fault : {T E : Type 0} (P : T → Type 0) (Q : Type 0) (r : Result T E) �
 on_fault P Q (Ok x) is q = absurd (search (is, rules))
 on_fault P Q (Err e) is q = q
 
--- what was kept at the front, and what was read behind it, is one piece of the file
+-- what was kept at the front, and what was read after it, is one piece of the file
 pub joined : (file window into rest : List ℕ) (at kept have : ℕ) → kept ≤ have → kept ≤ length window → take kept window ≡ take kept (drop at file) → length into ≡ have - kept → into ≡ take (length into) (drop (at + kept) file)
     → take have (take kept window ++ (into ++ rest)) ≡ take have (drop at file)
 joined file window into rest at kept have le room same long is =
@@ -125,7 +125,7 @@ length_read old s at len most fits whole covered within far = elim (cases_lt (ol
 pub length_reaches : (old s : Span) (at most end : ℕ) → LengthRead old s at most → at + 36 ≤ end → ReachesTo end (old.from + old.have) most → ReachesTo end (s.from + s.have) most
 length_reaches old s at most end it le r = (it.bounded, λ short. ⊎_elim (λ same. r.1 (subst (λ z. z.from + z.have < end) same short)) (λ before. r.1 (omega (arith, before, le))) it.from)
 
--- the read of so many bytes from an offset on, by way of a window
+-- the read of this many bytes from an offset on, by way of a window
 pub fill_within : (old s : Span) (len at count most : ℕ) (start now : Counts) → Fetched len (s.from + s.have) start now → (s ≡ old) ⊎ ((s.from ≡ at) × (s.have ≡ min (len - at) 1048576)) → (at + count ≤ old.from + old.have → s ≡ old)
     → ReachesTo (at + count) (old.from + old.have) most → FetchedUpto len most start now s
 fill_within old s len at count most start now f whole covered r = (
@@ -164,7 +164,7 @@ head_within len most start now (Some head) f = next_within len most start now he
 pub head_some : (len most : ℕ) (start now : Counts) (o : Option Head) → FetchedHead len most start now o → FetchedSome len start now
 head_some len most start now o f = some_within len most start now (head_within len most start now o f)
 
--- whatever is read, it is no more than a window behind the file's end
+-- whatever is read, it is no more than a window after the file's end
 pub any_reach : (IsSize : ℕ → Type 0) (limit len at upto : ℕ) → upto ≤ len → at ≤ len → Reaches IsSize limit len at upto (len + 1048576)
 any_reach IsSize limit len at upto le within = (omega (arith, le), (λ fits short. omega (arith, within)), λ size is small fits. (omega (arith, le), λ short. omega (arith, fits)))
 
@@ -192,7 +192,7 @@ reads_some len most first first' now le is f = record {
   few = f.fetched.few;
 }
 
--- what a look ends in behind its length
+-- what a look ends in after its length
 looked_on : (e : OpenFault) (most : ℕ) (first now : Counts) → (e ≡ TooLong → ⊥) → OnlyReads most (asked first) now → LooksAt e most first now
 looked_on Device most first now other reads = inr reads
 looked_on Memory most first now other reads = inr reads

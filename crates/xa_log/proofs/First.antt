@@ -32,7 +32,7 @@ pub none_headless : (file : List ℕ) → format_of (take 8 file) ≡ None → f
 unfolding is_headless
 none_headless file none = sym (and_left (is_some (format_of (take 8 file))) _ (ap (λ (o : Option Format). is_some o) none))
 
--- the bytes behind the name, as a window has them that begins with the file
+-- the bytes after the name, as a window has them that begins with the file
 pub front_read : (file window : List ℕ) (span : Span) (n : ℕ) → Caches file window span → span.from ≡ 0 → span.have ≡ min (length file) 1048576 → n ≡ min span.have 49 → 8 ≤ length file
     → take (n - 8) (drop 8 window) ≡ take 41 (drop 8 file)
 front_read file window span n caches from have is long =

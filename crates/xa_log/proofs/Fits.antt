@@ -109,7 +109,7 @@ fit_law most first second fit opens =
       λ none. beats_none true (logged first) (logged second) (none_of second it.second_old known.1 none),
     )
 
--- ---- behind an interrupted write
+-- ---- after an interrupted write
 
 neither : (most : ℕ) (first second : List ℕ) → unfit_by (standing first) (standing second) (generation_in first) ≡ Neither → unfit_of most first second ≡ Neither
 neither most first second fit = by (nat_lt most (length first) || nat_lt most (length second))

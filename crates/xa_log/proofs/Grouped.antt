@@ -84,7 +84,7 @@ rests_group format bodies group file more sizes ok is = record {
   closed = closed_zeros format (last (start format) (bodies ++ group)) more;
 }
 
--- what stands behind it begins with a length 0
+-- what stands after it begins with a length 0
 pub closed_behind : (format : Format) (bodies group : List (List ℕ)) (file more : List ℕ)
     → file ≡ text format bodies ++ (closed (last (start format) bodies) group ++ more) → size_at (behind_text format (bodies ++ group) file) ≡ 0
 closed_behind format bodies group file more is =
@@ -94,7 +94,7 @@ closed_behind format bodies group file more is =
 
 -- ---- what keeps the log's front, and after it has no records but the group's
 
--- of a file that is a log of so many bodies, none of the group
+-- of a file that is a log of this many bodies, none of the group
 none_of : (format : Format) (bodies group : List (List ℕ)) (file : List ℕ) → Rests format bodies file → breaks_off format bodies file ≡ false → IsFirstPart format bodies group file
 none_of format bodies group file r whole = record {
   many = 0;
@@ -369,7 +369,7 @@ module _ {D : Type 0} (disks : Ghosts D) (bodies group : List (List ℕ)) (old :
       group_moments old.disk 0 (omega (arith, room))
       (record { later = omega arith; follows = λ c now. (c, now, torn_same old.end 0 c); nothing_else = λ t c le left. inl left; keeps = λ t c le left. left })
 
-  -- the same, where the range is the records with their closing length and so many zeros
+  -- the same, where the range is the records with their closing length and this many zeros
   pub range_moments : (new : D) (more to : ℕ) (range : List ℕ) → length range ≡ group_bytes group + 4 + more → to ≡ old.end + group_bytes group + 4 → to + more ≤ old.log_bytes
       → TimePasses disks (Torn old.end (length range)) old.disk new → LeavesOnly disks old.disk new (Leaves old.log_bytes old.format bodies group)
   range_moments new more to range long is room time = group_moments new (length range) (omega (arith, long, is, room)) time

@@ -1,4 +1,4 @@
--- What chains behind a record that doesn't.
+-- What chains after a record that doesn't.
 use Rattle.std.proofs.Common.{◌≡◌, inl, inr, ⊎_elim, ℕ, zero, suc, ◌+◌, ◌≤◌, ◌<◌, min, Bool, true, false, ◌&&◌, ◌||◌, List, [], ◌∷◌, ◌++◌, length, take, drop, refl, sym, ◌∙◌, ap, arith, cond, nat_le, append_assoc, length-drop, Vec, Global, get_or}
 use Rattle.std.specs.Prelude.{slice_index, ◌==◌}
 use Rattle.std.specs.Int.{w32, from_be_bytes}
@@ -24,7 +24,7 @@ use Rattle.xa_log.proofs.Walk.{length-body_at}
 
 -- ---- along a chain
 
--- these bodies chain from one offset up to another, where a record that chains behind them is found or isn't
+-- these bodies chain from one offset up to another, where a record that chains after them is found or isn't
 pub record Along (format : Format) (file : List ℕ) (prev : List ℕ) (most at : ℕ) (window : List ℕ) (end : ℕ) (bodies : List (List ℕ)) (next : Option Found) : Type 0 where
   pub digest : List ℕ
   pub more : ℕ
@@ -67,7 +67,7 @@ along_found format file prev most at window end bodies found window' next a find
           ∙ sym (append_assoc bodies (found.body.items ∷ []) (bodies_from format more found.digest (drop (end + (36 + length found.body.items)) file)));
     }
 
--- ---- behind a record that is shown
+-- ---- after a record that is shown
 
 module _ (format : Format) (file window prev computed : List ℕ) (at end distance : ℕ) (shown : Shown) (it : Shows format file at window (Some shown)) (computed_is : computed ≡ digest prev shown.body.items) (distance_is : distance ≡ 36 + length shown.body.items)
     (end_is : end ≡ at + distance) where
@@ -97,7 +97,7 @@ module _ (format : Format) (file window prev computed : List ℕ) (at end distan
     distance = λ shows. far ∙ distance_is ∙ ap (λ (k : ℕ). 36 + k) long;
   }
 
--- behind a record by another length than it has
+-- after a record by another length than it has
 pub mended_left : (format : Format) (file prev : List ℕ) (at end : ℕ) (mended : Mended) (left : Left) → mended.size ≤ 524288 → IsMended format prev (drop at file) mended → end ≡ at + (36 + mended.size) → left.distance ≡ 36 + mended.size
     → bodies_of left.bodies.items ≡ bodies_from format (length (with_size mended.size (drop at file))) mended.digest (drop end file) → IsLeft format prev (with_size mended.size (drop at file)) left
 mended_left format file prev at end mended left small it end_is far bodies = record {
@@ -150,9 +150,9 @@ pub boot_is : (body : List ℕ) (n : ℕ) → n ≡ 4 → size_at (take n (drop 
 unfolding size_at
 boot_is body n four = ap (λ (l : List ℕ). from_be_bytes w32 l) (take-take 4 n (drop (stamp_at body) body) (omega (arith, four)))
 
--- ---- of bodies, whether one is, far enough behind
+-- ---- of bodies, whether one is, far enough after
 
--- how far behind it is beyond the bound doesn't count
+-- how far after it is beyond the bound doesn't count
 capped : (number a b : ℕ) (bodies : List (List ℕ)) → min a 262144 ≡ min b 262144 → has_own number a bodies ≡ has_own number b bodies
 capped number a b [] same = refl
 capped number a b (body ∷ bodies) same =
@@ -170,13 +170,13 @@ own_next number at next bodies i v lt is same =
     ∙ ap (λ (b : Vec ℕ Global). (nat_le 262144 at && is_own number b.items) || far_own number (at + (36 + length b.items)) (drop (i + 1) bodies)) (sym is)
     ∙ ap (λ (t : Bool). (nat_le 262144 at && is_own number v.items) || t) (capped number (at + (36 + length v.items)) next (bodies_of (drop (i + 1) bodies)) same)
 
--- ---- behind the bodies of a log
+-- ---- after the bodies of a log
 
--- what is left out behind none
+-- what is left out after none
 pub left_none : (format : Format) (bodies : List (List ℕ)) (file : List ℕ) (left : Left) → bodies ≡ [] → bodies_of left.bodies.items ≡ [] → IsLeftOut format bodies file left
 left_none format bodies file left none nothing = record { bodies_are = nothing ∙ sym (ap (λ (l : List (List ℕ)). left_out format l file) none); distance = inl nothing }
 
--- and behind some
+-- and after some
 pub left_some : (format : Format) (bodies : List (List ℕ)) (file : List ℕ) (left : Left) → 1 ≤ length bodies → IsLeft format (last (start format) bodies) (written_behind format bodies file) left → IsLeftOut format bodies file left
 left_some format [] file left some it = absurd (omega (arith, some))
 left_some format (body ∷ bodies) file left some it =

@@ -27,7 +27,7 @@ device_asked most old new is = inr (reads_none most (asked old) new is)
 pub device_second : (most : ℕ) (old new : Counts) → (new ≡ with_sync old) ⊎ (new ≡ asked old) → LooksSecondAt Device most old new
 device_second most old new calls = inr (⊎_elim (λ sync. inl sync) (λ length. device_asked most old new length) calls)
 
--- whatever comes behind the lengths only reads
+-- whatever comes after the lengths only reads
 read_at : (e : OpenFault) (most : ℕ) (old new : Counts) → e ≢ TooLong → OnlyReads most (asked old) new → LooksAt e most old new
 read_at Device most old new short reads = inr reads
 read_at Memory most old new short reads = inr reads

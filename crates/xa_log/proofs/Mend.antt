@@ -185,7 +185,7 @@ written_short format prev bytes short = elim (cases_Bool (not (size_at bytes == 
   | inr other ↦ ap (λ (b : Bool). cond b (mended format prev bytes 32) bytes) other
 ]
 
--- What comes behind their record is what comes there, by its length: the same, or one that a window has room for.
+-- What comes after their record is what comes there, by its length: the same, or one that a window has room for.
 pub rest_with : (size : ℕ) (bytes : List ℕ) → rest_at (with_size size bytes) ≡ drop (36 + size_at (with_size size bytes)) bytes
 unfolding with_size
 rest_with size bytes =

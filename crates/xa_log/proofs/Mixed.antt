@@ -1,4 +1,4 @@
--- What an append that is torn between bytes leaves behind a snapshot.
+-- What an append that is torn between bytes leaves after a snapshot.
 use Rattle.std.proofs.Common.{◌≡◌, ⊎_elim, ℕ, ◌+◌, ◌≤◌, Bool, true, false, not, ◌&&◌, ◌||◌, get_or, List, [], ◌∷◌, ◌++◌, length, take, drop, refl, sym, ◌∙◌, ap, subst, arith, append_assoc, nat_lt, nat_le, nat_eq, length-drop, length-append}
 use Rattle.std.proofs.lemmas.Bool.{and_from, and_parts, or_left, or_right, or_cases, eq-eqb}
 use Rattle.std.proofs.lemmas.Bool.Decides.{nat_tests}
@@ -20,7 +20,7 @@ unfolding headed
 first_written more prev [] group rest appended = absurd (cc appended)
 first_written more prev (b ∷ body) group rest appended = refl
 
--- a byte that may stand behind a snapshot's closing length
+-- a byte that may stand after a snapshot's closing length
 abbrev May : ℕ → Type 0
 May byte = (nat_eq byte 0 || is_appended byte) ≡ true
 

@@ -202,7 +202,7 @@ same_tail base file le t =
           get_or-drop 12 file i 0 ∙ t.above (12 + i) within (omega arith) ∙ sym (get_or-drop 12 base i 0));
     }
 
--- Without chance it is what stood there, or nothing. Old records behind the header of another format would chain by
+-- Without chance it is what stood there, or nothing. Old records after the header of another format would chain by
 -- chance alone: then as many do, so by either's limit they are the same.
 pub calm_logged : (stood : List (List ℕ)) (file : List ℕ) → Behind stood file → IsCalm stood file → AllOrNoBodies stood file
 calm_logged stood file behind calm = elim (cases_Bool (begins file)) [
@@ -235,7 +235,7 @@ pub beats_read : (first : Bool) (bodies stood : List (List ℕ)) (file : List �
 beats_read first bodies stood file wins (inl is) = ap (λ (l : List (List ℕ)). beats first bodies l) is ∙ wins
 beats_read first bodies stood file wins (inr none) = ap (λ (l : List (List ℕ)). beats first bodies l) none ∙ beats_nil first bodies
 
--- behind a whole header and a length 0 nothing chains
+-- after a whole header and a length 0 nothing chains
 pub header_none : (format : Format) (file rest : List ℕ) → file ≡ preamble format ++ rest → begins file ≡ false
 header_none format file rest is =
     let f : Format = format_in file in

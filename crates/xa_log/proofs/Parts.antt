@@ -1,4 +1,4 @@
--- A checkpoint's parts, one behind the other.
+-- A checkpoint's parts, one after the other.
 use Rattle.std.proofs.Common.{◌≡◌, ◌≢◌, ◌⊎◌, inl, inr, ⊎_elim, ℕ, zero, suc, ◌+◌, ◌≤◌, Bool, true, false, List, [], ◌∷◌, ◌++◌, length, take, drop, replicate, refl, sym, ◌∙◌, ap, subst, arith, append_assoc, length-append, length-drop, cond, Option, is_some, Result, Err, OnErr}
 use Rattle.std.specs.List.{AllByRecursion}
 use Rattle.std.specs.Int.{w32, to_be_bytes}
@@ -24,7 +24,7 @@ use Rattle.xa_log.proofs.Pair.{calm_front, header_none}
 use Rattle.xa_log.proofs.Ready.{leaves_by, sealed_rests, sealed_whole, seal_leaves, seal_whole, seal_cleared}
 use Rattle.xa_log.proofs.Whole.{begun_headed, damaged_headed, whole_file}
 
--- one call behind another
+-- one call after another
 pub leaves_then : {D : Type 0} (disks : Ghosts D) (a b c : D) (P Q R : List ℕ → Type 0)
     → ((x : List ℕ) → P x → R x) → ((x : List ℕ) → Q x → R x)
     → LeavesOnly disks a b P → LeavesOnly disks b c Q → LeavesOnly disks a c R
@@ -43,7 +43,7 @@ leaves_more disks a b P R f p = record {
   before = λ t x le left. ⊎_elim (λ was. inl was) (λ then. inr (f x then)) (p.before t x le left);
 }
 
--- ---- behind a whole header and a length 0
+-- ---- after a whole header and a length 0
 
 pub none_calm : (format : Format) (stood : List (List ℕ)) (c : List ℕ) → take 12 c ≡ preamble format → IsCalm stood c
 none_calm format stood c front = calm_front format stood c (drop 12 c) (header_split format c front)
@@ -72,7 +72,7 @@ during format disks old new n only_now time most room each =
     leaves_by disks old new (Torn 12 n) (LeavesNone most format) only_now (torn_same 12 n)
     (λ d c left torn. none_torn format most n d c room (each d left) torn) time
 
--- at each moment of all three parts, one behind the other
+-- at each moment of all three parts, one after the other
 module _ {D : Type 0} (disks : Ghosts D) (most : ℕ) (format : Format) (stood bodies : List (List ℕ))
     (a b c : D) where
   abbrev Any : List ℕ → Type 0
@@ -112,7 +112,7 @@ cleared_rest zero [] (inr none) = inl refl
 cleared_rest zero (b ∷ tail) (inr none) = absurd (omega (arith, none))
 cleared_rest (suc more) tail room = inr refl
 
--- what stands behind the preamble is as long as the records
+-- what stands after the preamble is as long as the records
 front_length : (format : Format) (bodies : List (List ℕ)) → records_bytes format bodies ≤ length (behind_front format bodies)
 front_length format bodies =
     omega (arith, length-append (drop 4 (records (start format) bodies)) (0 ∷ 0 ∷ 0 ∷ 0 ∷ []), length-drop 4 (records (start format) bodies))

@@ -18,7 +18,7 @@ length-part body from n fits =
     let k : from + n - from ≡ n = omega arith in
     ap (λ (i : ℕ). length (take i (drop from body))) k ∙ length-take-le n (drop from body) (omega (arith, fits, length-drop from body))
 
--- the last piece is put behind what was read
+-- the last piece is put after what was read
 pub filled : (file body new piece : List ℕ) (at done left : ℕ) → length new ≡ done + left → length piece ≡ left → piece ≡ take left (drop (at + done) file)
     → take (done + length piece) new ≡ take done body ++ piece → take done body ≡ take done (drop at file) → new ≡ take (done + left) (drop at file)
 filled file body new piece at done left long size is put front =
@@ -28,7 +28,7 @@ filled file body new piece at done left long size is put front =
     ∙ (λ i. front i ++ (is ∙ ap (λ (l : List ℕ). take left l) (sym (drop-drop done at file))) i)
     ∙ take_both done left (drop at file)
 
--- what a body that was read, and the bytes behind it, say of the record there
+-- what a body that was read, and the bytes after it, say of the record there
 module _ (format : Format) (file window prev items value : List ℕ) (span : Span) (at size begin n : ℕ) (some : 1 ≤ size) (small : size ≤ most_body format) (within : at + (36 + size) ≤ length file)
     (caches : Caches file window span) (covers : Covers span (at + (4 + size)) 32) (begin_is : begin ≡ at + (4 + size) - span.from) (n_is : n ≡ 32)
     (spelled : take 4 (drop at file) ≡ to_be_bytes w32 size) (long : length items ≡ size) (read : items ≡ take size (drop (at + 4) file)) (value_is : value ≡ items) where

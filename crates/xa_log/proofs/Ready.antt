@@ -45,7 +45,7 @@ pub fell_calm : (tears : List ℕ → ℕ → List ℕ → List ℕ → Type 0) 
 fell_calm tears format stood old new lucky calm (inl is) = calm_front format stood new (drop 12 old) (is ∙ put_header format old)
 fell_calm tears format stood old new lucky calm (inr torn) = lucky format stood old new calm torn
 
--- a torn front leaves what stood behind it
+-- a torn front leaves what stood after it
 pub other_torn : {D : Type 0} (disks : Ghosts D) (most : ℕ) (stood : List (List ℕ)) (old new : D) → 12 ≤ most
     → IsOther disks most stood old
     → Torn 0 12 (disks.seen old) (disks.seen new) → ((c : List ℕ) → disks.may_leave new c → (d : List ℕ) × disks.may_leave old d × Torn 0 12 d c)
@@ -82,7 +82,7 @@ module _ (format : Format) (bodies : List (List ℕ)) (file : List ℕ) (ready :
   abbrev zeros : List ℕ
   zeros = 0 ∷ 0 ∷ 0 ∷ 0 ∷ []
 
-  -- what stands behind the header
+  -- what stands after the header
   abbrev behind : List ℕ
   behind = behind_front format bodies ++ ready.rest
 

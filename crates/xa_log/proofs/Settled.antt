@@ -37,7 +37,7 @@ module _ {D : Type 0} (disks : Ghosts D) (group : List (List ℕ)) (w : Written)
   pub passed : disks.honest → TimePasses disks (Torn mid.end (length (ready_range_of old group))) old.disk mid.disk
   passed honest = subst (λ e. TimePasses disks (Torn e (length (ready_range_of old group))) old.disk mid.disk) (sym h.ends.0) (h.time honest)
 
--- what its sync, or the zeros behind a sync that failed, came to on the disk
+-- what its sync, or the zeros after a sync that failed, came to on the disk
 pub record Settles {D : Type 0} (disks : Ghosts D) (group : List (List ℕ)) (old mid : LogView D) (o : Appended) (disk : D) : Type 0 where
   pub not_full : o ≢ Full
   pub went : disks.honest → PutAheadBecame disks o mid.end (range_of old group) (ready_range_of old group) old.disk disk

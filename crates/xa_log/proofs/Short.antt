@@ -24,7 +24,7 @@ no_own true y a b = absurd (cc a)
 no_own false y a b = b
 
 module _ (format : Format) (number end from : ℕ) (file : List ℕ) (none : NoOwn format number from file) (near : from ≤ end + MOST_GROUP) where
-  -- of the records that chain from a place on, none is an own one far enough behind the bodies' end
+  -- of the records that chain from a place on, none is an own one far enough after the bodies' end
   none_own : (most at : ℕ) (prev : List ℕ) → has_own number at (bodies_from format most prev (drop (end + at) file)) ≡ false
   none_own zero at prev = refl
   none_own (suc most) at prev = elim (cases_Bool (is_record format prev x)) [

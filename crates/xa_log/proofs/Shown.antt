@@ -94,7 +94,7 @@ shown_says format file window prev value stored at shown it value_is stored_is o
     (omega (arith, r.whole, long)) o
     (subst (λ s. IfDigest (digest prev body) s o) there (subst (λ b. IfDigest (digest prev b) stored o) value_is by))
 
--- what was read by a length, with the digest behind it, is what stands there
+-- what was read by a length, with the digest after it, is what stands there
 pub is_shown : (file window : List ℕ) (at size begin n : ℕ) (shown : Shown) → size < 2 ^ 32 → take 4 (drop at file) ≡ to_be_bytes w32 size → length shown.body.items ≡ size
     → shown.body.items ≡ take size (drop (at + 4) file) → shown.stored ≡ take n (drop begin window) → begin ≡ at + (4 + size) - shown.span.from → n ≡ 32
     → Caches file window shown.span → Covers shown.span (at + (4 + size)) 32 → IsShown file at window shown

@@ -1,4 +1,4 @@
--- Whether a log breaks off in its snapshot, by its bodies and what stands behind them.
+-- Whether a log breaks off in its snapshot, by its bodies and what stands after them.
 use Rattle.std.proofs.Common.{◌≡◌, ◌⊎◌, inl, inr, ℕ, ◌+◌, ◌<◌, Bool, false, not, ◌&&◌, List, [], length, drop, get_or, sym, ◌∙◌, ap, nat_lt, Vec, Global}
 use Rattle.std.specs.Prelude.{slice_index}
 use Rattle.std.proofs.lemmas.Bool.{and_left, and_right}
@@ -12,7 +12,7 @@ use Rattle.xa_log.specs.declared.behind.Behind.{Behind}
 use Rattle.xa_log.specs.declared.format.Format.{Format}
 use Rattle.xa_log.specs.declared.format.Format.TheVariants.{One, Two}
 
--- ---- none of the bodies was appended: the first, and those behind it
+-- ---- none of the bodies was appended: the first, and those after it
 
 abbrev left : List (Vec ℕ Global) → Bool
 left bodies = is_snapshot (bodies_of bodies)
@@ -23,7 +23,7 @@ snapshot_next bodies i v lt is =
     at_drop_more left bodies i v lt
     ∙ ap (λ (b : Vec ℕ Global). not (is_appended (slice_index b.items 0)) && left (drop (i + 1) bodies)) (sym is)
 
--- ---- a log of no bodies doesn't break off, and of others what stands behind them is looked at
+-- ---- a log of no bodies doesn't break off, and of others what stands after them is looked at
 
 pub broken_by : (bodies : List (List ℕ)) (file : List ℕ) (behind : Behind) (b : Bool) → (bodies ≡ []) ⊎ IsBehind (behind_text Two bodies file) behind
     → ((tail : List ℕ) → IsBehind tail behind → b ≡ goes_on tail) → (nat_lt 1 (generation bodies) && (is_snapshot bodies && not b)) ≡ is_cut Two bodies file

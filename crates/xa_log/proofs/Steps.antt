@@ -12,7 +12,7 @@ use Rattle.xa_log.specs.Believed.Checkpoint.{records_bytes, tailed, first_length
 use Rattle.xa_log.proofs.Records.{records_more, text_more, last_more, length-record_of, length-text}
 use Rattle.xa_log.proofs.Torn.{put_within, torn_then, then}
 
--- one write behind another is one write of both
+-- one write after another is one write of both
 pub put_put : (old : List ℕ) (at : ℕ) (a b : List ℕ) → at ≤ length old → put (put old at a) (at + length a) b ≡ put old at (a ++ b)
 put_put old at a b le =
     let n : length (take at old ++ a) ≡ at + length a = omega (arith, length-append (take at old) a, length-take-le at old le) in
@@ -30,7 +30,7 @@ put_put old at a b le =
     ∙ ap (λ (x : ℕ). take at old ++ (a ++ b) ++ drop x old) j
     ∙ sym (put_within old at (a ++ b) le)
 
--- zeros behind the closing length go on with it
+-- zeros after the closing length go on with it
 pub zeros_more : (more : ℕ) → replicate {A = ℕ} (4 + more) 0 ≡ (0 ∷ 0 ∷ 0 ∷ 0 ∷ []) ++ replicate {A = ℕ} more 0
 zeros_more more = sym (replicate-append-replicate {A = ℕ} 4 more 0)
 
@@ -195,7 +195,7 @@ item_last format bodies i v body at some low high is same all here =
     let n : length bodies - 1 ≡ i = omega (arith, low, high, length-take (length bodies - 1) bodies) in
     item format bodies i v body at (omega (arith, n, some)) (is ∙ ap (λ (k : ℕ). get_or bodies k v) n) same all here
 
--- a write of one record, with so many zeros behind it, within what all of them take
+-- a write of one record, with this many zeros after it, within what all of them take
 module _ (format : Format) (bodies : List (List ℕ)) (i : ℕ) (body : List ℕ) (at zeros more : ℕ) (few : zeros ≤ 4 + more) (it : Item format bodies i body at) where
   abbrev Writes : List ℕ → List ℕ → Type 0
   Writes a b = Torn (at + (12 - at)) (36 + length body + zeros - (12 - at)) a b
@@ -215,7 +215,7 @@ module _ (format : Format) (bodies : List (List ℕ)) (i : ℕ) (body : List ℕ
       then (Torn 12 (records_bytes format bodies + more)) (torn_then 12 (records_bytes format bodies + more)) l m n s0 s1 s2 m0 m1 m2 so
       (weaker Writes (Torn 12 (records_bytes format bodies + more)) inside m n s1 s2 m1 m2 now)
 
--- the records written so far and one more, with zeros behind it
+-- the records written so far and one more, with zeros after it
 pub seen_step : (format : Format) (bodies : List (List ℕ)) (i : ℕ) (body d : List ℕ) (at zeros : ℕ) (it : Item format bodies i body at)
     (old a b : List ℕ) → 12 ≤ length old → at ≡ length (text format (take i bodies))
     → d ≡ last (start format) (take i bodies) → a ≡ put old 12 (drop 4 (records (start format) (take i bodies)))

@@ -5,7 +5,7 @@ use Rattle.xa_log.specs.Believed.Chain.{record_of}
 use Rattle.xa_log.specs.Believed.Checkpoint.{tailed}
 use Rattle.xa_log.proofs.Records.{length-record_of}
 
--- with so many zeros over what stood behind it
+-- with this many zeros over what stood after it
 pub tail_slice : (prev body buffer cleared : List ℕ) (zeros skip m : ℕ) → take (40 + length body) buffer ≡ record_of prev body ++ 0 ∷ 0 ∷ 0 ∷ 0 ∷ []
     → take (36 + length body + zeros) cleared ≡ take (36 + length body) buffer ++ replicate zeros 0
     → skip + m ≡ 36 + length body + zeros → take m (drop skip cleared) ≡ drop skip (tailed prev body zeros)

@@ -17,7 +17,7 @@ use Rattle.xa_log.proofs.Choosing.{by_both, scan_damaged}
 use Rattle.xa_log.proofs.Records.{format_text, rests_logged}
 use Rattle.xa_log.proofs.Whole.{damaged_headed}
 
--- what stands behind the records that were read stands behind the file's
+-- what stands after the records that were read stands after the file's
 pub behind_read : (first : Bool) (file : List ℕ) (scan : Scan) (n : ℕ) (damage : Damage) → IsScan file scan → n ≡ length scan.bodies.items
     → damage ≡ record { on_first = first; number = n + 1; at = scan.end } → damage ≡ behind_last first file
 behind_read first file scan n damage it is made =

@@ -85,7 +85,7 @@ none_shown format bytes closed =
     let a : nat_eq (size_at bytes) 0 ≡ true = eq-eqb (size_at bytes) 0 closed in
     and_left (shows_first bytes) _ (and_left (not (nat_eq (size_at bytes) 0)) _ (ap (λ (b : Bool). not b) a))
 
--- nor one with a length 0 behind its name
+-- nor one with a length 0 after its name
 pub closed_headed : (file : List ℕ) → size_at (drop 8 file) ≡ 0 → is_headless file ≡ false
 unfolding is_headless
 closed_headed file closed = and_right (has_log file) _ (and_right (not (begins file)) _ (none_shown (format_in file) (take 41 (drop 8 file)) (front_size (drop 8 file) ∙ closed)))
@@ -98,7 +98,7 @@ unfolding is_cut
 uncut One bodies file whole = refl
 uncut Two bodies file whole = whole refl
 
--- behind a length 0 no record is shown, so none is left out
+-- after a length 0 no record is shown, so none is left out
 pub none_left : (format : Format) (bodies : List (List ℕ)) (file : List ℕ) → size_at (behind_text format bodies file) ≡ 0 → left_out format bodies file ≡ []
 none_left format [] file closed = refl
 none_left format (body ∷ bodies) file closed =
@@ -188,7 +188,7 @@ uncut_more format (b ∷ bodies) group file (inl ok) some =
     uncut format (b ∷ (bodies ++ group)) file (λ two. and_right (nat_lt 1 (number_in b)) _ (and_left (is_snapshot (b ∷ (bodies ++ group))) _ (appended_more (b ∷ bodies) group ok some)))
 uncut_more format (b ∷ bodies) group file (inr first) some = absurd (cc first.0)
 
--- and behind a length 0 it doesn't break off
+-- and after a length 0 it doesn't break off
 pub whole_more : (format : Format) (bodies group : List (List ℕ)) (file : List ℕ) → AreAppended bodies group → 1 ≤ length group → size_at (behind_text format (bodies ++ group) file) ≡ 0 → breaks_off format (bodies ++ group) file ≡ false
 unfolding breaks_off
 whole_more format [] [] file kinds some closed = absurd (omega arith)

@@ -17,7 +17,7 @@ use Rattle.xa_log.specs.declared.written.Written.{Written}
 use Rattle.xa_log.proofs.GroupSteps.{ready_same}
 use Rattle.xa_log.proofs.Grouped.{bytes_as_one, length-closed_by, range_moments}
 
--- a buffer of so many bytes holds the records
+-- a buffer of this many bytes holds the records
 pub buffer_holds : {D : Type 0} (log : LogView D) (group : List (List ℕ)) (to : ℕ) → 1 ≤ length group → to ≡ log.end + group_bytes group + 4 → Holds log (as_one group)
     → 1048576 ≤ log.room → to - log.end ≤ log.room
 buffer_holds log group to some is (inl few) wide = omega (arith, is, few, wide, bytes_as_one group some)

@@ -59,7 +59,7 @@ pub none_next : (moment : ℕ) (d : Durable) (o : Option NextBoot) → o ≡ Non
 none_next moment d None e h = isnt_less d.boot MOST_BOOTS h
 none_next moment d (Some n) e h = absurd (cc e)
 
--- a boot that was planned follows the state that was found, which is the one after so many survivors
+-- a boot that was planned follows the state that was found, which is the one after this many survivors
 pub planned_fate : {D : Type 0} (disks : Ghosts D) (m : Manager D) (s : State) (bodies : List (List ℕ)) (planned : Planned) (survivors : ℕ) → ManagerStandsFor disks m s → (f : Found disks bodies m.log s)
     → LogRebuilt bodies (Ok planned.durable.value) → IsNext planned.durable.value m.tables.branches.moment planned.next → planned.boot ≡ planned.durable.value.boot
     → (IsRecoverable s → planned.boot ≡ f.state.logged_boot → survivors ≡ f.many)

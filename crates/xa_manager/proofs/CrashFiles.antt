@@ -59,7 +59,7 @@ first_fits Two boot = record { some = omega (arith, opened boot); small = omega 
 by_first : (format : Format) (r : Record) (rs : List Record) (boot : ℕ) → r ≡ logged.Opened boot → IsBegun format (r ∷ rs)
 by_first format r rs boot is = subst (λ (x : Record). IsBody format (spelled x)) (sym is) (first_fits format boot)
 
--- so do those behind which a state stands
+-- so do those that back a state
 pub backs_begun : (format : Format) (rs : List Record) (s : State) → IsRecoverable s → Backs rs s → IsBegun format rs
 backs_begun format [] s h backs = absurd (omega (arith, boot_of (durable s) backs.lasts, h.loggable.first, h.loggable.boots))
 backs_begun format (r ∷ rs) s h backs = let first = begins_with_boot r rs (durable s) backs.lasts in by_first format r rs first.0 first.1
@@ -107,7 +107,7 @@ files_for : (most : ℕ) (first : Bool) (rs : List Record) (s : State) (current 
     → FilesStandFor most (cond first current other) (cond first other current) s
 files_for most first rs s current other f there settles = record { whole = f.whole; none_missing = there; records = rs; logged = f.logged; settles = settles }
 
--- the records, with the first so many of those that were lost
+-- the records, with the first n of those that were lost
 first_for : (most : ℕ) (first : Bool) (rs : List Record) (s : State) (k : ℕ) (current other : List ℕ) → IsRecoverable s → Backs rs s → k ≤ length s.open_records
     → AreFilesOf most first (map spelled (settled_first k s.open_records rs s)) current other
     → missing_of (cond first current other) (cond first other current) ≡ Neither

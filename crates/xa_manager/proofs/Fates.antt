@@ -1,4 +1,4 @@
--- The states that a read of the log settles: the first so many of the records whose fates were unknown survived.
+-- The states that a read of the log settles: the first n of the records whose fates were unknown survived.
 use Rattle.std.proofs.Common.{◌≡◌, ◌+◌, ℕ, zero, suc, Bool, true, false, cond, List, [], ◌∷◌, length, Option, Some, None, refl, ap, sym, ◌∙◌, subst, arith}
 use Rattle.std.specs.Prelude.{nat_lt, IfSome, option_map, option_and_then, IsSomeAnd}
 use Rattle.xa_codes.specs.declared.direction.Direction.TheVariants as direction

@@ -182,7 +182,7 @@ found_room s bytes prepares len sum more w row found is sums mores room e =
     subst (λ (r : Row). has_room_behind s bytes prepares r len ≡ true) (sym is)
     (room_by s.log_bytes _ _ _ _ (length s.decided) (ap (λ (n : ℕ). s.end + (n + 36)) sums) (ap (λ (n : ℕ). prepared_count s + n) mores) (sym room ∙ e))
 
--- it may have so many bytes with its others
+-- it may have this many bytes with its others
 pub bounded_by : (js : List Joining) (bytes len sum most : ℕ) → sum ≤ most → sum ≡ bytes + len → (js ≡ []) ⊎ (most + 40 ≤ MOST_GROUP) → (js ≡ []) ⊎ (bytes + len + 40 ≤ MOST_GROUP)
 bounded_by js bytes len sum most few is (inl none) = inl none
 bounded_by js bytes len sum most few is (inr short) = inr (omega (arith, few, is, short))

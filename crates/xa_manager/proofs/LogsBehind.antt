@@ -1,4 +1,4 @@
--- The log behind a state, by the state that the log itself is in.
+-- The log that backs a state, by the state that the log itself is in.
 use Rattle.std.proofs.Common.{◌≡◌, ⊎_elim, inl, inr, ℕ, zero, suc, ◌≤◌, true, false, List, [], ◌∷◌, ◌++◌, map, length, take, refl, ap, sym, ◌∙◌, subst, arith}
 use Rattle.std.proofs.lemmas.List.{map-append, length-map, take-map}
 use Rattle.std.specs.List.{AllByRecursion}
@@ -76,7 +76,7 @@ settles_part rs lost s found open_is others part =
 pub still_backed : {D : Type 0} (log log' : LogView D) (s : State) → log'.generation ≡ log.generation → LogBacks log s → LogBacks log' s
 still_backed log log' s same b = record { records = b.records; backs = b.backs; number = same ∙ b.number }
 
--- a state behind which the same records stand
+-- a state that the same records back
 pub backed_alike : {D : Type 0} (log : LogView D) (s t : State) → ((rs : List Record) → Backs rs s → Backs rs t) → LogBacks log s → LogBacks log t
 backed_alike log s t backs b = record { records = b.records; backs = backs b.records b.backs; number = b.number }
 

@@ -1,4 +1,4 @@
--- The log behind a state, once it was read again.
+-- The log that backs a state, once it was read again.
 use Rattle.std.proofs.Common.{◌≡◌, ◌+◌, ℕ, List, [], ◌∷◌, map, length, refl, ap, sym, ◌∙◌, subst, arith}
 use Rattle.std.proofs.lemmas.List.{length-append}
 use Rattle.xa_disk.specs.declared.disk.Disk.{Ghosts}

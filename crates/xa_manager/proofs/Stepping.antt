@@ -113,7 +113,7 @@ module _ {D : Type 0} (disks : Ghosts D) where
   pub log_same : (log : LogView D) (s t : State) → AreOneGroup s.open_records → KeepsLog s t → ((rs : List Record) → Backs rs s → Backs rs t) → LogStandsFor disks log s → LogStandsFor disks log t
   log_same log s t group k backs l = stands_alike disks log s t group k.lasts k.open_records backs l
 
-  -- the log behind the state, after an append of these records
+  -- the log that backs the state, after an append of these records
   pub log_after : (log log' : LogView D) (s t : State) (group : List Record) (a : Appending) → s.open_records ≡ [] → AllByRecursion (λ (r : Record). is_boot r ≡ false) group
       → AllByRecursion (λ (body : List ℕ). is_appended (get_or body 0 0) ≡ true) (map spelled group)
       → HasAppended disks (map spelled group) a log log' → disks.honest

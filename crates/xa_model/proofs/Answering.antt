@@ -103,7 +103,7 @@ module _ (P : Durable → Type 0) (s : State) where
   cond_settles true t u h k = h
   cond_settles false t u h k = k
 
--- so it is of what a crash may leave behind the answer
+-- so it is of what a crash may leave after the answer
 
 abbrev pub IsSettled : (Durable → Type 0) → Answer → Type 0
 IsSettled P a = IsDone a.reply → IsRecoverable a.after → IsFated P a.after

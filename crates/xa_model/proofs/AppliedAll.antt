@@ -129,7 +129,7 @@ pub first_fate : (s : State) (rs : List Record) → Contains (fates_with s rs) (
 first_fate s [] = (0, omega arith, refl)
 first_fate s (r ∷ rs) = (0, omega arith, refl)
 
--- the state with the first so many
+-- the state with the first n
 
 pub record IsFirst (s : State) (k : ℕ) (rs : List Record) (t : State) : Type 0 where
   pub sound : IsSound t

@@ -225,7 +225,7 @@ settles rs s (logged.Base t ws) h k last = absurd last.may
 settles rs s (logged.Held xid t ws) h k last = absurd last.may
 settles rs s (logged.Known xid direction) h k last = absurd last.may
 
--- the first so many of them
+-- the first n of them
 first_backed : (k : ℕ) (lost rs : List Record) (s : State) → LogsOn s → Backs rs s → MayFollow s lost
     → IfSome (with_first k lost s) (Backs (settled_first k lost rs s))
 first_backed zero lost rs s h b follow = b

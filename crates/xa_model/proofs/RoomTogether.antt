@@ -16,7 +16,7 @@ use Rattle.xa_model.specs.Laws.Together.{has_room_for, is_preparing, has_room_af
 use Rattle.xa_model.proofs.Counts.{count_change, count_changed}
 use Rattle.xa_model.proofs.Rooms.{less_room, completed_fewer, forgotten_fewer, prepared_lasting, decided_lasting}
 
--- the state takes no more of a log than this one with so many bytes and prepared branches more
+-- the state takes no more of a log than this one with this many bytes and prepared branches more
 record TakesAtMost (s : State) (bytes more : ℕ) (t : State) : Type 0 where
   log_bytes : t.log_bytes ≡ s.log_bytes
   end : t.end ≤ s.end + bytes

@@ -271,7 +271,7 @@ lasting_room s t bytes end lasts h =
     let decided : length t.decided ≡ length s.decided = sym (decided_lasting t) ∙ ap (λ (d : Durable). length d.decided) lasts ∙ decided_lasting s in
     still_room s t bytes (omega (arith, end, prepared, decided)) h
 
--- A snapshot takes no more of a file than the log behind the state
+-- A snapshot takes no more of a file than the log that backs the state
 
 some_records : (rs : List Record) (s : State) → IsRecoverable s → fold rs ≡ Ok (durable s) → 1 ≤ length rs
 some_records [] s h lasts =

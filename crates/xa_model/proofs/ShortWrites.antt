@@ -1,4 +1,4 @@
--- A branch writes so many keys as a record takes, each write within its limits.
+-- A branch writes this many keys as a record takes, each write within its limits.
 use Rattle.std.proofs.Common.{◌≡◌, ℕ, ◌+◌, ◌≤◌, Bool, true, false, not, ◌&&◌, cond, List, [], ◌∷◌, length, Option, Some, None, refl, ap, sym, subst, ◌∙◌, arith}
 use Rattle.std.specs.Prelude.{suc, bytes_eq, is_some, nat_lt}
 use Rattle.std.specs.Cmp.Lexicographic.{slice_cmp}

@@ -75,7 +75,7 @@ module _ {C : Type 0} (format : Format) (task : Task) (sent left : C → Option 
       ((text ≡ []) × IsRefused question fault c c')
       ⊎ (((text ≡ []) × IsUnanswered question fault c c') ⊎ IsUnprinted question fault text c c')
 
-  -- By the end of a task, after so many questions that are done. Ok: none is left. A fault: the next one failed so, or no
+  -- By the end of a task, after this many questions that are done. Ok: none is left. A fault: the next one failed so, or no
   -- more can be counted.
   abbrev pub TaskEnds : {X : Type 0} → Result X OperateFault → List Asking → ℕ → List ℕ → C → C → Type 0
   TaskEnds (Ok x) agenda n text c c' = (agenda ≡ []) × (text ≡ []) × (c' ≡ c)

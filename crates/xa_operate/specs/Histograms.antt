@@ -1,4 +1,4 @@
--- How many of what was measured were at most so long, or so many, as Prometheus reads it.
+-- How many of what was measured were at most this long, or this many, as Prometheus reads it.
 use Rattle.std.specs.Fmt.{decimal}
 use Rattle.std.specs.Prelude.{ℕ, zero, suc, min, ◌+◌, ◌-◌, ◌/◌, ◌%◌, ◌^◌, nat_lt, List, [], ◌∷◌, ◌++◌, codes, if◌then◌else◌}
 use Rattle.xa_operate.specs.Families.{labelled}

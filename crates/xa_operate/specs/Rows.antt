@@ -43,7 +43,7 @@ pub record CountedSo : Type 0 where
   pub seconds : number_text Syncs 16777216 ≡ codes "16.777216"
   pub microseconds : number_text Syncs 64 ≡ codes "0.000064"
 
--- a branch at work with so many active and suspended associations
+-- a branch at work with this many active and suspended associations
 abbrev pub working : ℕ → ℕ → KnownBranch
 working active suspended =
     record {

@@ -1,4 +1,4 @@
-//! How many of what was measured were at most so long, or so many, as Prometheus reads it.
+//! How many of what was measured were at most this long, or this many, as Prometheus reads it.
 ghost use Rattle.std.specs.Fmt.{decimal};
 ghost use Rattle.std.specs.Prelude.{◌≡◌, ◌<◌, ◌+◌, ◌/◌, ◌%◌, ◌^◌, ◌++◌, IfOk, OnOk};
 ghost use Rattle.xa_operate.specs.Histograms.{all, bucket_line, bucket_lines, buckets, digit, first_id, histogram_heading};

@@ -36,7 +36,7 @@ left_over (Err e) text left old new taken none erred h =
       | inr again ↦ subst (λ (o : Option (List ℕ)). LeftOf text o old new) (sym again) ([], refl, keeps_appends old new h)
     ]
 
--- a part of a text is written, and the rest stands behind it
+-- a part of a text is written, and the rest stands after it
 abbrev pub Written : List ℕ → List ℕ → Option (List ℕ) → Option (List ℕ) → Type 0
 Written text rest old new = (part : List ℕ) × (text ≡ part ++ rest) × Appends old new part
 

@@ -93,7 +93,7 @@ OpenedOn name log_bytes first second m =
     → (survived : ℕ)
     × IsSomeAnd (step t (Reopened name log_bytes) (Reread survived (Some Kept))) (λ a. StandsFor m a.after)
 
--- The two disks after a crash. Of the file that the line names, so many bytes stay of those that were written since its
+-- The two disks after a crash. Of the file that the line names, this many bytes stay of those that were written since its
 -- last sync; of the other one none.
 abbrev pub CrashesTo : LogFile → ℕ → LogView MemDisk → MemDisk × MemDisk → Type 0
 CrashesTo Current keeps log disks = CrashesBoth keeps 0 log disks

@@ -48,7 +48,7 @@ Shows run asked text Then =
     × MatchBool (is_memory reply.detail) ((may_want_memory asked ≡ true) × (reply ≡ wanted_memory asked) × Then run)
     ((outcome : Outcome) × Steps run (Asked asked) outcome reply Then)
 
--- how the manager is doing, with so many versions and events so far, as it is told to a session that is connected
+-- how the manager is doing, with this many versions and events so far, as it is told to a session that is connected
 abbrev pub told_status : State → ℕ → ℕ → ℕ → Reply
 told_status s n versions calls =
     if is_some (opened_of s n) then doing (status_behind s versions calls) else plain XAER_PROTO
@@ -69,7 +69,7 @@ IsOpening _ = ⊥
 
 -- over the settings
 module _ (name : List ℕ) (log_bytes : ℕ) where
-  -- The state is opened again: the first so many of the records whose fates were unknown are found there, and a new
+  -- The state is opened again: the first n of the records whose fates were unknown are found there, and a new
   -- boot is logged.
   abbrev pub Reopens : Run → (Run → Type 0) → Type 0
   Reopens run Then =

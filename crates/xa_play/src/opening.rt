@@ -65,7 +65,7 @@ pub fn reopen(
     open_on(alloc, first, second, settings)
 }
 
-/// The manager is opened again, on what a crash leaves of its disks that keeps so many bytes of the log's file that is
+/// The manager is opened again, on what a crash leaves of its disks that keeps this many bytes of the log's file that is
 /// named.
 pub fn crash(
     alloc: Global,

@@ -93,7 +93,7 @@ fn play_lines<W: Write, T: Teller>(
     Ok(())
 }
 
-// Counts the line, of which so many stand before it, if it is an event.
+// Counts the line, of which this many stand before it, if it is an event.
 fn play_line<W: Write, T: Teller>(
     alloc: Global,
     manager: Manager<MemDisk>,

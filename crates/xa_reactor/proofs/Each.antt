@@ -4,7 +4,7 @@ use Rattle.std.specs.Prelude.{All}
 use Rattle.std.specs.List.{AllZip}
 use Rattle.std.proofs.lemmas.List.Elements.{All-head, All-tail}
 
--- the first so many items were changed, and the rest are as they were
+-- the first n items were changed, and the rest are as they were
 abbrev pub Partway : {A : Type 0} → (A → A → Type 0) → ℕ → List A → List A → Type 0
 Partway change zero xs ys = xs ≡ ys
 Partway change (suc i) [] ys = ⊥

@@ -25,7 +25,7 @@ kept_twice a b c xs ys zs one two = record {
   are = two.are ∙ ap (λ l. l ++ two.later) one.are ∙ append_assoc xs one.later two.later;
 }
 
--- so many were kept, or had a turn more
+-- this many were kept, or had a turn more
 pub kept_count : (a b : Peers) (xs ys : List (ℕ × Step)) (kept : HasKept a xs b ys) (n : ℕ)
     → length ys + deque_len b.queue ≡ length xs + deque_len a.queue + n → length kept.keys + length kept.later ≡ n
 kept_count a b xs ys kept n is = omega (arith, is, kept.many, ap length kept.are, length-append xs kept.later)

@@ -45,7 +45,7 @@ is_operators has_path Elsewhere = false
 abbrev pub most_open : Bool → Origin → ℕ
 most_open has_path origin = if is_operators has_path origin then MOST_OPEN else MOST_OPEN - KEPT_OPEN
 
--- one more is admitted while so many are open
+-- one more is admitted while this many are open
 abbrev pub may_admit : Bool → Origin → ℕ → Bool
 may_admit has_path origin count = nat_lt count (most_open has_path origin)
 

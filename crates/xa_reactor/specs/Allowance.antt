@@ -22,7 +22,7 @@ without_line a = (None, record a { left_out = min (a.left_out + 1) (2 ^ 64 - 1) 
 abbrev pub taken : Allowance → ℕ → Option ℕ × Allowance
 taken a now = if has_line a now then with_line a now else without_line a
 
--- what is left behind an order, if there was one
+-- what is left after an order, if there was one
 abbrev pub after_noted : Option Noted → ℕ → Allowance → Allowance
 after_noted None now a = a
 after_noted (Some noted) now a = (taken a now).1

@@ -15,7 +15,7 @@ use Rattle.xa_reactor.specs.declared.peer.Step.TheVariants.{Waits, Goes, Ends, S
 use Rattle.xa_reactor.specs.declared.peers.Peers.{Peers}
 use Rattle.xa_reactor.specs.declared.socket.Socket.{Socket}
 
--- so many turns more
+-- this many turns more
 abbrev pub HasRoom : Peers → ℕ → Type 0
 HasRoom peers turns = deque_len peers.queue + turns ≤ deque_capacity peers.queue
 

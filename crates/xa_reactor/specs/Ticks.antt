@@ -14,7 +14,7 @@ use Rattle.xa_reactor.specs.Aside.{HasVisited}
 abbrev pub new_ticks : Ticks
 new_ticks = record { told = None; is_refused = false }
 
--- by the last one that was taken: none was, or so many seconds have passed, or the clock went back
+-- by the last one that was taken: none was, or this many seconds have passed, or the clock went back
 abbrev pub is_due_behind : Option ℕ → ℕ → ℕ → Bool
 is_due_behind None moment seconds = true
 is_due_behind (Some told) moment seconds = nat_lt moment told || nat_le seconds (moment - told)
@@ -34,7 +34,7 @@ after_visit ticks moment (Done marked) = after_tick moment
 after_visit ticks moment (Refused reason) = refused_by ticks
 after_visit ticks moment Down = ticks
 
--- so many seconds later, by a loop's clock, in milliseconds; not 0, which is the first time
+-- this many seconds later, by a loop's clock, in milliseconds; not 0, which is the first time
 abbrev pub next_tick : ℕ → ℕ → ℕ
 next_tick now seconds = max (min (now + min (seconds * 1000) (2 ^ 64 - 1)) (2 ^ 64 - 1)) 1
 

@@ -17,7 +17,7 @@ use Rattle.xa_reactor.specs.declared.peer.Step.TheVariants.{Waits, Goes, Ends, S
 abbrev pub HasFed : Connection → Connection → Type 0
 HasFed c c' = (c' ≡ c) ⊎ ((bytes : List ℕ) × (count : ℕ) × Feeds c bytes count c')
 
--- so many bytes were sent of what was to be sent, or none
+-- this many bytes were sent of what was to be sent, or none
 abbrev pub HasSent : Connection → Connection → Type 0
 HasSent c c' = (c' ≡ c) ⊎ ((count : ℕ) × (c' ≡ record c { output = drop count c.output }))
 

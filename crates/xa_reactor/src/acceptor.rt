@@ -41,7 +41,7 @@ pub(crate) struct Acceptor {
 }
 
 impl Acceptor {
-    /// Of so many connections, 0 for any number.
+    /// Of this many connections, 0 for any number.
     pub(crate) fn new(listener: Listener, connections: u64) -> Acceptor
         ensures { result ≡ new_acceptor listener connections }
     {
@@ -86,7 +86,7 @@ impl Acceptor {
         self.waits
     }
 
-    /// Accepts what waits, so many at most.
+    /// Accepts what waits, this many at most.
     pub(crate) fn accept_all<R: Wait>(&mut self, rt: &R, common: &Common<'_>, now: u64)
         ensures most { self.new.most ≡ self.old.most }
         ensures few { self.old.accepted ≤ self.old.most → self.new.accepted ≤ self.new.most }

@@ -63,14 +63,14 @@ pub(crate) fn most_open(has_path: bool, origin: Origin) -> u64
     }
 }
 
-/// Whether a connection from there is admitted, while so many are open.
+/// Whether a connection from there is admitted, while this many are open.
 pub(crate) fn may_admit(has_path: bool, origin: Origin, count: u64) -> bool
     ensures { result ≡ may_admit has_path origin count }
 {
     count < most_open(has_path, origin)
 }
 
-/// Whether a connection from there is taken up, while so many are open, and so many of these haven't logged in.
+/// Whether a connection from there is taken up, while this many are open, and this many of these haven't logged in.
 pub(crate) fn admission_of(
     has_path: bool,
     has_users: bool,

@@ -254,7 +254,7 @@ impl<'a> Common<'a> {
         }
     }
 
-    /// A loop has looked at so many. Others wait for that.
+    /// A loop has looked at this many. Others wait for that.
     pub(crate) fn look(&self, index: usize, count: u64) {
         if let Some(mailbox) = self.boxes.get(index) {
             mailbox.look(count);

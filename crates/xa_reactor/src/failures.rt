@@ -45,7 +45,7 @@ impl Failures {
     }
 }
 
-// For how many milliseconds the answer to a failure waits, of which there were so many: an eighth of a second at first, each
+// For how many milliseconds the answer to a failure waits, of which there were this many: an eighth of a second at first, each
 // time twice as long, and 8 seconds at most.
 fn pause_of(count: u32) -> u64
     ensures { result ≡ pause_of count }

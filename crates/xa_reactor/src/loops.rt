@@ -79,7 +79,7 @@ pub struct Ended<D> {
 /// Serves the connections of a listener by a loop for each door, each in a thread of its own, or not at all where no
 /// thread can be made. Once each has what it waits by, `ready` is printed, twice where the listener is a port's and a Unix
 /// socket's. Then the first one that begins accepts, and hands connections to those that have begun, in turn. They
-/// end after so many connections, when the manager is down, or when one of them can't wait for events; if none of these
+/// end after this many connections, when the manager is down, or when one of them can't wait for events; if none of these
 /// is asked or comes, never.
 ///
 /// If there are users, a connection is answered only what the role may ask that it has shown by logging in as one of them;

@@ -139,7 +139,7 @@ impl Peers {
         }
     }
 
-    /// Makes room for so many turns more. Whether there was memory for it.
+    /// Makes room for this many turns more. Whether there was memory for it.
     pub(crate) fn reserve(&mut self, turns: usize) -> bool
         ensures same { (self.new.all ≡ self.old.all) × (turns_of self.new ≡ turns_of self.old) × (self.new.orders ≡ self.old.orders) }
         ensures room { IsTrue result → HasRoom self.new turns }

@@ -74,7 +74,7 @@ pub trait Reception: Door {
     /// After how many groups of requests of all doors a request has its reply that is posted now. A hint.
     fn due(&self) -> u64;
 
-    /// Whether so many groups were answered. A hint.
+    /// Whether this many groups were answered. A hint.
     fn is_due(&self, groups: u64) -> bool;
 
     /// Whether a session has an association of its own with a branch: it is at work for it, or has suspended that.

@@ -48,7 +48,7 @@ pub(crate) fn keep_time<D: Reception, R: AllocGlobal + Clock + Eprint + Wait>(
     now.saturating_add(seconds.saturating_mul(1_000)).max(1)
 }
 
-// Tells the manager the moment that the system's clock says, unless it was told less than so many seconds ago.
+// Tells the manager the moment that the system's clock says, unless it was told less than this many seconds ago.
 fn tell<D: Reception, R: AllocGlobal + Clock + Eprint>(
     rt: &R,
     door: &mut D,

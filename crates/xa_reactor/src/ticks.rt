@@ -22,7 +22,7 @@ impl Ticks {
         }
     }
 
-    /// Whether this moment is to be told: so many seconds have passed, or the clock went back.
+    /// Whether this moment is to be told: this many seconds have passed, or the clock went back.
     pub(crate) fn is_due(&self, moment: u64, seconds: u64) -> bool
         ensures { result ≡ is_due self.now moment seconds }
     {

@@ -14,7 +14,7 @@ pub(crate) const PAUSE: u64 = 100;
 /// How long it is from one look for connections that are overdue to the next.
 pub(crate) const LOOK: u64 = 1_000;
 
-/// How often a loop with so many connections looks: the more they are, the sooner one of them wakes it, and the more others
+/// How often a loop with this many connections looks: the more they are, the sooner one of them wakes it, and the more others
 /// want the processor.
 pub(crate) fn looks_of(connections: usize) -> usize
     ensures { result ≡ looks_of connections }
@@ -29,7 +29,7 @@ pub(crate) fn gather_wait(looks: u32) -> Duration
     Duration::from_millis(u64::from(looks >= QUICK_GATHERS))
 }
 
-/// Whether a connection is overdue: it brought a part of a frame, and for so many seconds, if there is such a limit, no
+/// Whether a connection is overdue: it brought a part of a frame, and for this many seconds, if there is such a limit, no
 /// byte more.
 pub(crate) fn is_overdue(is_inside: bool, quiet: u64, seconds: u64) -> bool
     ensures { result ≡ is_overdue is_inside quiet seconds }
@@ -37,7 +37,7 @@ pub(crate) fn is_overdue(is_inside: bool, quiet: u64, seconds: u64) -> bool
     is_inside && is_too_quiet(quiet, seconds)
 }
 
-/// Whether a connection was quiet for so many seconds, if there is such a limit. For how long it was is in milliseconds.
+/// Whether a connection was quiet for this many seconds, if there is such a limit. For how long it was is in milliseconds.
 pub(crate) fn is_too_quiet(quiet: u64, seconds: u64) -> bool
     ensures { result ≡ is_too_quiet quiet seconds }
 {

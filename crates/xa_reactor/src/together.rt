@@ -47,7 +47,7 @@ impl Together {
         }
     }
 
-    /// Begins a round with room for so many turns. Whether there was memory for it.
+    /// Begins a round with room for this many turns. Whether there was memory for it.
     pub(crate) fn begin(&mut self, turns: usize) -> bool
         ensures lent { (table : Table) → HasLent table self.new }
         ensures none { turns_in self.new ≡ 0 }
@@ -59,7 +59,7 @@ impl Together {
         self.reserve(turns)
     }
 
-    // Makes room for so many turns more, and for what comes after all of them. Whether there was memory for it.
+    // Makes room for this many turns more, and for what comes after all of them. Whether there was memory for it.
     fn reserve(&mut self, turns: usize) -> bool
         ensures lent { (table : Table) → HasLent table self.old → HasLent table self.new }
         ensures turns { turns_in self.new ≡ turns_in self.old }

@@ -41,7 +41,7 @@ impl Tools {
     }
 }
 
-/// The turns of so many that have one, one by one.
+/// The turns of this many that have one, one by one.
 pub(crate) fn give_each<D: Reception, R: AllocGlobal + Clock + Eprint + Wait>(
     rt: &R,
     common: &Common<'_>,

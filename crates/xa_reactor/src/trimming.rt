@@ -89,7 +89,7 @@ pub(crate) fn trim_last<D: Reception, R: AllocGlobal + Clock + Eprint + Wait>(
     }
 }
 
-// Whether to ask for the log's end, so many calls after it was asked for.
+// Whether to ask for the log's end, this many calls after it was asked for.
 fn is_to_look<D: Reception>(door: &D, calls: u64) -> bool
     ensures seldom { IsTrue result → 4 ≤ calls }
     ensures often { 16 ≤ calls → result ≡ true }

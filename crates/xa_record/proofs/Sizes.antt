@@ -32,7 +32,7 @@ forgotten x h = omega (arith, name_short x h)
 pub known : (x : Triple) (d : Direction) → IsWithinLimits x → length (spelled (Known x d)) ≤ MOST_SMALL
 known x d h = omega (arith, name_short x h, length-append (bytes_of x) (direction_bytes d))
 
--- what is left at a key, in bytes, at most; and a write, its key behind a length of 1
+-- what is left at a key, in bytes, at most; and a write, its key after a length of 1
 abbrev most_left : ℕ
 most_left = 3 + MOST_VALUE
 

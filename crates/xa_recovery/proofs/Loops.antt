@@ -18,7 +18,7 @@ pub one_body : {E B : Type 0} (f : E → B) (done more : List B) (b : B) (e : E)
 one_body f done more b e rest left whole is same put h =
     ap (λ bs. bs ++ map f rest) put ∙ (joined done (b ∷ []) (map f rest) ∙ (ap (λ c. done ++ c ∷ map f rest) same ∙ (sym (ap (λ es. done ++ map f es) is) ∙ h)))
 
--- once none is left, all stand behind the others
+-- once none is left, all stand after the others
 pub all_bodies : {E B : Type 0} (f : E → B) (done whole : List B) (left : List E) → left ≡ [] → done ++ map f left ≡ whole → done ≡ whole
 all_bodies f done whole left none h = sym (append_none done) ∙ (sym (ap (λ es. done ++ map f es) none) ∙ h)
 

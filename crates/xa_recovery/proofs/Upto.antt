@@ -19,7 +19,7 @@ use Rattle.xa_recovery.specs.Last.{Notes, has_key}
 use Rattle.xa_recovery.proofs.Entries.{front}
 use Rattle.xa_recovery.proofs.Standing.{all_of}
 
--- Of all branches these are left; `written` has the keys of those behind them, and `last` their last writes.
+-- Of all branches these are left; `written` has the keys of those after them, and `last` their last writes.
 pub record Upto (all : List CommittedBranch) (rest : List (ℕ × List Write)) (written : BTreeSet (List ℕ)) (last : List (ℕ × List Write)) : Type 0 where
   pub later : List CommittedBranch
   pub split : all ≡ map as_committed rest ++ later

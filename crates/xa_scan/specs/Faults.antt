@@ -9,7 +9,7 @@ abbrev pub fault_of : OpenFault → ScanFault
 fault_of preamble.Memory = Memory
 fault_of fault = Log fault
 
--- what is told of a log of so many bodies and this end, by whether it is damaged
+-- what is told of a log of this many bodies and this end, by whether it is damaged
 abbrev pub damage_behind : Bool → ℕ → ℕ → Option ScanFault
 damage_behind true count end = Some (Damaged (count + 1) end)
 damage_behind false count end = None

@@ -30,7 +30,7 @@ abbrev pub write_object : Write → List ℕ
 write_object write =
     codes "{\"key\":" ++ quoted (hex write.key) ++ codes ",\"value\":" ++ value_object write.value ++ 125 ∷ []
 
--- the writes that are left, each behind a comma
+-- the writes that are left, each after a comma
 abbrev pub more_objects : List Write → List ℕ
 more_objects writes = flat_map (λ write. 44 ∷ write_object write) writes
 

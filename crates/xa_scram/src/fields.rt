@@ -15,7 +15,7 @@ pub(crate) type Message = ArrayVec<u8, MOST_MESSAGE>;
 /// The most bytes that are spelled in Base64.
 pub(crate) const MOST_DATA: usize = 33;
 
-/// The characters of so many bytes.
+/// The characters of this many bytes.
 pub(crate) const MOST_CHARACTERS: usize = 44;
 
 /// Appends the Base64 of the bytes.

@@ -53,7 +53,7 @@ is_graphic word = list_all (λ c. nat_le 33 c && nat_le c 126) word
 abbrev pub is_name : List ℕ → Bool
 is_name word = nat_le 1 (length word) && nat_le (length word) MOST_INFO && is_graphic word
 
--- so many bytes at the least, and at the most
+-- this many bytes at the least, and at the most
 abbrev pub between : ℕ → ℕ → List ℕ → Option (List ℕ)
 between least most bytes = if nat_le least (length bytes) && nat_le (length bytes) most then Some bytes else None
 

@@ -4,7 +4,7 @@ use Rattle.xa_frame.specs.declared.reply.Reply.{Reply}
 use Rattle.xa_history.specs.Believed.Book.{placed}
 use Rattle.xa_sequencer.specs.Believed.Together.{placed_from}
 
--- the first so many have theirs, and the rest are as they were
+-- the first n have theirs, and the rest are as they were
 abbrev pub PlacedTo : ℕ → ℕ → List (ℕ × Reply) → List (ℕ × Reply) → Type 0
 PlacedTo k zero xs ys = ys ≡ xs
 PlacedTo k (suc i) [] ys = ⊥

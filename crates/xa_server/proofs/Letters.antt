@@ -23,7 +23,7 @@ use Rattle.xa_tokens.specs.declared.receipt.Receipt.{Receipt}
 abbrev OwesOne : Account → Type 0
 OwesOne a = (n : ℕ) × Owes a (n + 1)
 
--- it owes so many, or none
+-- it owes this many, or none
 abbrev pub OwesSome : Account → Type 0
 OwesSome a = (n : ℕ) × Owes a n
 

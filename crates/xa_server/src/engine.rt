@@ -42,7 +42,7 @@ pub struct Looped {
     pub settings: Settings,
 }
 
-/// Serves the sessions of a manager by so many event loops, 1 to `MOST_LOOPS`, each in a thread of its own; it prints `ready`
+/// Serves the sessions of a manager by this many event loops, 1 to `MOST_LOOPS`, each in a thread of its own; it prints `ready`
 /// before, and ends when the loops do.
 ///
 /// If there are users, a connection is answered only what the role may ask that it has shown by logging in as one of them.
@@ -79,7 +79,7 @@ pub fn loop_manager<
     Ok(told)
 }
 
-/// The same by so many loops, from the states that `S` picks, with the history that `B` names. Gives back the manager, and what
+/// The same by this many loops, from the states that `S` picks, with the history that `B` names. Gives back the manager, and what
 /// the loops kept.
 pub(crate) fn loop_by<
     M: Manages + Send + Drop,

@@ -37,7 +37,7 @@ pub struct Worked {
     pub history: Vec<Receipt>,
 }
 
-/// Serves as [`crate::loop_manager`] does, by so many loops, 1 to `MOST_LOOPS`, with a receipt of each event: the manager's, in a
+/// Serves as [`crate::loop_manager`] does, by this many loops, 1 to `MOST_LOOPS`, with a receipt of each event: the manager's, in a
 /// room, and the loops', of what they were told. At the end the audit compares them. Each call passes the gate.
 pub fn run_workers<
     M: Manages + Send + Drop,

@@ -3,7 +3,7 @@ use Rattle.std.proofs.Common.{◌≡◌, ℕ, ◌+◌, true, false, List, [], �
 use Rattle.std.specs.Prelude.{is_none}
 use Rattle.xa_talk.specs.Numbers.{free_index}
 
--- so many indices were looked at, and none was free
+-- this many indices were looked at, and none was free
 pub record Counted {C : Type 0} (all rest : List (Option C)) (free : ℕ) : Type 0 where
   pub same : free_index all ≡ free + free_index rest
   pub whole : length all ≡ free + length rest

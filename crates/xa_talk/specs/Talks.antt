@@ -138,7 +138,7 @@ module _ {C : Type 0} (manner : Manner) (sent left : C → Option (List ℕ)) wh
       ⊎ ((line : List ℕ) × (numbered' : List (Option C)) × ReadsLine input line input'
       × LineTalked {X = Unit {0}} manner sent left (strip_last 10 line) (Err fault) text numbered numbered')
 
-  -- A script is talked, from no connections on: so many lines to their ends, and then the next one as the end says.
+  -- A script is talked, from no connections on: this many lines to their ends, and then the next one as the end says.
   -- What is written is the text of each, in their order.
   pub record Talks {X : Type 0} (end : Result X TalkFault) (input input' output output' : Option (List ℕ))
       : Type 0 where

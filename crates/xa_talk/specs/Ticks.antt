@@ -57,18 +57,18 @@ module _ {T C : Type 0} (gives : T → Option ℕ → T → Type 0) (tells : T �
   TickEnds last (Err Clock) ticker ticker' c c' = gives ticker None ticker' × (c' ≡ c)
   TickEnds last (Err (Talk fault)) ticker ticker' c c' = IsUnanswered (Err fault) ticker ticker' c c'
 
-  -- so many ticks, one after the other, by their replies: each was answered before the next one was given
+  -- this many ticks, one after the other, by their replies: each was answered before the next one was given
   abbrev pub AreTicks : Reply → List Reply → Reply → T → T → C → C → Type 0
   AreTicks first [] last ticker ticker' c c' = (last ≡ first) × (ticker' ≡ ticker) × (c' ≡ c)
   AreTicks first (reply ∷ replies) last ticker ticker' c c' =
       (next : T) × (over : C) × IsTick first reply ticker next c over × AreTicks reply replies last next ticker' over c'
 
-  -- by the end of all, what became of the tick after so many: Ok, since there were 2^64 - 1
+  -- by the end of all, what became of the tick after this many: Ok, since there were 2^64 - 1
   abbrev pub NextEnds : {X : Type 0} → Reply → ℕ → Result X TickFault → T → T → C → C → Type 0
   NextEnds last n (Ok x) ticker ticker' c c' = (n ≡ 2 ^ 64 - 1) × (ticker' ≡ ticker) × (c' ≡ c)
   NextEnds last n (Err fault) ticker ticker' c c' = TickEnds last (Err fault) ticker ticker' c c'
 
-  -- so many ticks over a connection, and the one that was the last
+  -- this many ticks over a connection, and the one that was the last
   pub record TickedOver {X : Type 0} (end : Result X TickFault) (ticker ticker' : T) : Type 0 where
     pub replies : List Reply
     pub last : Reply

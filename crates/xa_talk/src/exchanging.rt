@@ -188,7 +188,7 @@ fn read_length<R: Read>(reader: &mut R) -> Result<Option<u32>, TalkFault>
     }
 }
 
-/// Reads so many bytes, the content of a frame.
+/// Reads this many bytes, the content of a frame.
 fn read_bytes<R: Read>(alloc: Global, reader: &mut R, count: u32) -> Result<Vec<u8>, TalkFault>
     ensures { MatchResult result
         (λ content. (length content.items ≡ count)

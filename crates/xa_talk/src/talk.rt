@@ -77,7 +77,7 @@ pub fn read_next<I: BufRead>(input: &mut I, line: &mut Vec<u8>) -> Result<bool, 
     }
 }
 
-/// Answers one line, of which so many stand before it: its reply is written and flushed.
+/// Answers one line, of which this many stand before it: its reply is written and flushed.
 fn talk_line<O: Write, R: Read + Drop, W: Write + Drop, D: Dial<R, W>, T: Teller>(
     alloc: Global,
     dial: &mut D,

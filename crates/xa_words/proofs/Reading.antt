@@ -16,7 +16,7 @@ use Rattle.clap.proofs.WalkLemmas.{find_row, first_value-rows, one_text-rows}
 use Rattle.xa_words.specs.Given.{source_in}
 use Rattle.xa_words.specs.Asks.{IsSet, most_16, most_64, number_in, number_or, text_in}
 
--- a type of so many bits, whose greatest number is `most`
+-- a type of this many bits, whose greatest number is `most`
 pub record Holds (bits most : ℕ) : Type 0 where
   pub within : (n : ℕ) → n < 2 ^ bits → n ≤ most
   pub beyond : (n : ℕ) → n ≤ most → n < 2 ^ bits

@@ -244,7 +244,7 @@ pub fn frame_seconds<'a>(alloc: Global) -> Arg<'a>
         .long("frame-seconds")
         .value_name("S")
         .help(
-            "Closes a connection that has stopped inside a frame for so many seconds: 0 (never) to 3600",
+            "Closes a connection that has stopped inside a frame for S seconds: 0 (never) to 3600",
         )
         .value_parser(ValueParser::unsigned(0, MOST_FRAME_SECONDS))
         .action(ArgAction::Set)
@@ -258,7 +258,7 @@ pub fn idle_seconds<'a>(alloc: Global) -> Arg<'a>
         .long("idle-seconds")
         .value_name("S")
         .help(
-            "Closes a connection that has been quiet for so many seconds, unless its session has an active or suspended association with a branch that isn't marked: 0 (never) to 86400",
+            "Closes a connection that has been quiet for S seconds, unless its session has an active or suspended association with a branch that isn't marked: 0 (never) to 86400",
         )
         .value_parser(ValueParser::unsigned(0, MOST_IDLE_SECONDS))
         .action(ArgAction::Set)
@@ -272,7 +272,7 @@ pub fn branch_seconds<'a>(alloc: Global) -> Arg<'a>
         .long("branch-seconds")
         .value_name("S")
         .help(
-            "Closes a connection that has been quiet for so many seconds, if its session has an active or suspended association: 0 (never) to 86400",
+            "Closes a connection that has been quiet for S seconds, if its session has an active or suspended association: 0 (never) to 86400",
         )
         .value_parser(ValueParser::unsigned(0, MOST_IDLE_SECONDS))
         .action(ArgAction::Set)
@@ -286,7 +286,7 @@ pub fn trim<'a>(alloc: Global) -> Arg<'a>
         .long("trim")
         .value_name("BYTES")
         .help(
-            "Trims the log when it ends above so many bytes: 0 (never) to 1073741824. If that is above half of --log-bytes, a quarter of --log-bytes is used",
+            "Trims the log when it ends above this many bytes: 0 (never) to 1073741824. If that is above half of --log-bytes, a quarter of --log-bytes is used",
         )
         .value_parser(ValueParser::unsigned(0, MOST_LOG))
         .action(ArgAction::Set)
@@ -300,7 +300,7 @@ pub fn tick<'a>(alloc: Global) -> Arg<'a>
         .long("tick")
         .value_name("S")
         .help(
-            "Tells the resource manager the time every so many seconds, for time limits: 0 (never; run xarm tick) to 3600",
+            "Tells the resource manager the time every S seconds, for time limits: 0 (never; run xarm tick) to 3600",
         )
         .value_parser(ValueParser::unsigned(0, MOST_EVERY))
         .action(ArgAction::Set)

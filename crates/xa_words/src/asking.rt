@@ -43,7 +43,7 @@ pub(crate) fn talked<
     ended_at(rt, &end, &server)
 }
 
-/// That of ticks, so many seconds from one to the next.
+/// That of ticks, this many seconds from one to the next.
 pub(crate) fn ticked<
     R: AllocGlobal + Clock + Eprint + Env + Files + Net<Stream = TcpStream> + RandomSource,
 >(rt: &R, server: Server<'_, '_, R>, every: u64) -> ExitCode

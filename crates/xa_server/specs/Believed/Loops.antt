@@ -72,7 +72,7 @@ told_by (a ∷ rest) = a.told ++ told_by rest
 abbrev pub IsFresh : Account → Type 0
 IsFresh a = (a.asked ≡ []) × (a.told ≡ []) × (a.given_up ≡ [])
 
--- so many loops, which had asked nothing when they began
+-- this many loops, which had asked nothing when they began
 pub record RunsLoops {M : Type 0} (m : Behaviour M) (start : State → Type 0) (base : ℕ × ℕ) (users : Option Users) (loops : ℕ)
     (ended : List Account) : Type 0 where
   pub begun : List Account

@@ -7,7 +7,7 @@ use Rattle.xa_history.specs.declared.entry.Entry.{Entry}
 use Rattle.xa_history.specs.Believed.Manages.{Behaviour}
 use Rattle.xa_history.specs.Believed.Book.{HasNoRestart, plain_entries}
 
--- A manager stood for an opening state. What was served of it, so many entries, is a legal history of that state; the
+-- A manager stood for an opening state. What was served of it, this many entries, is a legal history of that state; the
 -- committed branches after it are one copy, and it lists what was prepared in it and nothing that was completed.
 pub record KeepsServed {M : Type 0} (m : Behaviour M) (manager : M) (calls : ℕ) : Type 0 where
   pub first : State

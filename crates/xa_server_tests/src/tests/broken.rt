@@ -92,7 +92,7 @@ const WHOLE: Connection = Connection {
     left: 0,
 };
 
-/// Three opens, and their replies after the connect, each of so many bytes.
+/// Three opens, and their replies after the connect, each of this many bytes.
 const FRAMES: usize = 3;
 
 const REPLY: usize = 19;

@@ -36,7 +36,7 @@ pub trait Visit {
     /// What one does. Whether it was answered as it is to be.
     fn visit<D: Asks>(&self, alloc: Global, caller: &mut D) -> bool;
 
-    /// Whether these receipts of the room, with so many lost, and those of all callers are as they are to be.
+    /// Whether these receipts of the room, with this many lost, and those of all callers are as they are to be.
     fn judge(&self, alloc: Global, kept: &[Receipt], lost: u64, told: Vec<Receipt>) -> bool;
 }
 
@@ -203,7 +203,7 @@ fn visited_by<
     Some(told.is_whole && visit.judge(alloc, room.receipts(), room.lost(), told.receipts))
 }
 
-/// Whether so many callers at once, at most eight, are answered as they are to be, and what a new room over a new manager keeps
+/// Whether this many callers at once, at most eight, are answered as they are to be, and what a new room over a new manager keeps
 /// of that is as it is to be.
 pub fn is_visited<V: Visit + Sync, R: AllocGlobal + Clock + Threads + Wait + Sync>(
     rt: &R,

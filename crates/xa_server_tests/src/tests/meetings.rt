@@ -128,7 +128,7 @@ fn are_answered(alloc: Global, done: &Worked, session: u64, replies: &[u8]) -> b
     }
 }
 
-// Whether an audit found no fault in so many receipts.
+// Whether an audit found no fault in this many receipts.
 fn is_sound(done: &Worked, events: usize) -> bool {
     done.looped.is_whole
         && done.audited.is_whole
@@ -136,7 +136,7 @@ fn is_sound(done: &Worked, events: usize) -> bool {
         && done.report.receipts.len() == events
 }
 
-// What so many loops tell of as many connections, and what their clients got.
+// What this many loops tell of as many connections, and what their clients got.
 fn worked<
     T: Drop,
     F: FnOnce(SocketAddr) -> T + Drop,

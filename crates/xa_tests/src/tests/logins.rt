@@ -79,7 +79,7 @@ struct Login {
     sent: Vec<u8>,
 }
 
-/// The server gives these bytes, and takes so many.
+/// The server gives these bytes, and takes this many.
 fn ended(alloc: Global, answers: &[u8], room: usize, fails: bool) -> Option<Login> {
     let name = Name::new(b"user")?;
     let nonce = Nonce::new(b"rOprNGfwEbeRWgbNEkqO")?;

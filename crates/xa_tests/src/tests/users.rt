@@ -199,7 +199,7 @@ fn wrong_fault(alloc: Global, rows: &[Faulty]) -> Option<usize> {
     )
 }
 
-/// A document with so many tables.
+/// A document with this many tables.
 fn tables(alloc: Global, count: usize) -> Result<String, AllocError> {
     let mut text = String::new(alloc);
     for number in 0..count {

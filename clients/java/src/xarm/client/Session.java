@@ -126,7 +126,7 @@ final class Session {
         return isSent;
     }
 
-    /** Connects within so many milliseconds, and opens the resource manager, as the first call does. */
+    /** Connects within this many milliseconds, and opens the resource manager, as the first call does. */
     synchronized void open(int milliseconds) throws XarmException {
         run(Operation.OPEN, milliseconds, deadline -> null);
     }

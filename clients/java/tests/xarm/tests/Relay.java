@@ -32,12 +32,12 @@ final class Relay implements AutoCloseable {
         return listener.getLocalPort();
     }
 
-    /** Of the next request so many bytes come, and then the connection ends. */
+    /** Of the next request this many bytes come, and then the connection ends. */
     void cutRequest(int bytes) {
         nextRequest.set(bytes);
     }
 
-    /** Of the next reply so many bytes come, and then the connection ends. */
+    /** Of the next reply this many bytes come, and then the connection ends. */
     void cutReply(int bytes) {
         nextReply.set(bytes);
     }

@@ -9,7 +9,7 @@ import java.util.TimerTask;
 
 /**
  * Runs suites of the driver's tests against the program: {@code Tests PROGRAM TOP FOLDER SECONDS SUITE...}, with the top of the
- * repository, in a folder that is empty. Each test prints a line; the last one is {@code N passed, M failed}. It ends within so many
+ * repository, in a folder that is empty. Each test prints a line; the last one is {@code N passed, M failed}. It ends within this many
  * seconds, since whichever test waits by then has failed.
  */
 public final class Tests {

@@ -26,7 +26,7 @@ loop-count-preserved g c =
     let inv = c.loop-count.invariant in
     more _ _ _ c.loop-count.count c.in-Ok.n c.loop-count.buffer c.read.new.buf inv.0 (omega (arith, c.read.auto.buf)) (omega (arith, c.in-Ok.ensures.bound)) inv.1 c.in-Ok.ensures.bytes.0
 
--- what is written behind the first k leaves a place behind them
+-- what is written after the first k leaves a place after them
 place-left : (k : ℕ) (xs ys : List ℕ) → k < length xs → length ys ≡ length xs - k → k < length (put_mid k (length xs - k) xs ys)
 place-left k xs ys within len =
     let rest : List ℕ = drop (length xs - k) (drop k xs) in

@@ -17,7 +17,7 @@ use Rattle.xa_log.proofs.Parts.{leaves_then, first_part, second_part, third_part
 use Rattle.xa_log.proofs.checkpointing.checkpoint_on.Goals as goal
 use Rattle.xa_log.proofs.checkpointing.checkpoint_on.Goals.{After-shorten, After-put_records, After-put_seal-outcome}
 
--- the cut is behind the preamble
+-- the cut is after the preamble
 beyond : (keep n : ℕ) → 12 + n ≤ keep → 12 ≤ cut_behind keep
 beyond keep n is = omega (arith, is)
 

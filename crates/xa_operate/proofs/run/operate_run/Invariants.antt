@@ -8,7 +8,7 @@ use Rattle.xa_operate.specs.Askings.{IsAsking}
 use Rattle.xa_operate.specs.Courses.{AreDone}
 use Rattle.xa_operate.proofs.run.operate_run.Given as goal
 
--- so many questions are done, and their texts are printed
+-- this many questions are done, and their texts are printed
 abbrev pub invariant-loop : goal.invariant-loop
 invariant-loop g l = (first : Connection g.row.R.Denot g.row.W.Denot) × (replies : List Answered) × (text : List ℕ) × (length replies ≡ l.counter)
     × AreDone l.format l.task (λ c. g.W.Write.contents c.writer) (λ c. g.R.Read.remaining c.reader) (asked_first l.name l.task) replies l.agenda.items text first l.connection
