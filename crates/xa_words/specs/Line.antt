@@ -226,8 +226,14 @@ quiet_rules = frame_seconds_rule ∷ idle_seconds_rule ∷ branch_seconds_rule �
 abbrev pub upkeep_rules : List Rule
 upkeep_rules = trim_rule ∷ tick_rule ∷ exit_when_down_rule ∷ audit_out_rule ∷ accept_damage_rule ∷ []
 
+abbrev pub service_rules : List Rule
+service_rules = served_rules ++ loop_rules ++ place_rules
+
+abbrev pub conduct_rules : List Rule
+conduct_rules = login_rules ++ quiet_rules ++ upkeep_rules
+
 abbrev pub serve_shape : Shape
-serve_shape = command_of (codes "serve") (served_rules ++ loop_rules ++ place_rules ++ login_rules ++ quiet_rules ++ upkeep_rules)
+serve_shape = command_of (codes "serve") (service_rules ++ conduct_rules)
 
 -- how a server is reached, and who logs in to it
 abbrev pub reach_rules : List Rule

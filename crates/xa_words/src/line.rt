@@ -1,8 +1,9 @@
 //! The command line, as `clap` reads it.
-ghost use Rattle.std.specs.Prelude.{IfOk};
+ghost use Rattle.std.specs.Prelude.{IfOk, ◌∷◌, []};
 ghost use Rattle.clap.specs.Simple.{App, Shape, with_subcommand};
 ghost use Rattle.clap.specs.Walk.{Rule};
-ghost use Rattle.xa_words.specs.Line.{HasRule, HasShape, IsApp, bare, branch_order_shapes, check_shape, copy_shape, file_shapes};
+ghost use Rattle.xa_words.specs.Line.{HasRule, HasShape, IsApp, bare, branch_order_shapes, check_shape, conduct_rules};
+ghost use Rattle.xa_words.specs.Line.{copy_shape, file_shapes, service_rules};
 ghost use Rattle.xa_words.specs.Line.{format_rule, login_rules, loop_rules, order_shapes, place_rules, play_shape};
 ghost use Rattle.xa_words.specs.Line.{question_shapes, quiet_rules, reach_rules, scan_shape, serve_shape, served_rules};
 ghost use Rattle.xa_words.specs.Line.{server_shapes, shutdown_shape, talk_shape, tick_shape, upkeep_rules, user_shape};
@@ -130,11 +131,8 @@ fn format_of<'a>(alloc: Global, verb: Verb) -> Arg<'a>
 fn with_reach<'a>(alloc: Global, command: Command<'a>) -> Result<Command<'a>, AllocError>
     ensures { (app : App) → IsApp app command.entry → IfOk result (IsApp (with_rules app reach_rules)) }
 {
-    command
-        .arg(port(alloc))?
-        .arg(host(alloc))?
-        .arg(socket(alloc))?
-        .arg(user(alloc))
+    let command = with_two(command, port(alloc), host(alloc))?;
+    with_two(command, socket(alloc), user(alloc))
 }
 
 // The command with one argument more, if it is given.
@@ -151,6 +149,14 @@ fn with_argument<'a>(
     } else {
         Ok(command)
     }
+}
+
+// The command with two arguments more.
+fn with_two<'a>(command: Command<'a>, one: Arg<'a>, two: Arg<'a>) -> Result<Command<'a>, AllocError>
+    ensures { (app : App) (first second : Rule) → IsApp app command.entry → HasRule first one.entry → HasRule second two.entry
+        → IfOk result (IsApp (with_rules app (first ∷ second ∷ []))) }
+{
+    command.arg(one)?.arg(two)
 }
 
 // The command line without its commands.
@@ -283,9 +289,23 @@ fn serve_command<'a>(alloc: Global) -> Result<Command<'a>, AllocError>
             "Serves a resource manager on a port, a Unix socket or both, and prints ready for each once it can be reached",
         )
         .after_help("Example: xarm serve --log bank.log --name bank --port 4187");
+    let command = with_service(alloc, command)?;
+    with_conduct(alloc, command)
+}
+
+// The command with the arguments that say what is served, by how many loops, and where.
+fn with_service<'a>(alloc: Global, command: Command<'a>) -> Result<Command<'a>, AllocError>
+    ensures { (app : App) → IsApp app command.entry → IfOk result (IsApp (with_rules app service_rules)) }
+{
     let command = with_served(alloc, command)?;
     let command = with_loops(alloc, command)?;
-    let command = with_places(alloc, command)?;
+    with_places(alloc, command)
+}
+
+// The same with those that say whom it serves, and how it goes on.
+fn with_conduct<'a>(alloc: Global, command: Command<'a>) -> Result<Command<'a>, AllocError>
+    ensures { (app : App) → IsApp app command.entry → IfOk result (IsApp (with_rules app conduct_rules)) }
+{
     let command = with_logins(alloc, command)?;
     let command = with_quiet(alloc, command)?;
     with_upkeep(alloc, command)
@@ -295,33 +315,24 @@ fn serve_command<'a>(alloc: Global) -> Result<Command<'a>, AllocError>
 fn with_served<'a>(alloc: Global, command: Command<'a>) -> Result<Command<'a>, AllocError>
     ensures { (app : App) → IsApp app command.entry → IfOk result (IsApp (with_rules app served_rules)) }
 {
-    command
-        .arg(log(alloc))?
-        .arg(name(alloc))?
-        .arg(port(alloc))?
-        .arg(serve_log_bytes(alloc))
+    let command = with_two(command, log(alloc), name(alloc))?;
+    with_two(command, port(alloc), serve_log_bytes(alloc))
 }
 
 // The same with those that say by how many loops, for how many connections, and whether that is audited.
 fn with_loops<'a>(alloc: Global, command: Command<'a>) -> Result<Command<'a>, AllocError>
     ensures { (app : App) → IsApp app command.entry → IfOk result (IsApp (with_rules app loop_rules)) }
 {
-    command
-        .arg(workers(alloc))?
-        .arg(audit(alloc))?
-        .arg(connections(alloc))?
-        .arg(loops(alloc))
+    let command = with_two(command, workers(alloc), audit(alloc))?;
+    with_two(command, connections(alloc), loops(alloc))
 }
 
 // The same with those that say where it listens, apart from the port.
 fn with_places<'a>(alloc: Global, command: Command<'a>) -> Result<Command<'a>, AllocError>
     ensures { (app : App) → IsApp app command.entry → IfOk result (IsApp (with_rules app place_rules)) }
 {
-    command
-        .arg(listen(alloc))?
-        .arg(serve_socket(alloc))?
-        .arg(socket_mode(alloc))?
-        .arg(socket_group(alloc))
+    let command = with_two(command, listen(alloc), serve_socket(alloc))?;
+    with_two(command, socket_mode(alloc), socket_group(alloc))
 }
 
 // The same with those that say who has to log in.
@@ -335,20 +346,15 @@ fn with_logins<'a>(alloc: Global, command: Command<'a>) -> Result<Command<'a>, A
 fn with_quiet<'a>(alloc: Global, command: Command<'a>) -> Result<Command<'a>, AllocError>
     ensures { (app : App) → IsApp app command.entry → IfOk result (IsApp (with_rules app quiet_rules)) }
 {
-    command
-        .arg(frame_seconds(alloc))?
-        .arg(idle_seconds(alloc))?
-        .arg(branch_seconds(alloc))
+    let command = with_two(command, frame_seconds(alloc), idle_seconds(alloc))?;
+    command.arg(branch_seconds(alloc))
 }
 
 // The same with those that say what it does of its own accord, and when it ends.
 fn with_upkeep<'a>(alloc: Global, command: Command<'a>) -> Result<Command<'a>, AllocError>
     ensures { (app : App) → IsApp app command.entry → IfOk result (IsApp (with_rules app upkeep_rules)) }
 {
-    command
-        .arg(trim(alloc))?
-        .arg(tick(alloc))?
-        .arg(exit_when_down(alloc))?
-        .arg(audit_out(alloc))?
-        .arg(accept_damage(alloc))
+    let command = with_two(command, trim(alloc), tick(alloc))?;
+    let command = with_two(command, exit_when_down(alloc), audit_out(alloc))?;
+    command.arg(accept_damage(alloc))
 }
