@@ -6,8 +6,8 @@ use Rattle.xa_server.specs.declared.listens.Listens as listens
 use Rattle.xa_server.specs.declared.fault.ServerFault.{ServerFault}
 use Rattle.xa_server.specs.declared.fault.ServerFault.TheVariants as serving
 use Rattle.xa_server.specs.Faults.{serving_fault}
-use Rattle.xa_server.specs.Histories.{IsHistoryFault}
-use Rattle.xa_server.specs.Believed.Served.{AreFiles, AreLoops, HasFailedBy, NoLoops, Place, Refuses, WasReady, never}
+use Rattle.xa_server.specs.Histories.{IsEndFault, IsHistoryFault}
+use Rattle.xa_server.specs.Believed.Served.{AreFiles, AreLoops, HasFailedBy, IsEarlyFault, NoLoops, Place, Refuses, WasReady, never}
 use Rattle.xa_server.specs.declared.serve_fault.ServeFault.{ServeFault}
 use Rattle.xa_server.specs.declared.serve_fault.ServeFault.TheVariants as fault
 use Rattle.xa_service.specs.declared.service.TheConstants.{MOST_LOOPS}
@@ -86,16 +86,54 @@ loops_failed disks opened refused net log_bytes place asked loops why ready are 
 loops_failed disks opened refused net log_bytes place asked loops why ready are (inr (inr (inr (inr is)))) none =
     rw is (ready, too_many asked loops are (none is))
 
--- all was ready, and what is told in the end couldn't be printed
-pub tell_failed : {D R : Type 0} (disks : disk.Ghosts D) (opened : D → List ℕ → Type 0)
+-- it was refused before anything was opened
+pub early_failed : {D R : Type 0} (disks : disk.Ghosts D) (opened : D → List ℕ → Type 0)
     (refused : List ℕ → FileFault → Type 0) (net : listens.Ghosts R) (log_bytes : ℕ) (place : Place)
     (late : ServeFault → Type 0) (why : ServeFault)
-    → WasReady disks opened net log_bytes place → (why ≡ fault.Memory) ⊎ (why ≡ fault.Write)
-    → HasFailedBy disks opened refused net log_bytes place late why
-tell_failed disks opened refused net log_bytes place late why ready (inl memory) = rw memory tt
-tell_failed disks opened refused net log_bytes place late why ready (inr write) = rw write ready
+    → IsEarlyFault why → HasFailedBy disks opened refused net log_bytes place late why
+early_failed disks opened refused net log_bytes place late fault.Memory h = absurd h
+early_failed disks opened refused net log_bytes place late fault.Write h = absurd h
+early_failed disks opened refused net log_bytes place late fault.Listen h = absurd h
+early_failed disks opened refused net log_bytes place late fault.Start h = absurd h
+early_failed disks opened refused net log_bytes place late fault.Wait h = absurd h
+early_failed disks opened refused net log_bytes place late fault.Random h = absurd h
+early_failed disks opened refused net log_bytes place late (fault.Users users_path cause) h = tt
+early_failed disks opened refused net log_bytes place late (fault.Open address) h = tt
+early_failed disks opened refused net log_bytes place late (fault.Group group) h = tt
+early_failed disks opened refused net log_bytes place late fault.InUse h = absurd h
+early_failed disks opened refused net log_bytes place late (fault.History history_file cause) h = absurd h
+early_failed disks opened refused net log_bytes place late (fault.Absent log_file) h = absurd h
+early_failed disks opened refused net log_bytes place late (fault.File log_file cause) h = absurd h
+early_failed disks opened refused net log_bytes place late (fault.Missing log_file) h = absurd h
+early_failed disks opened refused net log_bytes place late (fault.Stray log_file) h = absurd h
+early_failed disks opened refused net log_bytes place late (fault.Damaged log_file number at) h = absurd h
+early_failed disks opened refused net log_bytes place late (fault.Manager e) h = absurd h
 
--- all was ready, and the history couldn't be written
+-- all was ready, and what is told in the end couldn't be printed, or the history not be written
+pub end_failed : {D R : Type 0} (disks : disk.Ghosts D) (opened : D → List ℕ → Type 0)
+    (refused : List ℕ → FileFault → Type 0) (net : listens.Ghosts R) (log_bytes : ℕ) (place : Place)
+    (late : ServeFault → Type 0) (why : ServeFault)
+    → WasReady disks opened net log_bytes place → IsEndFault why
+    → HasFailedBy disks opened refused net log_bytes place late why
+end_failed disks opened refused net log_bytes place late fault.Memory ready h = tt
+end_failed disks opened refused net log_bytes place late fault.Write ready h = ready
+end_failed disks opened refused net log_bytes place late fault.Listen ready h = absurd h
+end_failed disks opened refused net log_bytes place late fault.Start ready h = absurd h
+end_failed disks opened refused net log_bytes place late fault.Wait ready h = absurd h
+end_failed disks opened refused net log_bytes place late fault.Random ready h = absurd h
+end_failed disks opened refused net log_bytes place late (fault.Users users_path cause) ready h = absurd h
+end_failed disks opened refused net log_bytes place late (fault.Open address) ready h = absurd h
+end_failed disks opened refused net log_bytes place late (fault.Group group) ready h = absurd h
+end_failed disks opened refused net log_bytes place late fault.InUse ready h = absurd h
+end_failed disks opened refused net log_bytes place late (fault.History history_file cause) ready h = ready
+end_failed disks opened refused net log_bytes place late (fault.Absent log_file) ready h = absurd h
+end_failed disks opened refused net log_bytes place late (fault.File log_file cause) ready h = absurd h
+end_failed disks opened refused net log_bytes place late (fault.Missing log_file) ready h = absurd h
+end_failed disks opened refused net log_bytes place late (fault.Stray log_file) ready h = absurd h
+end_failed disks opened refused net log_bytes place late (fault.Damaged log_file number at) ready h = absurd h
+end_failed disks opened refused net log_bytes place late (fault.Manager e) ready h = absurd h
+
+-- all was ready, and no files were made for the history
 pub history_failed : {D R : Type 0} (disks : disk.Ghosts D) (opened : D → List ℕ → Type 0)
     (refused : List ℕ → FileFault → Type 0) (net : listens.Ghosts R) (log_bytes : ℕ) (place : Place)
     (late : ServeFault → Type 0) (why : ServeFault)

@@ -21,8 +21,15 @@ script_of history = flat_map (λ (r : Receipt). event_line r.event) history
 abbrev pub replies_of : List Receipt → List ℕ
 replies_of history = flat_map (λ (r : Receipt). line_of r.reply) history
 
--- no file was made for it, or it wasn't written
+-- no file was made for it
 abbrev pub IsHistoryFault : ServeFault → Type 0
 IsHistoryFault fault.Memory = Unit {0}
 IsHistoryFault (fault.History file why) = Unit {0}
 IsHistoryFault _ = ⊥
+
+-- what was served wasn't told, or its history wasn't written
+abbrev pub IsEndFault : ServeFault → Type 0
+IsEndFault fault.Memory = Unit {0}
+IsEndFault fault.Write = Unit {0}
+IsEndFault (fault.History file why) = Unit {0}
+IsEndFault _ = ⊥

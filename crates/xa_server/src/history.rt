@@ -1,6 +1,6 @@
 //! The history that was audited: a script of what was asked, and the replies that the play of it prints.
 ghost use Rattle.std.specs.Prelude.{◌≡◌, ◌++◌, IfErr, IfOk, OnOk};
-ghost use Rattle.xa_server.specs.Histories.{IsHistoryFault, event_line, replies_of, script_of};
+ghost use Rattle.xa_server.specs.Histories.{IsEndFault, IsHistoryFault, event_line, replies_of, script_of};
 
 use crate::history_file::HistoryFile;
 use crate::serve_fault::ServeFault;
@@ -62,7 +62,7 @@ pub(crate) fn write_history<'a, F: Write + Drop>(
     files: Option<HistoryFiles<'a, F>>,
     history: &[Receipt],
 ) -> Result<(), ServeFault<'a>>
-    ensures { IfErr result IsHistoryFault }
+    ensures { IfErr result IsEndFault }
 {
     let Some(
         HistoryFiles {
@@ -89,7 +89,7 @@ fn write<'a, F: Write>(
     bytes: &[u8],
     file: HistoryFile<'a>,
 ) -> Result<(), ServeFault<'a>>
-    ensures { IfErr result IsHistoryFault }
+    ensures { IfErr result IsEndFault }
 {
     match to.write_all(bytes) {
         Ok(()) => Ok(()),

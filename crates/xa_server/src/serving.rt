@@ -1,6 +1,8 @@
 //! A manager over two files, whose sessions are the connections of a port, a Unix socket or both, by event loops.
 ghost use Rattle.std.specs.Prelude.{◌≡◌, ◌↔◌, ◌&&◌, ◌||◌, ◌<◌, ◌⊎◌, IfErr, IfOk, IsErrOf, is_some, not};
-ghost use Rattle.xa_server.specs.Believed.Served.{AreLoops, AreUsers, HasFailed, HasServed, IsGroupFault, IsOpenFault, IsUsersFault, ServesAs, is_sound};
+ghost use Rattle.xa_server.specs.Believed.Served.{AreLoops, AreUsers, HasFailed, HasListened, HasServed};
+ghost use Rattle.xa_server.specs.Believed.Served.{IsEarlyFault, ServesAs, is_sound, settings_of};
+ghost use Rattle.xa_server.specs.Histories.{IsEndFault};
 ghost use Rattle.std.specs.Option.{option_map};
 ghost use Rattle.xa_service.specs.declared.service.TheConstants.{MOST_LOOPS};
 
@@ -9,7 +11,7 @@ use crate::engine::{Looped, loop_manager};
 use crate::fault::ServerFault;
 use crate::gate::OpenGate;
 use crate::group::group_number;
-use crate::history::{make_files, write_history};
+use crate::history::{HistoryFiles, make_files, write_history};
 use crate::listening::Listening;
 use crate::listens::Listens;
 use crate::ready::{make_ready, tell_passed_over};
@@ -19,7 +21,7 @@ use crate::users_file::read_users;
 use crate::workers::run_workers;
 use std::fs::Files;
 use std::io;
-use std::io::{Eprint, Print};
+use std::io::{Eprint, Print, Write};
 use std::net::{IpAddr, Net};
 use std::random::RandomSource;
 use std::rt::Clock;
@@ -33,10 +35,10 @@ use xa_service::{At, Service};
 use xa_users::Users;
 
 /// Opens the log's two files, listens, and opens the manager; then it serves by loops, until they end, and audits the history if
-/// that was asked for; it writes that, too, where a file is given. False where the audit found a fault, or where a server that is down was to end, and the manager is down
-/// then, or the loops ended since it was.
+/// that was asked for; it writes that, too, if a file is given. False if the audit found a fault, or if a server that is down was to
+/// end, and the manager is down then, or the loops ended since it was.
 ///
-/// Nobody is answered before the manager is open. Where the port or the path can't be had, or a file of the log is missing or is none,
+/// Nobody is answered before the manager is open. If the port or the path can't be had, or a file of the log is missing or is none,
 /// the manager isn't opened, so that nothing is written to either file.
 pub fn serve<
     'a,
@@ -58,9 +60,62 @@ pub fn serve<
     ensures failed { IfErr result (HasFailed ⟦<R::Disk as Disk>⟧ R.opened R.refused R.Listens
         service.now) }
 {
+    let (access, users) = admitted(rt, service)?;
+    let (listener, manager, files) = begun(rt, service, access)?;
+    let loops = loops_of(rt, service.loops);
+    let (told, audited, history) = serve_by(
+        rt,
+        listener,
+        manager,
+        users.as_ref(),
+        loops,
+        settings_of(service),
+        service.audits,
+    )?;
+    if !told.is_whole {
+        return Err(ServeFault::Wait);
+    }
+    tell_end(rt, told.calls, audited, files, history.as_slice())?;
+    Ok(is_well(
+        service.ends_when_down,
+        told.is_down,
+        told.ended_down,
+        audited,
+    ))
+}
+
+// Who may connect to its Unix socket, and who may log in, if anybody has to; unless it may not listen there.
+fn admitted<'a, R: AllocGlobal + Eprint + Files>(
+    rt: &R,
+    service: &Service<'a>,
+) -> Result<(SocketAccess, Option<Users>), ServeFault<'a>>
+    ensures users { IfOk result (λ made. AreUsers (is_some service.now.users) made.1) }
+    ensures fault { IfErr result IsEarlyFault }
+{
     may_listen(rt, service)?;
     let access = access_of(rt, service)?;
     let users = users_of(rt, service.users)?;
+    Ok((access, users))
+}
+
+// What listens, the manager that the log's two files open to, and the files of its history, if it is to be written.
+fn begun<'a, R: AllocGlobal + Eprint + Files + Opens + Listens>(
+    rt: &R,
+    service: &Service<'a>,
+    access: SocketAccess,
+) -> Result<
+    (
+        Listener,
+        Manager<R::Disk>,
+        Option<HistoryFiles<'a, R::File>>,
+    ),
+    ServeFault<'a>,
+>
+    ensures ready { IfOk result (λ made. HasListened ⟦<R::Disk as Disk>⟧ R.opened R.Listens
+        service.now made.1) }
+    ensures failed { IfErr result (HasFailed ⟦<R::Disk as Disk>⟧ R.opened R.refused R.Listens
+        service.now) }
+{
     let mut left = None;
     let (listening, manager) = make_ready(
         rt,
@@ -76,8 +131,14 @@ pub fn serve<
         return Err(ServeFault::Wait);
     };
     let files = make_files(rt, service.history)?;
-    let loops = loops_of(rt, service.loops);
-    let settings = Settings {
+    Ok((listener, manager, files))
+}
+
+// What is asked of its loops.
+fn settings_of(service: &Service<'_>) -> Settings
+    ensures { result ≡ settings_of service.now }
+{
+    Settings {
         connections: service.connections,
         frame_seconds: service.frame_seconds,
         idle_seconds: service.idle_seconds,
@@ -86,27 +147,7 @@ pub fn serve<
         trim_bytes: service.trim_bytes,
         log_bytes: service.log_bytes,
         tick_seconds: service.tick_seconds,
-    };
-    let (told, audited, history) = serve_by(
-        rt,
-        listener,
-        manager,
-        users.as_ref(),
-        loops,
-        settings,
-        service.audits,
-    )?;
-    if !told.is_whole {
-        return Err(ServeFault::Wait);
     }
-    tell(rt, told.calls, audited)?;
-    write_history(rt.alloc(), files, history.as_slice())?;
-    Ok(is_well(
-        service.ends_when_down,
-        told.is_down,
-        told.ended_down,
-        audited,
-    ))
 }
 
 // Serves by loops, with an audit or without; then there is no history.
@@ -142,13 +183,27 @@ fn serve_by<
     }
 }
 
+// Tells what was served, and writes the history, if it is to be written.
+fn tell_end<'a, R: AllocGlobal + Print, F: Write + Drop>(
+    rt: &R,
+    calls: u64,
+    audited: Option<Audited>,
+    files: Option<HistoryFiles<'a, F>>,
+    history: &[Receipt],
+) -> Result<(), ServeFault<'a>>
+    ensures { IfErr result IsEndFault }
+{
+    tell(rt, calls, audited)?;
+    write_history(rt.alloc(), files, history)
+}
+
 // Prints how many events there were, and what their audit found, if there was one.
 fn tell<'a, R: AllocGlobal + Print>(
     rt: &R,
     calls: u64,
     audited: Option<Audited>,
 ) -> Result<(), ServeFault<'a>>
-    ensures { IfErr result (λ fault. (fault ≡ ServeFault.Memory) ⊎ (fault ≡ ServeFault.Write)) }
+    ensures { IfErr result IsEndFault }
 {
     let printed = match audited {
         Some(audited) => {
@@ -212,7 +267,7 @@ fn loops_of<R: Threads>(rt: &R, asked: u64) -> u64
 // Whether it may listen there. If nobody has to log in, and it isn't asked for that, only at an address of this machine, and then
 // it is told that whoever can connect may do anything.
 fn may_listen<'a, R: Eprint>(rt: &R, service: &Service<'a>) -> Result<(), ServeFault<'a>>
-    ensures { IfErr result IsOpenFault }
+    ensures { IfErr result IsEarlyFault }
 {
     let (At::Port { address, .. } | At::Both { address, .. }) = service.at else {
         return Ok(());
@@ -241,7 +296,7 @@ fn access_of<'a, R: AllocGlobal + Files>(
     rt: &R,
     service: &Service<'a>,
 ) -> Result<SocketAccess, ServeFault<'a>>
-    ensures { IfErr result IsGroupFault }
+    ensures { IfErr result IsEarlyFault }
 {
     let group = match service.socket_group {
         Some(name) => match group_number(rt, name) {
@@ -262,7 +317,7 @@ fn users_of<'a, R: AllocGlobal + Files>(
     path: Option<&'a str>,
 ) -> Result<Option<Users>, ServeFault<'a>>
     ensures users { IfOk result (AreUsers (is_some path.entry)) }
-    ensures fault { IfErr result IsUsersFault }
+    ensures fault { IfErr result IsEarlyFault }
 {
     let Some(path) = path else {
         return Ok(None);

@@ -1,5 +1,5 @@
 -- What the loops of a server tell, and what holds of the history that they tell of.
-use Rattle.std.specs.Prelude.{ℕ, ◌≡◌, Bool, false, List, [], ◌∷◌, ◌++◌, length, map, Option, Some, Result}
+use Rattle.std.specs.Prelude.{ℕ, ◌≡◌, Bool, false, List, [], ◌∷◌, ◌++◌, length, map, Option, Result}
 use Rattle.std.specs.List.{AllByRecursion}
 use Rattle.xa_assoc.specs.declared.fault.ConnectFault.{ConnectFault}
 use Rattle.xa_disk.specs.declared.disk.Disk as disk

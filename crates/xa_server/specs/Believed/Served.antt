@@ -229,10 +229,10 @@ abbrev pub WasReady : {D R : Type 0} → disk.Ghosts D → (D → List ℕ → T
 WasReady {D} disks opened net log_bytes place =
     (listener : Listening) × (manager : Manager D) × IsReady disks opened net log_bytes place listener manager
 
--- What was asked before it failed, and how that ended: the file of users says none, it may not listen there, or there is no such group, and nothing was
--- opened; a file was refused; no manager was opened on the files, or one of
--- them is missing, is no log or is damaged; the files were there, and the port was refused; all was ready, and it
--- couldn't print, or write the history, or it didn't serve for what `late` says.
+-- What was asked before it failed, and how that ended: the file of users says none, it may not listen there, or there is no such
+-- group, and nothing was opened; a file was refused; no manager was opened on the files, or one of them is missing, is no log or is
+-- damaged; the files were there, and the port was refused; all was ready, and it couldn't print, or write the history, or it didn't
+-- serve for what `late` says.
 abbrev pub HasFailedBy : {D R : Type 0} → disk.Ghosts D → (D → List ℕ → Type 0) → (List ℕ → FileFault → Type 0)
     → listens.Ghosts R → ℕ → Place → (ServeFault → Type 0) → ServeFault → Type 0
 HasFailedBy disks opened refused net log_bytes place late fault.Memory = Unit {0}
@@ -265,20 +265,13 @@ HasFailedBy disks opened refused net log_bytes place late fault.Start =
 HasFailedBy disks opened refused net log_bytes place late fault.Wait =
     WasReady disks opened net log_bytes place × late fault.Wait
 
--- the file of users says none
-abbrev pub IsUsersFault : ServeFault → Type 0
-IsUsersFault (fault.Users users_file why) = Unit {0}
-IsUsersFault _ = ⊥
-
--- it may not listen there
-abbrev pub IsOpenFault : ServeFault → Type 0
-IsOpenFault (fault.Open address) = Unit {0}
-IsOpenFault _ = ⊥
-
--- its Unix socket is to have a group that there isn't
-abbrev pub IsGroupFault : ServeFault → Type 0
-IsGroupFault (fault.Group group_name) = Unit {0}
-IsGroupFault _ = ⊥
+-- before anything was opened: it may not listen there, its Unix socket is to have a group that there isn't, or the file of
+-- users says none
+abbrev pub IsEarlyFault : ServeFault → Type 0
+IsEarlyFault (fault.Open address) = Unit {0}
+IsEarlyFault (fault.Group group_name) = Unit {0}
+IsEarlyFault (fault.Users users_path why) = Unit {0}
+IsEarlyFault _ = ⊥
 
 -- before it serves, nothing
 abbrev pub never : ServeFault → Type 0
@@ -290,6 +283,12 @@ NoLoops loops fault.Start = MOST_LOOPS < loops
 NoLoops loops fault.Wait = Unit {0}
 NoLoops loops fault.Random = Unit {0}
 NoLoops loops _ = ⊥
+
+-- all was ready, with this manager
+abbrev pub HasListened : {D R : Type 0} → disk.Ghosts D → (D → List ℕ → Type 0) → listens.Ghosts R → Service → Manager D
+    → Type 0
+HasListened disks opened net service manager =
+    (listener : Listening) × IsReady disks opened net service.log_bytes (place_of service) listener manager
 
 abbrev pub HasFailed : {D R : Type 0} → disk.Ghosts D → (D → List ℕ → Type 0) → (List ℕ → FileFault → Type 0)
     → listens.Ghosts R → Service → ServeFault → Type 0

@@ -1,5 +1,5 @@
 use Rattle.std.proofs.Common.{◌≡◌, ◌⊎◌, inl, inr, refl, subst, sym, ◌∙◌, ap, List, Err}
-use Rattle.std.specs.Prelude.{ℕ, Result, IsErrOf, is_ok}
+use Rattle.std.specs.Prelude.{ℕ, Result, IsErrOf}
 use Rattle.xa_history.specs.declared.receipt.Receipt.{Receipt}
 use Rattle.xa_room.specs.Believed.Audit.{Audits}
 use Rattle.xa_room.specs.Believed.Recorded.{Recorded}
