@@ -215,6 +215,9 @@ module _ (most : ℕ) (a b : List ℕ) (m n : ℕ) (short : AreShort most a b m 
   by_front : pair_fault most a b ≡ cond (is_newer (take 8 a) || is_newer (take 8 b)) (Some TooNew) (cond (has_log a || has_log b) (by_both a b) (Some NotALog))
   by_front = rw (fits_a, fits_b) refl
 
+  pub newer_fault : (is_newer (take 8 a) || is_newer (take 8 b)) ≡ true → pair_fault most a b ≡ Some TooNew
+  newer_fault new = by_front ∙ ap (λ (k : Bool). cond k (Some TooNew) (cond (has_log a || has_log b) (by_both a b) (Some NotALog))) new
+
   pub fault_is : (is_newer (take 8 a) || is_newer (take 8 b)) ≡ false → (t : Bool) → (has_log a || has_log b) ≡ t → pair_fault most a b ≡ cond t (by_both a b) (Some NotALog)
   fault_is old t has =
       by_front

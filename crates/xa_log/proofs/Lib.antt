@@ -46,6 +46,7 @@ pub mod Filled
 pub mod Fits
 pub mod Still
 pub mod Looks
+pub mod Both
 pub mod Plans
 pub mod Pieces
 pub mod Brief

@@ -28,7 +28,7 @@ pub device_second : (most : ℕ) (old new : Counts) → (new ≡ with_sync old) 
 device_second most old new calls = inr (⊎_elim (λ sync. inl sync) (λ length. device_asked most old new length) calls)
 
 -- whatever comes after the lengths only reads
-read_at : (e : OpenFault) (most : ℕ) (old new : Counts) → e ≢ TooLong → OnlyReads most (asked old) new → LooksAt e most old new
+pub read_at : (e : OpenFault) (most : ℕ) (old new : Counts) → e ≢ TooLong → OnlyReads most (asked old) new → LooksAt e most old new
 read_at Device most old new short reads = inr reads
 read_at Memory most old new short reads = inr reads
 read_at NotALog most old new short reads = reads

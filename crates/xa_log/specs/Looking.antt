@@ -1,14 +1,16 @@
 -- What reading two files finds.
 use Rattle.std.specs.Prelude.{◌≡◌, ◌≢◌, ℕ, ◌≤◌, min, Bool, true, false, ◌||◌, if◌then◌else◌, List, [], length, take}
 use Rattle.std.specs.Prelude.{Option, Some, None, IfSome}
+use Rattle.xa_disk.specs.Disk.{Only}
 use Rattle.xa_disk.specs.declared.counts.Counts.{Counts}
+use Rattle.xa_disk.specs.declared.disk.Disk.{Ghosts}
 use Rattle.xa_log.specs.declared.looking.Front.{Front}
 use Rattle.xa_log.specs.declared.heads.Head.{Head}
 use Rattle.xa_log.specs.declared.found.Found.{Found}
 use Rattle.xa_log.specs.declared.reading.Scan.{Scan}
 use Rattle.xa_log.specs.Believed.Chain.{start, format_of}
 use Rattle.xa_log.specs.Believed.Damage.{is_headless}
-use Rattle.xa_log.specs.Calls.{FetchedWithin, FetchedNext}
+use Rattle.xa_log.specs.Calls.{FetchedWithin, FetchedNext, MOST_BRIEF, asked, brief}
 use Rattle.xa_log.specs.Reading.{is_newer, Finds, Fits, IsScan}
 use Rattle.xa_log.specs.Believed.Pair.{number_in, generation, is_nil, has_log, on_first}
 use Rattle.xa_log.specs.Window.{Caches}
@@ -64,6 +66,18 @@ HasHead len (Some head) = (FORMAT_BYTES ≤ len) × IfSome head.first (Fits head
 abbrev pub FetchedHead : ℕ → ℕ → Counts → Counts → Option Head → Type 0
 FetchedHead len most first now None = FetchedWithin len most first now
 FetchedHead len most first now (Some head) = FetchedNext len most first now head.first
+
+-- of one of two files that was synced and measured, and of which no more was read: how long it is, and how it begins
+pub record Began {D : Type 0} (disks : Ghosts D) (most : ℕ) (old new : D) (window : List ℕ) (len : ℕ) (head : Option Head)
+    : Type 0 where
+  pub fits : len ≤ most
+  pub holds : HasHead len head
+  pub whole : disks.honest → len ≡ length (disks.seen old)
+  pub begins : disks.honest → IsHead (disks.seen old) window head
+  pub durable : disks.honest → Only (disks.seen new) (disks.may_leave new)
+  pub fetched : FetchedHead len MOST_BRIEF (asked (disks.counts old)) (disks.counts new) head
+  pub little : disks.honest
+      → FetchedHead len (brief (disks.seen old)) (asked (disks.counts old)) (disks.counts new) head
 
 -- whether one of two files is a log, and which of them is the current one
 abbrev pub Chooses : List ℕ → List ℕ → Option (Bool × Head) → Type 0

@@ -8,8 +8,8 @@ ghost use Rattle.xa_log.specs.{Believed.Pair.pair_fault, Reading.Ends, Reading.E
 ghost use Rattle.xa_log.specs.declared.window.TheConstants.{WINDOW};
 
 use crate::OpenFault;
-use crate::heads::{has_lost_first, read_heads};
-use crate::looking::{measure, read_current, read_fronts};
+use crate::heads::has_lost_first;
+use crate::looking::{read_both, read_current};
 use crate::opening::new_buffer;
 use crate::reading::Scan;
 use crate::window::WINDOW;
@@ -83,9 +83,7 @@ fn find_by<D: Disk>(
     ensures time_second { D.honest → TimePasses D.Disk Same second.old second.new }
     ensures count { CountsDeviceOf D.failures result first.old first.new second.old second.new }
 {
-    let lens = measure(first, second, log_bytes)?;
-    let fronts = read_fronts(first, second, window, other_window, lens)?;
-    let heads = read_heads(alloc, first, second, window, other_window, lens, fronts)?;
+    let (lens, heads) = read_both(alloc, first, second, window, other_window, log_bytes)?;
     if has_lost_first(&heads.0) {
         return Ok(Some(first_record(true)));
     }

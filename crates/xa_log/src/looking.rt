@@ -5,10 +5,11 @@ ghost use Rattle.xa_disk.specs.Disk.{Same, Only, CountsFault};
 ghost use Rattle.xa_disk.specs.{Time.TimePasses, declared.counts.Counts.Counts};
 ghost use Rattle.xa_log.specs.Answers.{CountsDeviceOf};
 ghost use Rattle.xa_log.specs.Calls.{Fetched, FetchedSome, Looks, LooksSecond, LooksAt, LooksSecondAt, ReadsLittle, asked};
-ghost use Rattle.xa_log.specs.Reading.{Ends, Explains};
+ghost use Rattle.xa_log.specs.Reading.{Ends, Explains, is_newer};
+ghost use Rattle.xa_log.specs.Believed.Chain.{format_of};
 ghost use Rattle.xa_log.specs.Believed.Pair.{number_in, beats, pair_fault, fault_pair};
 ghost use Rattle.xa_log.specs.Looking.{AreShort, IsFront, HasFront, either_newer, either_log, Tells};
-ghost use Rattle.xa_log.specs.Looking.{IsHead, HasHead, FetchedHead, Chooses, IsCurrent};
+ghost use Rattle.xa_log.specs.Looking.{Began, IsHead, HasHead, FetchedHead, Chooses, IsCurrent};
 
 use crate::OpenFault;
 use crate::format::Format;
@@ -92,22 +93,32 @@ pub(crate) fn front_of<D: Disk>(
         });
     }
     let span = read_front(disk, window, len)?;
-    match Format::of(&window[..FORMAT_BYTES]) {
-        Ok(format) => Ok(Front {
+    Ok(front_by(&window[..FORMAT_BYTES], span))
+}
+
+// How a file with these first eight bytes begins, and what a window has of it.
+fn front_by(front: &[u8], span: Span) -> Front
+    requires { length front.now ≡ FORMAT_BYTES }
+    ensures format { result.format ≡ format_of front.now }
+    ensures newer { result.newer ≡ is_newer front.now }
+    ensures span { result.span ≡ span }
+{
+    match Format::of(front) {
+        Ok(format) => Front {
             format: Some(format),
             newer: false,
             span,
-        }),
-        Err(OpenFault::TooNew) => Ok(Front {
+        },
+        Err(OpenFault::TooNew) => Front {
             format: None,
             newer: true,
             span,
-        }),
-        Err(_) => Ok(Front {
+        },
+        Err(_) => Front {
             format: None,
             newer: false,
             span,
-        }),
+        },
     }
 }
 
@@ -188,6 +199,40 @@ pub(crate) fn read_fronts<D: Disk>(
         return Err(OpenFault::TooNew);
     }
     Ok((front, other_front))
+}
+
+// Syncs and measures both files, and reads how both begin. Returns how long they are, and how they begin.
+pub(crate) fn read_both<D: Disk>(
+    alloc: Global,
+    first: &mut D,
+    second: &mut D,
+    window: &mut [u8],
+    other_window: &mut [u8],
+    log_bytes: u64,
+) -> Result<((u64, u64), (Option<Head>, Option<Head>)), OpenFault>
+    requires room { length window.old ≡ WINDOW }
+    requires other_room { length other_window.old ≡ WINDOW }
+    ensures first { IfOk result (λ r. Began D.Disk log_bytes first.old first.new window.new r.0.0 r.1.0) }
+    ensures second { IfOk result (λ r. Began D.Disk log_bytes second.old second.new other_window.new r.0.1 r.1.1) }
+    ensures older { D.honest → OnOk result (either_newer (D.seen first.old) (D.seen second.old) ≡ false) }
+    ensures fault { D.honest
+        → IfErr result (λ e. Explains e (pair_fault log_bytes (D.seen first.old) (D.seen second.old))) }
+    ensures same { D.honest → D.seen first.new ≡ D.seen first.old }
+    ensures same_second { D.honest → D.seen second.new ≡ D.seen second.old }
+    ensures time { D.honest → TimePasses D.Disk Same first.old first.new }
+    ensures time_second { D.honest → TimePasses D.Disk Same second.old second.new }
+    ensures count { CountsDeviceOf D.failures result first.old first.new second.old second.new }
+    ensures calls { IfErr result (λ e. LooksAt e log_bytes (D.counts first.old) (D.counts first.new)) }
+    ensures calls_second { IfErr result (λ e. LooksSecondAt e log_bytes (D.counts second.old) (D.counts second.new)) }
+    ensures calls_once { D.honest
+        → IfErr result (λ e. LooksAt e (length (D.seen first.old)) (D.counts first.old) (D.counts first.new)) }
+    ensures calls_once_second { D.honest
+        → IfErr result (λ e. LooksSecondAt e (length (D.seen second.old)) (D.counts second.old) (D.counts second.new)) }
+{
+    let lens = measure(first, second, log_bytes)?;
+    let fronts = read_fronts(first, second, window, other_window, lens)?;
+    let heads = read_heads(alloc, first, second, window, other_window, lens, fronts)?;
+    Ok((lens, heads))
 }
 
 // Reads the log of the current one of two files that begin like this. The other one isn't touched. Returns their lengths.
@@ -272,9 +317,7 @@ pub(crate) fn read_pair<D: Disk>(
         → LooksSecond result (length (D.seen second.old)) (D.counts second.old) (D.counts second.new) }
     ensures little { IfOk result (λ r. ReadsLittle D.Disk r.0 first.old first.new second.old second.new) }
 {
-    let lens = measure(first, second, log_bytes)?;
-    let fronts = read_fronts(first, second, window, other_window, lens)?;
-    let heads = read_heads(alloc, first, second, window, other_window, lens, fronts)?;
+    let (lens, heads) = read_both(alloc, first, second, window, other_window, log_bytes)?;
     if is_either_lost(&heads.0, &heads.1) {
         return Err(OpenFault::Damaged);
     }

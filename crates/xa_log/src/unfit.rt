@@ -1,7 +1,8 @@
 //! Whether two files may be one log's.
-ghost use Rattle.std.specs.Prelude.{◌≡◌, ◌⊎◌, List, ℕ, length, IfErr, IfOk};
+ghost use Rattle.std.specs.Prelude.{◌≡◌, ◌⊎◌, List, ℕ, false, length, IfErr, IfOk};
 ghost use Rattle.xa_disk.specs.{Disk.Same, Time.TimePasses};
-ghost use Rattle.xa_log.specs.Believed.Unfit.{FitLaw, MissingLaw, StaysFitLaw, generation_in, unfit_of};
+ghost use Rattle.xa_log.specs.Believed.Unfit.{FitLaw, MissingLaw, StaysFitLaw, generation_in, unfit_by, unfit_of};
+ghost use Rattle.xa_log.specs.Believed.Standing.{standing};
 
 use crate::OpenFault;
 use crate::heads::{head_of, number_in_first};
@@ -46,21 +47,70 @@ pub fn unfit_file<D: Disk>(
     if len > log_bytes || other_len > log_bytes {
         return Ok(Unfit::Neither);
     }
+    unfit_beside(alloc, first, second, len, other_len)
+}
+
+// The same of two files of these lengths, neither of which is too long.
+fn unfit_beside<D: Disk>(
+    alloc: Global,
+    first: &mut D,
+    second: &mut D,
+    len: u64,
+    other_len: u64,
+) -> Result<Unfit, OpenFault>
+    ensures value { D.honest → len ≡ length (D.seen first.old) → other_len ≡ length (D.seen second.old)
+        → IfOk result (λ unfit. unfit
+        ≡ unfit_by (standing (D.seen first.old)) (standing (D.seen second.old)) (generation_in (D.seen first.old))) }
+    ensures kinds { IfErr result (λ e. (e ≡ OpenFault.Device) ⊎ (e ≡ OpenFault.Memory)) }
+    ensures same { D.honest → D.seen first.new ≡ D.seen first.old }
+    ensures same_second { D.honest → D.seen second.new ≡ D.seen second.old }
+    ensures time { D.honest → TimePasses D.Disk Same first.old first.new }
+    ensures time_second { D.honest → TimePasses D.Disk Same second.old second.new }
+{
     let standing = standing_of(first, len)?;
     let other = standing_of(second, other_len)?;
+    let number = number_beside(alloc, first, len, standing, other)?;
+    Ok(unfit_by(standing, other, number))
+}
+
+// The first file's generation, if it decides which one is unfit by what stands in both.
+fn number_beside<D: Disk>(
+    alloc: Global,
+    disk: &mut D,
+    len: u64,
+    standing: Standing,
+    other: Standing,
+) -> Result<usize, OpenFault>
+    ensures value { D.honest → len ≡ length (D.seen disk.old)
+        → IfOk result (λ number. unfit_by standing other number ≡ unfit_by standing other (generation_in (D.seen disk.old))) }
+    ensures kinds { IfErr result (λ e. (e ≡ OpenFault.Device) ⊎ (e ≡ OpenFault.Memory)) }
+    ensures same { D.honest → D.seen disk.new ≡ D.seen disk.old }
+    ensures time { D.honest → TimePasses D.Disk Same disk.old disk.new }
+{
+    if is_numbered(standing, other) {
+        return generation_of(alloc, disk, len);
+    }
+    Ok(0)
+}
+
+// Whether the first file's generation decides.
+fn is_numbered(standing: Standing, other: Standing) -> bool
+    ensures { (m n : ℕ) → result ≡ false → unfit_by standing other m ≡ unfit_by standing other n }
+{
+    matches!((standing, other), (Standing::Log, Standing::Nothing))
+}
+
+// Which file is unfit, by what stands in both, and the first one's generation if it decides.
+fn unfit_by(standing: Standing, other: Standing, number: usize) -> Unfit
+    ensures { result ≡ unfit_by standing other number }
+{
     match (standing, other) {
-        (Standing::Later, _) | (_, Standing::Later) => Ok(Unfit::Neither),
-        (Standing::Stray, _) => Ok(Unfit::StrayFirst),
-        (_, Standing::Stray) => Ok(Unfit::StraySecond),
-        (Standing::Nothing, Standing::Log) => Ok(Unfit::MissingFirst),
-        (Standing::Log, Standing::Nothing) => {
-            if generation_of(alloc, first, len)? > 1 {
-                Ok(Unfit::MissingSecond)
-            } else {
-                Ok(Unfit::Neither)
-            }
-        }
-        _ => Ok(Unfit::Neither),
+        (Standing::Later, _) | (_, Standing::Later) => Unfit::Neither,
+        (Standing::Stray, _) => Unfit::StrayFirst,
+        (_, Standing::Stray) => Unfit::StraySecond,
+        (Standing::Nothing, Standing::Log) => Unfit::MissingFirst,
+        (Standing::Log, Standing::Nothing) if number > 1 => Unfit::MissingSecond,
+        _ => Unfit::Neither,
     }
 }
 
