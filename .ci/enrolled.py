@@ -1,11 +1,14 @@
 """Files of users, where a server listens, and the commands that log in, for .ci/logins."""
 import base64
+import fcntl
 import os
+import pty
 import re
 import select
 import stat
 import subprocess
 import tempfile
+import termios
 
 import clients
 from clients import OK, OPEN, PATIENCE, Server
@@ -204,8 +207,26 @@ class Logged:
         env = {**os.environ, "XARM_PASSWORD_FILE": secret or self.secret, **more}
         env = {key: value for key, value in env.items() if value is not None}
         command = [clients.PROGRAM, *words.split(), *self.at, *(["--user", name] if name else [])]
-        ran = subprocess.run(command, input=given.encode(), env=env, capture_output=True, timeout=LIMIT, check=False)
+        # in a session of its own, so that it has no terminal
+        how = {"env": env, "capture_output": True, "timeout": LIMIT, "check": False, "start_new_session": True}
+        ran = subprocess.run(command, input=given.encode(), **how)
         return ran.returncode, ran.stdout.decode(), ran.stderr.decode()
+
+    def run_typed(self, name, words, typed, given=""):
+        """The same of one that is to ask for the secret at a terminal of its own, where this is typed."""
+        end, side = pty.openpty()
+        env = {key: value for key, value in os.environ.items() if key != "XARM_PASSWORD_FILE"}
+        how = {"stdin": subprocess.PIPE, "stdout": subprocess.PIPE, "stderr": subprocess.PIPE, "env": env, "start_new_session": True}
+        command = [clients.PROGRAM, *words.split(), *self.at, "--user", name]
+        with subprocess.Popen(command, preexec_fn=lambda: fcntl.ioctl(side, termios.TIOCSCTTY, 0), pass_fds=(side,), **how) as ran:
+            os.close(side)
+            os.write(end, typed.encode())
+            try:
+                printed, told = ran.communicate(given.encode(), timeout=LIMIT)
+            finally:
+                ran.kill()
+        os.close(end)
+        return ran.returncode, printed.decode(), told.decode()
 
 
 def commands():
@@ -286,9 +307,24 @@ def secrets(logged, room):
         yield f"secrets: {title}", is_so and not_told(found[2]) or found, True
     status, printed, told = logged.run("ada", "status", XARM_PASSWORD_FILE=None)
     yield "secrets: none is named", (status in (1, 3), printed, "XARM_PASSWORD_FILE" in told), (True, "", True)
+    yield from typed_secrets(logged)
     for title, text in {"no line feed at its end": SECRET, "more lines": f"{SECRET}\n\nmore"}.items():
         path = put_file(os.path.join(room, "good"), text)
         yield f"secrets: {title}", logged.run("ada", "status", secret=path)[0], 0
+
+
+def typed_secrets(logged):
+    """Secrets that are typed, beside a script."""
+    question = "Secret of ada: "
+    status, printed, told = logged.run_typed("ada", "status", f"{SECRET}\n")
+    yield "secrets: typed", (status, printed.startswith("boot "), told), (0, True, question)
+    status, printed, told = logged.run_typed("ada", "talk", f"{SECRET}\n", "connect\n1 status\n")
+    yield "secrets: typed, and a script", (status, len(printed.splitlines()), told), (0, 2, question)
+    status, printed, told = logged.run_typed("ada", "status", "pensile\n")
+    is_so = told.startswith(f"{question}xarm: 127.0.0.1:{logged.at[1]}: ada: ") and not_told(told)
+    yield "secrets: another one is typed", (status in (1, 3), printed, is_so), (True, "", True)
+    status, printed, told = logged.run_typed("ada", "status", "\n")
+    yield "secrets: none is typed", (status in (1, 3), printed, told.startswith(f"{question}xarm: /dev/tty: ")), (True, "", True)
 
 
 def not_told(told):

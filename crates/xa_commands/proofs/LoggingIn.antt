@@ -2,7 +2,7 @@
 use Rattle.std.proofs.Common.{◌≡◌, List, ℕ, Option, Result, Ok, Err, refl, sym, subst}
 use Rattle.xa_commands.specs.LoggedIn.{ClientEnds, IsDrawn, IsEarly, IsLogin}
 use Rattle.xa_commands.specs.declared.unlogged.Unlogged.{Unlogged}
-use Rattle.xa_commands.specs.declared.unlogged.Unlogged.TheVariants.{Login, Memory, Name, NoText, Random, Secret, Unset}
+use Rattle.xa_commands.specs.declared.unlogged.Unlogged.TheVariants.{Login, Memory, Name, NoText, Random, Secret, Typed, Unset}
 use Rattle.xa_scram.specs.Believed.Limits.{IsName}
 use Rattle.xa_talk.specs.Logins.{LogsIn}
 use Rattle.xa_talk.specs.declared.login_fault.LoginFault.{LoginFault}
@@ -13,6 +13,7 @@ module _ {C : Type 0} (sent left : C → Option (List ℕ)) (user : List ℕ) (c
   ended_early Memory early = refl
   ended_early (Name told) early = absurd early
   ended_early Unset early = refl
+  ended_early (Typed fault) early = refl
   ended_early NoText early = refl
   ended_early (Secret path fault) early = refl
   ended_early (Random error) early = refl

@@ -2,14 +2,14 @@ ghost use Rattle.std.specs.Prelude.{IfErr, MatchResult};
 ghost use Rattle.xa_commands.specs.LoggedIn.{ClientEnds, IsDrawn, IsEarly};
 ghost use Rattle.xa_talk.specs.declared.dial.Connection.{Connection};
 
-use crate::secret::secret_in;
+use crate::secret::{TERMINAL, secret_in, typed_secret};
 use crate::secret_fault::SecretFault;
 use crate::server::Reach;
 use crate::stream::Stream;
 use crate::unlogged::Unlogged;
 use std::env::{self, VarError};
-use std::fs::Files;
-use std::io::{Read, Write};
+use std::fs::{self, Files};
+use std::io::{Eprint, Read, Write};
 use std::random::RandomSource;
 use std::rt::Env;
 use xa_scram::{Name, Nonce, OWN_BYTES};
@@ -31,8 +31,8 @@ impl<'w> Client<'w> {
         Client { user, secret: None }
     }
 
-    /// Logs in over a connection to a server, with a nonce that is new. The secret is read from its file the first time.
-    pub(crate) fn log_in<R: AllocGlobal + Env + Files + RandomSource>(
+    /// Logs in over a connection to a server, with a nonce that is new. The secret is read from its file the first time, or typed.
+    pub(crate) fn log_in<R: AllocGlobal + Env + Eprint + Files + RandomSource>(
         &mut self,
         rt: &R,
         reach: Reach<'w>,
@@ -46,7 +46,7 @@ impl<'w> Client<'w> {
         };
         let secret = match self.secret.take() {
             Some(secret) => secret,
-            None => read(rt)?,
+            None => read(rt, self.user)?,
         };
         let nonce = drawn(rt)?;
         let end = log_in(rt.alloc(), connection, &name, secret.as_slice(), &nonce);
@@ -62,23 +62,41 @@ impl<'w> Client<'w> {
     }
 }
 
-// The secret in the file that the environment names.
-fn read<'w, R: AllocGlobal + Env + Files>(rt: &R) -> Result<Vec<u8>, Unlogged<'w>>
+// The secret in the file that the environment names, or that is typed if it names none.
+fn read<'w, R: AllocGlobal + Env + Eprint + Files>(
+    rt: &R,
+    user: &str,
+) -> Result<Vec<u8>, Unlogged<'w>>
     ensures { IfErr result IsEarly }
 {
     let path = match env::var(rt, SECRET_FILE) {
         Ok(path) => path,
-        Err(VarError::NotPresent) => return Err(Unlogged::Unset),
+        Err(VarError::NotPresent) => return typed(rt, user),
         Err(VarError::NotUnicode) => return Err(Unlogged::NoText),
         Err(VarError::OutOfMemory) => return Err(Unlogged::Memory),
     };
     if path.is_empty() {
-        return Err(Unlogged::Unset);
+        return typed(rt, user);
     }
     match secret_in(rt, path.as_str()) {
         Ok(secret) => Ok(secret),
         Err(SecretFault::Memory) => Err(Unlogged::Memory),
         Err(fault) => Err(Unlogged::Secret { path, fault }),
+    }
+}
+
+// The secret that a user types, once standard error has asked for it.
+fn typed<'w, R: AllocGlobal + Eprint + Files>(rt: &R, user: &str) -> Result<Vec<u8>, Unlogged<'w>>
+    ensures { IfErr result IsEarly }
+{
+    let Ok(terminal) = fs::open(rt, TERMINAL) else {
+        return Err(Unlogged::Unset);
+    };
+    let _ = eprint!(rt; "Secret of {user}: ");
+    match typed_secret(rt, terminal) {
+        Ok(secret) => Ok(secret),
+        Err(SecretFault::Memory) => Err(Unlogged::Memory),
+        Err(fault) => Err(Unlogged::Typed(fault)),
     }
 }
 

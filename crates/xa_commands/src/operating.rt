@@ -7,14 +7,16 @@ use crate::errors::Errors;
 use crate::server::Server;
 use crate::stream::Stream;
 use std::fs::Files;
-use std::io::{self, Read, Write};
+use std::io::{self, Eprint, Read, Write};
 use std::net::{Net, TcpStream};
 use std::random::RandomSource;
 use std::rt::Env;
 use xa_operate::{Format, OperateFault, Task, confirm_run, operate_run, print_text, script_text};
 
 /// Asks a server what an operator wants, and prints its answers.
-pub fn operate<R: AllocGlobal + Print + Env + Files + Net<Stream = TcpStream> + RandomSource>(
+pub fn operate<
+    R: AllocGlobal + Print + Eprint + Env + Files + Net<Stream = TcpStream> + RandomSource,
+>(
     rt: &R,
     server: &mut Server<'_, '_, R>,
     name: &str,

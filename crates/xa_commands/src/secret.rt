@@ -1,4 +1,4 @@
-//! A secret is the first line of a file, or of standard input.
+//! A secret is the first line of a file, of standard input, or of what is typed.
 ghost use Rattle.std.specs.Prelude.{◌≡◌, IfErr, IfOk, IfSome, MatchResult};
 ghost use Rattle.std.specs.Io.BufRead.{strip_last};
 ghost use Rattle.xa_commands.specs.Secrets.{IsNoSecret, IsSecret, line_of};
@@ -11,6 +11,9 @@ use std::os::unix::fs::MetadataExt;
 
 /// The most bytes of a secret.
 pub(crate) const MOST_SECRET: usize = 1_024;
+
+/// The terminal of whoever runs the command.
+pub(crate) const TERMINAL: &str = "/dev/tty";
 
 // The most bytes of its line: a carriage return and a line feed may end it.
 const MOST_LINE: u64 = 1_026;
@@ -28,6 +31,16 @@ pub(crate) fn secret_in<R: AllocGlobal + Files>(rt: &R, path: &str) -> Result<Ve
         Ok(_) => {}
         Err(error) => return Err(SecretFault::Unread(error)),
     }
+    typed_secret(rt, file)
+}
+
+/// The secret that is the first line of an open file, or of a terminal.
+pub(crate) fn typed_secret<R: AllocGlobal + Files>(
+    rt: &R,
+    file: R::File,
+) -> Result<Vec<u8>, SecretFault>
+    ensures { IfOk result (λ secret. IsSecret secret.items) }
+{
     match BufReader::new(rt.alloc(), file) {
         Ok(reader) => read_secret(rt.alloc(), reader),
         Err(error) => Err(SecretFault::Unread(error)),

@@ -2,7 +2,7 @@ use crate::client::Client;
 use crate::stream::Stream;
 use crate::unlogged::Unlogged;
 use std::fs::Files;
-use std::io::{ErrorKind, Read};
+use std::io::{Eprint, ErrorKind, Read};
 use std::net::{Net, TcpStream};
 use std::os::unix::net::UnixStream;
 use std::random::RandomSource;
@@ -120,7 +120,11 @@ impl<R: Net<Stream = TcpStream>> Server<'_, '_, R> {
     }
 }
 
-impl<R: AllocGlobal + Env + Files + Net<Stream = TcpStream> + RandomSource> Server<'_, '_, R> {
+impl<R: AllocGlobal + Env + Eprint + Files + Net<Stream = TcpStream> + RandomSource> Server<
+    '_,
+    '_,
+    R,
+> {
     // Logs in over a connection, if anybody is to.
     fn log_in(&mut self, connection: &mut Connection<Stream, Stream>) -> io::Result<()> {
         let Some(client) = &mut self.client else {
@@ -136,8 +140,10 @@ impl<R: AllocGlobal + Env + Files + Net<Stream = TcpStream> + RandomSource> Serv
     }
 }
 
-impl<R: AllocGlobal + Env + Files + Net<Stream = TcpStream> + RandomSource> Dial<Stream, Stream>
-    for Server<'_, '_, R> {
+impl<R: AllocGlobal + Env + Eprint + Files + Net<Stream = TcpStream> + RandomSource> Dial<
+    Stream,
+    Stream,
+> for Server<'_, '_, R> {
     fn dial(&mut self) -> io::Result<Connection<Stream, Stream>> {
         let mut connection = match self.connect() {
             Ok(connection) => connection,

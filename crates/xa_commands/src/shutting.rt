@@ -4,14 +4,14 @@ ghost use Rattle.xa_talk.specs.declared.dial.Connection.{Connection};
 use crate::server::Server;
 use crate::stream::Stream;
 use std::fs::Files;
-use std::io::{Read, Write};
+use std::io::{Eprint, Read, Write};
 use std::net::{Net, TcpStream};
 use std::random::RandomSource;
 use std::rt::Env;
 use xa_talk::{ShutdownFault, shutdown_run};
 
 /// Asks a server to end, and waits until it has closed the connection.
-pub fn shutdown<R: AllocGlobal + Env + Files + Net<Stream = TcpStream> + RandomSource>(
+pub fn shutdown<R: AllocGlobal + Env + Eprint + Files + Net<Stream = TcpStream> + RandomSource>(
     rt: &R,
     server: &mut Server<'_, '_, R>,
 ) -> Result<(), ShutdownFault>

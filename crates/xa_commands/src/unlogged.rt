@@ -1,3 +1,4 @@
+use crate::secret::TERMINAL;
 use crate::secret_fault::SecretFault;
 use crate::server::Reach;
 use std::error::Error;
@@ -10,8 +11,10 @@ pub enum Unlogged<'w> {
     Memory,
     /// Nobody can have this name.
     Name(&'w str),
-    /// `XARM_PASSWORD_FILE` isn't set, or is empty.
+    /// `XARM_PASSWORD_FILE` isn't set, or is empty, and there is no terminal.
     Unset,
+    /// What was typed is no secret.
+    Typed(SecretFault),
     /// It isn't UTF-8.
     NoText,
     /// The file at the path that it has gives no secret.
@@ -35,8 +38,9 @@ impl fmt::Display for Unlogged<'_> {
             Unlogged::Memory => f.write_str("no memory"),
             Unlogged::Name(user) => write!(f, "{user:?} {NO_NAME}"),
             Unlogged::Unset => f.write_str(
-                "XARM_PASSWORD_FILE isn't set: --user needs the file whose first line is the secret",
+                "XARM_PASSWORD_FILE isn't set, and there is no terminal to ask at: --user needs the file whose first line is the secret",
             ),
+            Unlogged::Typed(fault) => write!(f, "{TERMINAL}: {fault}"),
             Unlogged::NoText => f.write_str("XARM_PASSWORD_FILE isn't UTF-8"),
             Unlogged::Secret { path, fault } => write!(f, "{path}: {fault}"),
             Unlogged::Random(error) => write!(f, "cannot draw a nonce: {error}"),

@@ -12,7 +12,7 @@ pub fn user<'a>(alloc: Global) -> Arg<'a>
         .long("user")
         .value_name("NAME")
         .help(
-            "Logs in under this name; the environment variable XARM_PASSWORD_FILE names the file whose first line is the secret",
+            "Logs in under this name, by the first line of the file that the environment variable XARM_PASSWORD_FILE names, or by what is typed",
         )
         .action(ArgAction::Set)
 }
