@@ -6,7 +6,7 @@ use Rattle.std.proofs.lemmas.Bool.Decides.{nat_tests}
 use Rattle.mv_chain.specs.declared.fate.Fate.{Fate}
 use Rattle.mv_chain.specs.declared.fate.Fate.TheVariants.{Committed, RolledBack}
 use Rattle.mv_chain.specs.declared.version.Version.{Version}
-use Rattle.mv_chain.specs.Accesses.{Written, Answered, seen, is_busy, is_late, decided, IsUndecided, IsUnsettled}
+use Rattle.mv_chain.specs.Accesses.{Written, Answered, seen, is_busy, is_late, decided, IsUndecided, IsUnsettled, read_by}
 use Rattle.mv_chain.specs.Chain.{base, StandsFor, IsBefore, IsChain, IsIndex, is_marked, marked, unread, may_install, installed, settled}
 use Rattle.mv_chain.proofs.Chains.{index_within, shows_none, chain_removed, chain_inserted, index_new, new_after, none_pending}
 use Rattle.mv_chain.proofs.Exact.{marked_some, marked_nothing, installed_own, installed_new, committed_own, rolled_back_own, settled_nothing}
@@ -33,13 +33,13 @@ chain_marked from reader vs c = at (index_for reader vs c)
     at (zero, h) = subst IsChain (marked_nothing from reader vs h (ap (λ s. s.from) (shows_none reader vs h))) c
     at (suc i, h) = subst IsChain (marked_some from reader i vs base c h) (raised_chain vs i from reader _ base c h refl)
 
-pub marked_stands : (from reader : ℕ) (vs : List Version) → IsChain vs → (key : List ℕ) (low : ℕ) (ws : List Written) (rs : List Answered) → StandsFor key low ws rs vs → low ≤ reader → from ≡ (seen key reader ws).from → is_busy reader (seen key reader ws) ≡ false → StandsFor key low ws (record { reader = reader; key = key; from = from } ∷ rs) (marked from reader vs)
+pub marked_stands : (from reader : ℕ) (vs : List Version) → IsChain vs → (key : List ℕ) (low : ℕ) (ws : List Written) (rs : List Answered) → StandsFor key low ws rs vs → low ≤ reader → from ≡ (seen key reader ws).from → is_busy reader (seen key reader ws) ≡ false → StandsFor key low ws (read_by reader key from ∷ rs) (marked from reader vs)
 marked_stands from reader vs c key low ws rs s le source free = at (index_for reader vs c)
   where
-    at : (i : ℕ) × IsIndex reader i vs → StandsFor key low ws (record { reader = reader; key = key; from = from } ∷ rs) (marked from reader vs)
+    at : (i : ℕ) × IsIndex reader i vs → StandsFor key low ws (read_by reader key from ∷ rs) (marked from reader vs)
     at (zero, h) = absurd (base_index low reader vs le h s.based)
     at (suc i, h) =
-        subst (λ (xs : List Version). StandsFor key low ws (record { reader = reader; key = key; from = from } ∷ rs) xs) (marked_some from reader i vs base c h)
+        subst (λ (xs : List Version). StandsFor key low ws (read_by reader key from ∷ rs) xs) (marked_some from reader i vs base c h)
         (raised_stands vs i from reader _ base c h refl key low ws rs s le source free)
 
 -- where a write may go: to its branch's own version, or to a new one

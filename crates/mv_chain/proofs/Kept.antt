@@ -5,7 +5,7 @@ use Rattle.std.specs.List.{AllByRecursion as Each}
 use Rattle.std.proofs.lemmas.Bool.Decides.{nat_tests}
 use Rattle.mv_chain.specs.declared.fate.Fate.TheVariants.{Committed}
 use Rattle.mv_chain.specs.declared.version.Version.{Version}
-use Rattle.mv_chain.specs.Accesses.{Written, Answered, shown, seen, is_busy, nobody, decided, IsUndecided}
+use Rattle.mv_chain.specs.Accesses.{Written, Answered, shown, seen, is_busy, nobody, decided, IsUndecided, read_by}
 use Rattle.mv_chain.specs.Chain.{as_written, may_read, StandsFor, IsBefore, IsChain, IsIndex, raised}
 use Rattle.mv_chain.proofs.Chains.{each_at, pending_shown, none_own, none_pending, chain_set, index_within, shows_last}
 use Rattle.mv_chain.proofs.Exact.{set_itself}
@@ -35,9 +35,9 @@ answered true true stamp from f reader e q g b = grind (arith, nat_tests, e, g, 
 answered true false stamp from f reader e q g b = absurd (cc)
 answered false p stamp from f reader e q g b = grind (arith, nat_tests, e)
 
-pub raised_stands : (vs : List Version) (i from reader : ℕ) (w d : Version) → IsChain vs → IsIndex reader (suc i) vs → w ≡ raised from reader (get_or vs i d) → (key : List ℕ) (low : ℕ) (ws : List Written) (rs : List Answered) → StandsFor key low ws rs vs → low ≤ reader → from ≡ (seen key reader ws).from → is_busy reader (seen key reader ws) ≡ false → StandsFor key low ws (record { reader = reader; key = key; from = from } ∷ rs) (set vs i w)
+pub raised_stands : (vs : List Version) (i from reader : ℕ) (w d : Version) → IsChain vs → IsIndex reader (suc i) vs → w ≡ raised from reader (get_or vs i d) → (key : List ℕ) (low : ℕ) (ws : List Written) (rs : List Answered) → StandsFor key low ws rs vs → low ≤ reader → from ≡ (seen key reader ws).from → is_busy reader (seen key reader ws) ≡ false → StandsFor key low ws (read_by reader key from ∷ rs) (set vs i w)
 raised_stands vs i from reader w d c h e key low ws rs s le source free =
-    subst (λ (f : ℕ). StandsFor key low ws (record { reader = reader; key = key; from = f } ∷ rs) (set vs i w)) stamp (stands_marked key low ws rs vs i reader w d c h (ap as_written is) (ap (λ v. v.pending) is) (ap (λ v. v.mark) is) s)
+    subst (λ (f : ℕ). StandsFor key low ws (read_by reader key f ∷ rs) (set vs i w)) stamp (stands_marked key low ws rs vs i reader w d c h (ap as_written is) (ap (λ v. v.pending) is) (ap (λ v. v.mark) is) s)
   where
     found : shown (as_written (get_or vs i d)) ≡ seen key reader ws
     found = sym (shows_last reader i vs d c h) ∙ s.seen nobody reader le

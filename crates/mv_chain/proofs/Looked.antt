@@ -5,7 +5,7 @@ use Rattle.std.specs.List.{AllByRecursion as Each}
 use Rattle.std.proofs.lemmas.Bool.Decides.{nat_tests}
 use Rattle.mv_chain.specs.declared.version.Version.{Version}
 use Rattle.mv_chain.specs.declared.look.Look.{Look}
-use Rattle.mv_chain.specs.Accesses.{Written, Answered, nobody, seen, is_busy}
+use Rattle.mv_chain.specs.Accesses.{Written, Answered, nobody, seen, is_busy, read_by}
 use Rattle.mv_chain.specs.Chain.{base, shows, is_marked, raised, marked, may_install, StandsFor, IsChain, IsIndex}
 use Rattle.mv_chain.specs.Look.{count_upto, looked}
 use Rattle.mv_chain.specs.Target.{IsOwn, IsNew}
@@ -125,7 +125,7 @@ module _ (t : ℕ) (vs : List Version) (c : IsChain vs) (look : Look) (is : look
 
 -- an answered read, of what was looked at
 pub look_stands : (t : ℕ) (vs : List Version) → IsChain vs → (key : List ℕ) (low : ℕ) (ws : List Written) (rs : List Answered) → StandsFor key low ws rs vs → low ≤ t → is_busy t (seen key t ws) ≡ false
-    → StandsFor key low ws (record { reader = t; key = key; from = (seen key t ws).from } ∷ rs) (marked (shows t vs).from t vs)
+    → StandsFor key low ws (read_by t key (seen key t ws).from ∷ rs) (marked (shows t vs).from t vs)
 look_stands t vs c key low ws rs s le free =
-    subst (λ (f : ℕ). StandsFor key low ws (record { reader = t; key = key; from = (seen key t ws).from } ∷ rs) (marked f t vs)) (sym (ap (λ r. r.from) (s.seen nobody t le)))
+    subst (λ (f : ℕ). StandsFor key low ws (read_by t key (seen key t ws).from ∷ rs) (marked f t vs)) (sym (ap (λ r. r.from) (s.seen nobody t le)))
     (marked_stands (seen key t ws).from t vs c key low ws rs s le refl free)

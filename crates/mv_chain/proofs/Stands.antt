@@ -6,7 +6,7 @@ use Rattle.std.proofs.lemmas.Bool.Decides.{nat_tests}
 use Rattle.mv_chain.specs.declared.fate.Fate.{Fate}
 use Rattle.mv_chain.specs.declared.fate.Fate.TheVariants.{Committed, RolledBack}
 use Rattle.mv_chain.specs.declared.version.Version.{Version}
-use Rattle.mv_chain.specs.Accesses.{Written, Answered, shown, seen_of, seen_without, stands, nobody, deciding, decided, is_late, IsUndecided, IsUnsettled, has_undecided, seen, absent}
+use Rattle.mv_chain.specs.Accesses.{Written, Answered, shown, seen_of, seen_without, stands, nobody, deciding, decided, is_late, IsUndecided, IsUnsettled, has_undecided, seen, absent, read_by}
 use Rattle.mv_chain.specs.Chain.{as_written, shows, shows_without, has_base, StandsFor, IsBefore, IsChain, IsIndex, may_install, fresh}
 use Rattle.mv_chain.proofs.Seen.{and_gone, but_not, cleared, seen_rolled_back, seen_committed, still_undecided, undecided_seen, seen_undecided}
 use Rattle.mv_chain.proofs.Chains.{index_within, shows_none, shows_inserted, marked_inserted, marked_set, writes_set, shows_replaced, shows_committed, shows_removed, marked_removed}
@@ -35,7 +35,7 @@ pub base_index : (low t : ℕ) (vs : List Version) → low ≤ t → IsIndex t z
 base_index low t [] le h b = absurd (cc)
 base_index low t (v ∷ vs) le h b = base_index low t vs le h.1 (grind (arith, nat_tests))
 
-pub stands_marked : (key : List ℕ) (low : ℕ) (ws : List Written) (rs : List Answered) (vs : List Version) (i reader : ℕ) (w d : Version) → IsChain vs → IsIndex reader (suc i) vs → as_written w ≡ as_written (get_or vs i d) → w.pending ≡ (get_or vs i d).pending → w.mark ≡ max (get_or vs i d).mark reader → StandsFor key low ws rs vs → StandsFor key low ws (record { reader = reader; key = key; from = w.timestamp } ∷ rs) (set vs i w)
+pub stands_marked : (key : List ℕ) (low : ℕ) (ws : List Written) (rs : List Answered) (vs : List Version) (i reader : ℕ) (w d : Version) → IsChain vs → IsIndex reader (suc i) vs → as_written w ≡ as_written (get_or vs i d) → w.pending ≡ (get_or vs i d).pending → w.mark ≡ max (get_or vs i d).mark reader → StandsFor key low ws rs vs → StandsFor key low ws (read_by reader key w.timestamp ∷ rs) (set vs i w)
 stands_marked key low ws rs vs i reader w d c h same p m s =
     record {
       seen = λ gone t le. ap (λ xs. seen_of (λ k. true) gone t xs) (writes_set i vs w d lt same) ∙ s.seen gone t le;

@@ -13,19 +13,18 @@ pub record Written : Type 0 where
   pub value : Option (List ℕ)
   pub fate : Option Fate
 
--- a read that was answered: by which timestamp, of which key, and from which timestamp's write (0: none)
+-- a read that was answered: by which timestamp, and of each key that it read, from which timestamp's write (0: none)
 pub record Answered : Type 0 where
   pub reader : ℕ
-  pub key : List ℕ
-  pub from : ℕ
+  pub source : List ℕ → Option ℕ
 
 -- an accepted write whose branch is undecided
 abbrev pub wrote : ℕ → List ℕ → Option (List ℕ) → Written
 wrote t key value = record { timestamp = t; key = key; value = value; fate = None }
 
--- an answered read
+-- an answered read of one key
 abbrev pub read_by : ℕ → List ℕ → ℕ → Answered
-read_by reader key from = record { reader = reader; key = key; from = from }
+read_by reader key from = record { reader = reader; source = λ k. if bytes_eq key k then Some from else None }
 
 -- what a read sees: from which timestamp's write, its value, and whether its branch is undecided
 pub record Seen : Type 0 where
@@ -75,9 +74,14 @@ seen key t writes = seen_without nobody key t writes
 abbrev pub is_busy : ℕ → Seen → Bool
 is_busy t s = s.pending && not (s.from == t)
 
+-- a timestamp stands above the source of what was read, if it was, and below the reader
+abbrev pub is_between : ℕ → ℕ → Option ℕ → Bool
+is_between t reader None = false
+is_between t reader (Some from) = nat_lt from t && nat_lt t reader
+
 -- a write of the key at t is late: some answered read of the key has its source below t and its reader above
 abbrev pub is_late : List ℕ → ℕ → List Answered → Bool
-is_late key t reads = list_any (λ r. bytes_eq r.key key && (nat_lt r.from t && nat_lt t r.reader)) reads
+is_late key t reads = list_any (λ r. is_between t r.reader (r.source key)) reads
 
 -- the branch has an undecided write of the key
 abbrev pub has_undecided : List ℕ → ℕ → List Written → Bool

@@ -13,7 +13,7 @@ use Rattle.std.specs.declared.cmp.Ordering.TheVariants.{Less, Equal, Greater}
 use Rattle.std.proofs.lemmas.Map.Keys.{sorted_head, sorted_tail}
 use Rattle.mv_ranges.specs.Ranges.{Boundaries, is_before, last_mark}
 use Rattle.mv_ranges.specs.Marks.{last_mark_below}
-use Rattle.mv_ranges.proofs.Order.{cmp, before_Less, before_trans, upto_before, le_not_before}
+use Rattle.xa_model.proofs.KeyOrder.{cmp, before_Less, before_trans, upto_before, le_not_before}
 
 -- the order of a map's keys
 abbrev pub keys_cmp : Vec ℕ Global → Vec ℕ Global → Ordering

@@ -1,4 +1,3 @@
-pub mod Order
 pub mod Boundaries
 pub mod Raised
 pub mod Written

@@ -12,7 +12,7 @@ use Rattle.std.specs.declared.cmp.Ordering.TheVariants.{Less, Equal, Greater}
 use Rattle.std.proofs.lemmas.Map.Keys.{sorted_head, sorted_tail}
 use Rattle.mv_ranges.specs.Ranges.{Range, Boundaries, is_before, holds, last_mark, walked}
 use Rattle.mv_ranges.specs.Marks.{Marks, MayBegin, MayEnd, last_mark_below, mark_in, raised}
-use Rattle.mv_ranges.proofs.Order.{cmp, before_Less, flipped, upto_before, before_asym}
+use Rattle.xa_model.proofs.KeyOrder.{cmp, before_Less, flipped, upto_before, before_asym}
 use Rattle.mv_ranges.proofs.Boundaries.{keys_cmp, query, Ascending}
 
 -- a range may begin at the key: it is one of the boundaries, or the mark over it is high enough

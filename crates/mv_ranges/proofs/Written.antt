@@ -15,7 +15,7 @@ use Rattle.std.proofs.lemmas.Map.Text.{is_eq-slice_cmp}
 use Rattle.std.proofs.lemmas.Slice.Eq.{bytes_eq-Decides}
 use Rattle.mv_ranges.specs.Ranges.{Range, Boundaries, is_before, holds}
 use Rattle.mv_ranges.specs.Marks.{lower_keys, raised, raised_at, raised_each}
-use Rattle.mv_ranges.proofs.Order.{cmp, flipped, upto_before, le_not_before}
+use Rattle.xa_model.proofs.KeyOrder.{cmp, flipped, upto_before, le_not_before}
 use Rattle.mv_ranges.proofs.Boundaries.{keys_cmp, query, Ascending}
 use Rattle.mv_ranges.proofs.Raised.{absent, absent_after}
 

@@ -6,7 +6,7 @@ use Rattle.mv_chain.specs.declared.fate.Fate.{Fate}
 use Rattle.mv_chain.specs.declared.fate.Fate.TheVariants.{Committed as kept, RolledBack as gone}
 use Rattle.mv_chain.specs.Accesses.{Written, deciding, decided}
 use Rattle.xa_xid.specs.Triple.{Triple}
-use Rattle.xa_model.specs.State.{Branch, Operation, Got, Wrote, is_known_as, known_of, change, without}
+use Rattle.xa_model.specs.State.{Branch, Operation, Got, Walked, Wrote, is_known_as, known_of, change, without}
 use Rattle.xa_model.specs.Phases.{as_committed}
 use Rattle.xa_model.specs.Data.{having_done}
 use Rattle.xa_model.specs.Invariants.Sound.{Descends}
@@ -29,6 +29,7 @@ unwritten p f h (b ∷ bs) = unwritten_by f b bs (change p f bs) (p b) (h b) (un
 apart : (t u : ℕ) (fate : Option Fate) (ops : List Operation) → (t ≡ u → ⊥) → Each (λ (w : Written). t ≡ w.timestamp → ⊥) (writes_by u fate ops)
 apart t u fate [] ne = tt
 apart t u fate (Got key answer from ∷ older) ne = apart t u fate older ne
+apart t u fate (Walked range found ∷ older) ne = apart t u fate older ne
 apart t u fate (Wrote key value ∷ older) ne = (ne, apart t u fate older ne)
 
 above : (t u : ℕ) → t < u → t ≡ u → ⊥
@@ -65,11 +66,13 @@ wrote_first xid b key value limit (c ∷ bs) h found working =
 decided_other : (t u : ℕ) (f : Fate) (fate : Option Fate) (ops : List Operation) → (u == t) ≡ false → decided t f (writes_by u fate ops) ≡ writes_by u fate ops
 decided_other t u f fate [] ne = refl
 decided_other t u f fate (Got key answer from ∷ older) ne = decided_other t u f fate older ne
+decided_other t u f fate (Walked range found ∷ older) ne = decided_other t u f fate older ne
 decided_other t u f fate (Wrote key value ∷ older) ne = rw ne (ap (λ (ws : List Written). record { timestamp = u; key = key; value = value; fate = fate } ∷ ws) (decided_other t u f fate older ne))
 
 decided_own : (t : ℕ) (f : Fate) (fate : Option Fate) (ops : List Operation) → (t == t) ≡ true → decided t f (writes_by t fate ops) ≡ writes_by t (Some f) ops
 decided_own t f fate [] e = refl
 decided_own t f fate (Got key answer from ∷ older) e = decided_own t f fate older e
+decided_own t f fate (Walked range found ∷ older) e = decided_own t f fate older e
 decided_own t f fate (Wrote key value ∷ older) e = rw e (ap (λ (ws : List Written). record { timestamp = t; key = key; value = value; fate = Some f } ∷ ws) (decided_own t f fate older e))
 
 decided_below : (t limit : ℕ) (f : Fate) (bs : List Branch) → Descends limit bs → limit ≤ t → decided t f (writes_in bs) ≡ writes_in bs
@@ -103,6 +106,7 @@ committed_writes xid b limit (c ∷ bs) h found =
 all_gone : (t : ℕ) (ops : List Operation) (ws : List Written) → IsSameWrites (writes_by t (Some gone) ops ++ ws) ws
 all_gone t [] ws = same_itself ws
 all_gone t (Got key answer from ∷ older) ws = all_gone t older ws
+all_gone t (Walked range found ∷ older) ws = all_gone t older ws
 all_gone t (Wrote key value ∷ older) ws =
     let w : Written = record { timestamp = t; key = key; value = value; fate = Some gone } in
     same_then (w ∷ (writes_by t (Some gone) older ++ ws)) (writes_by t (Some gone) older ++ ws) ws (same_without w (writes_by t (Some gone) older ++ ws) refl) (all_gone t older ws)

@@ -5,7 +5,7 @@ use Rattle.std.specs.List.{AllByRecursion as Each}
 use Rattle.xa_codes.specs.declared.write.Write.{Write}
 use Rattle.mv_chain.specs.declared.fate.Fate.{Fate}
 use Rattle.mv_chain.specs.Accesses.{Written, has_undecided, is_undecided}
-use Rattle.xa_model.specs.State.{Operation, Got, Wrote}
+use Rattle.xa_model.specs.State.{Operation, Got, Walked, Wrote}
 use Rattle.xa_model.specs.Source.{write_of}
 use Rattle.xa_model.specs.Durable.{Pairwise, keys_before, value_in, writes_of}
 use Rattle.xa_model.proofs.LastOfKeys.{writes_of_law}
@@ -52,6 +52,7 @@ held_group key t u fate [] rest = none ((u == t) && is_undecided fate)
     none true = refl
     none false = refl
 held_group key t u fate (Got k answer from ∷ older) rest = held_group key t u fate older rest
+held_group key t u fate (Walked range found ∷ older) rest = held_group key t u fate older rest
 held_group key t u fate (Wrote k value ∷ older) rest =
     ap (λ b. ((bytes_eq key k && ((u == t) && is_undecided fate)) || b)) (held_group key t u fate older rest)
     ∙ ap (λ x. ((x && ((u == t) && is_undecided fate)) || ((((u == t) && is_undecided fate) && is_some (write_of key older)) || has_undecided key t rest))) (bytes_eq_swapped key k)
@@ -77,6 +78,7 @@ count_decided t u f (w ∷ ws) rest = count_decided t u f ws (with_write u (Some
 pub count_group_decided : (t u : ℕ) (f : Fate) (ops : List Operation) (rest : List Written) → undecided_keys t (writes_by u (Some f) ops ++ rest) ≡ undecided_keys t rest
 count_group_decided t u f [] rest = refl
 count_group_decided t u f (Got k answer from ∷ older) rest = count_group_decided t u f older rest
+count_group_decided t u f (Walked range found ∷ older) rest = count_group_decided t u f older rest
 count_group_decided t u f (Wrote k value ∷ older) rest = rw (and_no (u == t)) (count_group_decided t u f older rest)
 
 pub count_branch_other : (t u : ℕ) (fate : Option Fate) (ws : List Write) (rest : List Written) → (u == t) ≡ false → undecided_keys t (with_branch u fate ws rest) ≡ undecided_keys t rest

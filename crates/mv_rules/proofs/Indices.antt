@@ -14,7 +14,7 @@ use Rattle.std.proofs.lemmas.Slice.Eq.{bytes_eq-Decides}
 use Rattle.slab.specs.Slab.{get as chain_in, SameValues}
 use Rattle.mv_chain.specs.Pool.{LeavesOthersAt}
 use Rattle.mv_chain.specs.declared.version.Version.{Version}
-use Rattle.mv_chain.specs.Accesses.{Written, Answered, Seen, nobody, seen, is_busy, has_undecided}
+use Rattle.mv_chain.specs.Accesses.{Written, Answered, Seen, nobody, seen, is_busy, has_undecided, read_by}
 use Rattle.mv_chain.specs.Chain.{fresh, shows, StandsFor as ChainStandsFor}
 use Rattle.mv_rules.specs.declared.records.Records.{Records}
 use Rattle.mv_rules.specs.declared.own.Own.{Own}
@@ -134,7 +134,7 @@ stands_at h h2 r r2 key i here same change stands own others s =
     chain q false e = rw (same q, other_of q (index_of q r) refl e) (others q _ e (s.chains q))
 
 -- a read of another key is nothing to this one
-pub read_elsewhere : (key q : List ℕ) (low t from : ℕ) (ws : List Written) (rs : List Answered) (vs : List Version) → bytes_eq q key ≡ false → ChainStandsFor q low ws rs vs → ChainStandsFor q low ws (record { reader = t; key = key; from = from } ∷ rs) vs
+pub read_elsewhere : (key q : List ℕ) (low t from : ℕ) (ws : List Written) (rs : List Answered) (vs : List Version) → bytes_eq q key ≡ false → ChainStandsFor q low ws rs vs → ChainStandsFor q low ws (read_by t key from ∷ rs) vs
 read_elsewhere key q low t from ws rs vs d s =
     let back : bytes_eq key q ≡ false = bytes_eq_swapped key q ∙ d in
     record { seen = s.seen; own = s.own; late = λ u le. rw (back, s.late u le) refl; based = s.based }

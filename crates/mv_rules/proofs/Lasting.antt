@@ -8,7 +8,7 @@ use Rattle.xa_codes.specs.declared.write.Write.{Write}
 use Rattle.mv_chain.specs.declared.fate.Fate.{Fate}
 use Rattle.mv_chain.specs.Accesses.{Written, Seen, seen_without, stands}
 use Rattle.mv_chain.specs.Last.{everybody, stamped, AreUpto}
-use Rattle.xa_model.specs.State.{Branch, Operation, Got, Wrote, Phase, Working, Prepared, Committed, timestamp_of}
+use Rattle.xa_model.specs.State.{Branch, Operation, Got, Walked, Wrote, Phase, Working, Prepared, Committed, timestamp_of}
 use Rattle.xa_model.specs.Source.{write_of}
 use Rattle.xa_model.specs.Invariants.Sound.{Descends}
 use Rattle.xa_model.specs.Durable.{CommittedBranch, Pairwise, keys_before, committed_part, writes_of, value_in, last_write, is_written, not_overwritten, with_writes, last_writes}
@@ -125,6 +125,7 @@ left_by_key (b ∷ bs) = subst (λ (cs : List CommittedBranch). Each (λ c. Pair
 one_upto : (u t : ℕ) (fate : Option Fate) (ops : List Operation) (rest : List Written) → t ≤ u → AreUpto u rest → AreUpto u (writes_by t fate ops ++ rest)
 one_upto u t fate [] rest le h = h
 one_upto u t fate (Got key answer from ∷ older) rest le h = one_upto u t fate older rest le h
+one_upto u t fate (Walked range found ∷ older) rest le h = one_upto u t fate older rest le h
 one_upto u t fate (Wrote key value ∷ older) rest le h = (le, one_upto u t fate older rest le h)
 
 all_upto : (u limit : ℕ) (bs : List Branch) → Descends limit bs → limit ≤ u + 1 → AreUpto u (writes_in bs)

@@ -6,7 +6,7 @@ use Rattle.std.proofs.lemmas.Bool.Decides.{nat_tests}
 use Rattle.std.proofs.lemmas.Slice.Eq.{bytes_eq-Decides}
 use Rattle.mv_chain.specs.declared.fate.Fate.{Fate}
 use Rattle.mv_chain.specs.Accesses.{Written, Seen, seen, seen_without, stands, nobody, is_undecided, is_late}
-use Rattle.xa_model.specs.State.{Branch, Operation, Got, Wrote, Phase, Working, Prepared, Committed, Read, is_committed}
+use Rattle.xa_model.specs.State.{Branch, Operation, Got, Walked, Wrote, Phase, Working, Prepared, Committed, Read, is_committed}
 use Rattle.xa_model.specs.Source.{Version, write_of, version_by, versions_of, absent, later, newest, source, passes_over, is_late as is_late_among}
 use Rattle.xa_model.specs.Invariants.Sound.{Descends}
 use Rattle.xa_model.proofs.Times.{version_time}
@@ -54,6 +54,7 @@ pub seen_group : (gone : ℕ → Bool) (key : List ℕ) (u t : ℕ) (fate : Opti
     → seen_without gone key u (writes_by t fate ops ++ rest) ≡ seen_one gone u t fate (write_of key ops) (seen_without gone key u rest)
 seen_group gone key u t fate [] rest le = refl
 seen_group gone key u t fate (Got k answer from ∷ older) rest le = seen_group gone key u t fate older rest le
+seen_group gone key u t fate (Walked range found ∷ older) rest le = seen_group gone key u t fate older rest le
 seen_group gone key u t fate (Wrote k value ∷ older) rest le =
     wrote_by gone key k u t fate value older rest (bytes_eq k key) (stands gone t fate && nat_le t u) refl refl le (seen_group gone key u t fate older rest le)
 

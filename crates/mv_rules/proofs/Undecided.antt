@@ -7,7 +7,7 @@ use Rattle.std.proofs.lemmas.List.Folds.{list_any-append}
 use Rattle.mv_chain.specs.declared.fate.Fate.{Fate}
 use Rattle.mv_chain.specs.Accesses.{Written, has_undecided, is_undecided, IsUndecided, IsUnsettled, AreWhole}
 use Rattle.xa_xid.specs.Triple.{Triple}
-use Rattle.xa_model.specs.State.{Branch, Operation, Got, Wrote, is_known_as, known_of}
+use Rattle.xa_model.specs.State.{Branch, Operation, Got, Walked, Wrote, is_known_as, known_of}
 use Rattle.xa_model.specs.Source.{write_of, written_keys}
 use Rattle.xa_model.specs.Invariants.Sound.{Descends}
 use Rattle.xa_model.proofs.Times.{known_below}
@@ -24,6 +24,7 @@ each_append P (x ∷ xs) ys h k = (h.0, each_append P xs ys h.1 k)
 undecided_other : (t u : ℕ) (fate : Option Fate) (ops : List Operation) → (u == t) ≡ false → IsUndecided t (writes_by u fate ops)
 undecided_other t u fate [] ne = tt
 undecided_other t u fate (Got key answer from ∷ older) ne = undecided_other t u fate older ne
+undecided_other t u fate (Walked range found ∷ older) ne = undecided_other t u fate older ne
 undecided_other t u fate (Wrote key value ∷ older) ne = (λ e. absurd (same_not u t ne e), undecided_other t u fate older ne)
   where
     same_not : (u t : ℕ) → (u == t) ≡ false → u ≡ t → ⊥
@@ -32,6 +33,7 @@ undecided_other t u fate (Wrote key value ∷ older) ne = (λ e. absurd (same_no
 held_other : (key : List ℕ) (t u : ℕ) (fate : Option Fate) (ops : List Operation) → (u == t) ≡ false → has_undecided key t (writes_by u fate ops) ≡ false
 held_other key t u fate [] ne = refl
 held_other key t u fate (Got k answer from ∷ older) ne = held_other key t u fate older ne
+held_other key t u fate (Walked range found ∷ older) ne = held_other key t u fate older ne
 held_other key t u fate (Wrote k value ∷ older) ne = rw (ne, held_other key t u fate older ne) (no_or (bytes_eq key k))
   where
     no_or : (b : Bool) → ((b && false) || false) ≡ false
@@ -41,6 +43,7 @@ held_other key t u fate (Wrote k value ∷ older) ne = rw (ne, held_other key t 
 pub count_other : (t u : ℕ) (fate : Option Fate) (ops : List Operation) (ws : List Written) → (u == t) ≡ false → undecided_keys t (writes_by u fate ops ++ ws) ≡ undecided_keys t ws
 count_other t u fate [] ws ne = refl
 count_other t u fate (Got k answer from ∷ older) ws ne = count_other t u fate older ws ne
+count_other t u fate (Walked range found ∷ older) ws ne = count_other t u fate older ws ne
 count_other t u fate (Wrote k value ∷ older) ws ne = rw ne (count_other t u fate older ws ne)
 
 -- branches of lower timestamps
@@ -65,6 +68,7 @@ count_below t limit (b ∷ bs) h le =
 undecided_own : (t : ℕ) (ops : List Operation) → IsUndecided t (writes_by t None ops)
 undecided_own t [] = tt
 undecided_own t (Got key answer from ∷ older) = undecided_own t older
+undecided_own t (Walked range found ∷ older) = undecided_own t older
 undecided_own t (Wrote key value ∷ older) = (λ e. refl, undecided_own t older)
 
 held_by : (key k : List ℕ) (value : Option (List ℕ)) (t : ℕ) (older : List Operation) (c : Bool) → bytes_eq k key ≡ c → (t == t) ≡ true → has_undecided key t (writes_by t None older) ≡ is_some (write_of key older)
@@ -75,6 +79,7 @@ held_by key k value t older false e self ih = let here : bytes_eq key k ≡ fals
 held_own : (key : List ℕ) (t : ℕ) (ops : List Operation) → has_undecided key t (writes_by t None ops) ≡ is_some (write_of key ops)
 held_own key t [] = refl
 held_own key t (Got k answer from ∷ older) = held_own key t older
+held_own key t (Walked range found ∷ older) = held_own key t older
 held_own key t (Wrote k value ∷ older) = held_by key k value t older (bytes_eq k key) refl (time_itself t) (held_own key t older)
 
 held_both : (key : List ℕ) (t : ℕ) (ops : List Operation) (ws : List Written) → has_undecided key t ws ≡ false → has_undecided key t (writes_by t None ops ++ ws) ≡ is_some (write_of key ops)
@@ -88,6 +93,7 @@ count_by t n m false e = ap (λ (i : ℕ). i + 1) e
 pub count_own : (t : ℕ) (ops : List Operation) (ws : List Written) → ((key : List ℕ) → has_undecided key t ws ≡ false) → undecided_keys t ws ≡ 0 → undecided_keys t (writes_by t None ops ++ ws) ≡ written_keys ops
 count_own t [] ws none zero_ = zero_
 count_own t (Got k answer from ∷ older) ws none zero_ = count_own t older ws none zero_
+count_own t (Walked range found ∷ older) ws none zero_ = count_own t older ws none zero_
 count_own t (Wrote k value ∷ older) ws none zero_ =
     rw (time_itself t, held_both k t older ws (none k)) (count_by t (undecided_keys t (writes_by t None older ++ ws)) (written_keys older) (is_some (write_of k older)) (count_own t older ws none zero_))
 
@@ -155,6 +161,7 @@ undecided xid b limit bs h found working = (at_work xid b limit bs h found worki
 held_decided : (key : List ℕ) (t u : ℕ) (f : Fate) (ops : List Operation) → has_undecided key t (writes_by u (Some f) ops) ≡ false
 held_decided key t u f [] = refl
 held_decided key t u f (Got k answer from ∷ older) = held_decided key t u f older
+held_decided key t u f (Walked range found ∷ older) = held_decided key t u f older
 held_decided key t u f (Wrote k value ∷ older) = rw (held_decided key t u f older) (none (bytes_eq key k) (u == t))
   where
     none : (a b : Bool) → ((a && (b && false)) || false) ≡ false

@@ -5,10 +5,10 @@ use Rattle.std.specs.Prelude.{◌≡◌, ℕ, max, not, List, [], ◌∷◌, ◌
 use Rattle.mv_chain.specs.declared.fate.Fate.{Fate}
 use Rattle.mv_chain.specs.declared.fate.Fate.TheVariants.{Committed as kept}
 use Rattle.mv_chain.specs.Accesses.{Written, Answered, Seen, seen, is_late}
-use Rattle.xa_model.specs.State.{State, Branch, Operation, Got, Wrote, Phase, Working, Prepared, Committed}
+use Rattle.xa_model.specs.State.{State, Branch, Operation, Got, Walked, Wrote, Phase, Working, Prepared, Committed}
 use Rattle.xa_model.specs.State.{Read}
 use Rattle.xa_model.specs.Invariants.LowWater.{low_water, work_floor}
-use Rattle.xa_model.specs.Source.{Version, source, is_late as is_late_among}
+use Rattle.xa_model.specs.Source.{Version, source, source_read, is_late as is_late_among}
 use Rattle.xa_model.specs.Invariants.Sound.{Descends}
 use Rattle.mv_rules.specs.Accesses.{Accesses}
 
@@ -21,6 +21,7 @@ fate_of Committed = Some kept
 abbrev pub writes_by : ℕ → Option Fate → List Operation → List Written
 writes_by t fate [] = []
 writes_by t fate (Got key answer from ∷ older) = writes_by t fate older
+writes_by t fate (Walked range found ∷ older) = writes_by t fate older
 writes_by t fate (Wrote key value ∷ older) =
     record { timestamp = t; key = key; value = value; fate = fate } ∷ writes_by t fate older
 
@@ -32,7 +33,7 @@ writes_in [] = []
 writes_in (b ∷ bs) = writes_one b ++ writes_in bs
 
 abbrev pub read_as : Read → Answered
-read_as r = record { reader = r.reader; key = r.key; from = r.source }
+read_as r = record { reader = r.reader; source = λ key. source_read key r.over }
 
 -- From here on the history counts: who reads or writes from now on has its timestamp neither below the floor of work
 -- nor below the low water. What was overwritten before a restart isn't in the log, so records of a new boot don't show

@@ -5,7 +5,7 @@ use Rattle.xa_codes.specs.declared.detail.Detail.TheVariants as detail
 use Rattle.xa_xid.specs.Triple.{Triple}
 use Rattle.xa_frame.specs.declared.body.Body.TheVariants as body
 use Rattle.xa_frame.specs.declared.reply.Reply.{Reply}
-use Rattle.mv_chain.specs.Accesses.{Written, Answered, seen}
+use Rattle.mv_chain.specs.Accesses.{Written, Answered, seen, read_by}
 use Rattle.mv_rules.specs.declared.answers.Got.{Got}
 use Rattle.mv_rules.specs.declared.answers.Got.TheVariants as got_as
 use Rattle.mv_rules.specs.Accesses.{answer_by, answer_of, reads_after}
@@ -13,7 +13,7 @@ use Rattle.mv_rules.specs.Records.{StandsFor as RecordsStandFor}
 use Rattle.mv_rules.specs.Ties.{history_of, low_of, writes_in, read_as, seen_as}
 use Rattle.mv_rules.proofs.Ties.{one_source}
 use Rattle.mv_rules.proofs.Branches.{unwritten}
-use Rattle.xa_model.specs.State.{State, Operation, Got as Read_op, Read, is_known_as, own_branch, change, timestamp_of}
+use Rattle.xa_model.specs.State.{State, Operation, Got as Read_op, Key, Read, is_known_as, own_branch, change, timestamp_of}
 use Rattle.xa_model.specs.Source.{Version, source, is_busy}
 use Rattle.xa_model.specs.Answer.{plain, detailed, carrying, answer, unless, marked}
 use Rattle.xa_model.specs.Data.{having_done, value_body, busy_refusal, got, get_from, get_by}
@@ -107,7 +107,7 @@ get_busy m m' n key xid w by h e c =
 
 -- an answered read is added to the reads
 abbrev IsAnswered : Got → Type 0
-IsAnswered g = (t from : ℕ) (key : List ℕ) (reads : List Answered) → reads_after g t key from reads ≡ record { reader = t; key = key; from = from } ∷ reads
+IsAnswered g = (t from : ℕ) (key : List ℕ) (reads : List Answered) → reads_after g t key from reads ≡ read_by t key from ∷ reads
 
 got_stands : (m m' : View) (s : State) (xid : Triple) (w : Kept_branch) (key : List ℕ) (g : Got) → StandsFor m s → working_at m.branches xid ≡ Some w → (x : IsWorking s xid w) → Gets m w.timestamp key g m' → IsAnswered g
     → IsRecoverable (got s key xid x.branch (source key x.branch.timestamp s.branches)).after → StandsFor m' (got s key xid x.branch (source key x.branch.timestamp s.branches)).after
@@ -115,14 +115,14 @@ got_stands m m' s xid w key g st h x c is recoverable =
     let b = x.branch in
     let v = source key b.timestamp s.branches in
     let op : Operation = Read_op key v.value v.timestamp in
-    let reads : List Read = record { reader = b.timestamp; key = key; source = v.timestamp } ∷ s.reads in
+    let reads : List Read = record { reader = b.timestamp; over = Key key v.timestamp } ∷ s.reads in
     let time = time_of s xid w x in
     let noted : RecordsStandFor (record { low = low_of s; writes = writes_in s.branches; reads = reads_after g w.timestamp key (seen key w.timestamp (writes_in s.branches)).from (map read_as s.reads) }) m'.records =
     c.records (history_of s) st.records (above_low m s xid w st x) in
     let added : reads_after g w.timestamp key (seen key w.timestamp (writes_in s.branches)).from (map read_as s.reads) ≡ map read_as reads =
     is w.timestamp (seen key w.timestamp (writes_in s.branches)).from key (map read_as s.reads)
-    ∙ ap (λ (t : ℕ). record { reader = t; key = key; from = (seen key t (writes_in s.branches)).from } ∷ map read_as s.reads) time
-    ∙ ap (λ (y : ℕ). record { reader = b.timestamp; key = key; from = y } ∷ map read_as s.reads) (ap (λ y. y.from) (sees m s key b.timestamp st)) in
+    ∙ ap (λ (t : ℕ). read_by t key (seen key t (writes_in s.branches)).from ∷ map read_as s.reads) time
+    ∙ ap (λ (y : ℕ). read_by b.timestamp key y ∷ map read_as s.reads) (ap (λ y. y.from) (sees m s key b.timestamp st)) in
     let moved : RecordsStandFor (record { low = low_of s; writes = writes_in s.branches; reads = map read_as reads }) m'.records =
     subst (λ (rs : List Answered). RecordsStandFor (record { low = low_of s; writes = writes_in s.branches; reads = rs }) m'.records) added noted in
     let same : writes_in (change (is_known_as xid) (having_done op) s.branches) ≡ writes_in s.branches = unwritten (is_known_as xid) (having_done op) (λ y. refl) s.branches in

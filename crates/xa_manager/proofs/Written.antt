@@ -14,7 +14,7 @@ use Rattle.mv_rules.specs.Accesses.{last_write, listed_value, IsAscending, IsWri
 use Rattle.mv_rules.specs.Ties.{fate_of, writes_by, writes_in}
 use Rattle.mv_rules.proofs.Ties.{bytes_eq_swapped}
 use Rattle.xa_xid.specs.Triple.{Triple}
-use Rattle.xa_model.specs.State.{Branch, Operation, Got, Wrote, is_known_as, known_of}
+use Rattle.xa_model.specs.State.{Branch, Operation, Got, Walked, Wrote, is_known_as, known_of}
 use Rattle.xa_model.specs.Source.{write_of}
 use Rattle.xa_model.specs.Durable.{Pairwise, keys_before, value_in, writes_of}
 use Rattle.xa_model.specs.Invariants.Sound.{Descends}
@@ -42,6 +42,7 @@ yes_and false c e = refl
 last_other : (key : List ℕ) (t u : ℕ) (fate : Option Fate) (ops : List Operation) (ws : List Written) → (u == t) ≡ false → last_write key t (writes_by u fate ops ++ ws) ≡ last_write key t ws
 last_other key t u fate [] ws ne = refl
 last_other key t u fate (Got k answer from ∷ older) ws ne = last_other key t u fate older ws ne
+last_other key t u fate (Walked range found ∷ older) ws ne = last_other key t u fate older ws ne
 last_other key t u fate (Wrote k value ∷ older) ws ne = rw (no_and (bytes_eq key k) (u == t) ne) (last_other key t u fate older ws ne)
 
 last_below : (key : List ℕ) (t limit : ℕ) (bs : List Branch) → Descends limit bs → limit ≤ t → last_write key t (writes_in bs) ≡ None
@@ -59,6 +60,7 @@ own_by key k value x rest more same e f = rw (same, yes_and (bytes_eq key k) x e
 last_own : (key : List ℕ) (t : ℕ) (fate : Option Fate) (ops : List Operation) (ws : List Written) → last_write key t ws ≡ None → last_write key t (writes_by t fate ops ++ ws) ≡ write_of key ops
 last_own key t fate [] ws none = none
 last_own key t fate (Got k answer from ∷ older) ws none = last_own key t fate older ws none
+last_own key t fate (Walked range found ∷ older) ws none = last_own key t fate older ws none
 last_own key t fate (Wrote k value ∷ older) ws none =
     own_by key k value (t == t) (last_write key t (writes_by t fate older ++ ws)) (write_of key older) (bytes_eq_swapped k key) (itself t) (last_own key t fate older ws none)
 

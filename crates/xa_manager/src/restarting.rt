@@ -253,7 +253,7 @@ impl<D: Disk> Manager<D> {
         }
     }
 
-    /// The row of the request Restart: as `restart`, where lack of memory is an error.
+    /// The row of the request Restart: as `restart`, but lack of memory is an error.
     pub(crate) fn restarted(&mut self) -> Result<Done, AllocError>
         ensures ok { IfOk result (λ d. HasRestarted D.Disk self.old d.reply d.outcome self.new) }
         ensures err { OnErr result (HasWanted D.Disk self.old Request.Restart self.new) }

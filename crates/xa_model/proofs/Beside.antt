@@ -1,7 +1,7 @@
 -- What logs nothing, and touches neither a group's branches nor its sessions, leaves the group as it is.
-use Rattle.std.proofs.Common.{◌≡◌, ℕ, ◌+◌, ◌≤◌, ◌==◌, Bool, true, false, ◌&&◌, not, cond, List, [], ◌∷◌, Option, Some, None, refl, sym}
+use Rattle.std.proofs.Common.{◌≡◌, ℕ, ◌+◌, ◌==◌, Bool, true, false, ◌&&◌, not, cond, List, [], ◌∷◌, Option, Some, None, refl, sym}
 use Rattle.std.proofs.Common.{◌∙◌, ap, subst, arith}
-use Rattle.std.specs.Prelude.{find, filter, map, is_some, nat_lt, option_map}
+use Rattle.std.specs.Prelude.{filter, is_some, nat_lt, option_map}
 use Rattle.std.specs.List.{AllByRecursion, list_any}
 use Rattle.std.proofs.lemmas.Bool.Decides.{nat_tests}
 use Rattle.xa_frame.specs.declared.reply.Reply.{Reply}
@@ -12,8 +12,8 @@ use Rattle.xa_xid.specs.Triple.{Triple, xid_eq}
 use Rattle.xa_xid.proofs.Same.{xid_same}
 use Rattle.xa_model.specs.declared.event.Event.{Event}
 use Rattle.xa_model.specs.declared.event.Event.TheVariants as event
-use Rattle.xa_model.specs.State.{State, Association, Branch, Phase, Session, Working, Prepared, Committed, Up, count, change}
-use Rattle.xa_model.specs.State.{decided_of, known_of, is_known_as, is_with, holders_of, own_branch, owns, is_own}
+use Rattle.xa_model.specs.State.{State, Association, Branch, Phase, Session, Working, Prepared, Committed, Up, change}
+use Rattle.xa_model.specs.State.{known_of, is_known_as, is_with, holders_of, own_branch, owns, is_own}
 use Rattle.xa_model.specs.State.{free_number, new_session, session_of, without}
 use Rattle.xa_model.specs.Answer.{Answer, answer, ok}
 use Rattle.xa_model.specs.Associations.{as_opened, open_by, as_closed, close_by, close_refusal, is_of_session, start_by, end_by}
@@ -24,9 +24,9 @@ use Rattle.xa_model.specs.Early.{early_refusal}
 use Rattle.xa_model.specs.Events.{asks_boot, begins_boot}
 use Rattle.xa_model.specs.KnownBranches.{branches_by}
 use Rattle.xa_model.specs.Listed.{list_after}
-use Rattle.xa_model.specs.Phases.{is_associated, doom_by}
+use Rattle.xa_model.specs.Phases.{doom_by}
 use Rattle.xa_model.specs.Recovering.{recover_by, recovered_from, scan_after, scan_from, scan_of, with_scan}
-use Rattle.xa_model.specs.Step.{row, respond, context_of, opened_of}
+use Rattle.xa_model.specs.Step.{row, respond, context_of}
 use Rattle.xa_model.specs.TimeLimits.{tick_by, ticked, timed_out, timeout_by, runs_out, with_limit}
 use Rattle.xa_model.specs.Turn.{Turn, Now, Appends, unless_now}
 use Rattle.xa_model.specs.Invariants.Sound.{IsSound}

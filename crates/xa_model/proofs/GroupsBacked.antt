@@ -6,7 +6,7 @@ use Rattle.xa_record.specs.declared.record.Record.{Record}
 use Rattle.xa_model.specs.State.{State, Up}
 use Rattle.xa_model.specs.Answer.{Answer}
 use Rattle.xa_model.specs.Logging.{applied, applied_all, down}
-use Rattle.xa_model.specs.Turn.{Asked, Turn, Appends}
+use Rattle.xa_model.specs.Turn.{Asked, Appends}
 use Rattle.xa_model.specs.Invariants.Backing.{Backs, BacksTurn}
 use Rattle.xa_model.specs.Laws.Together.{Part, AppendsOf, AreApart, HaveRoom, left_by, left_by_all, records_of, BacksTogether}
 use Rattle.xa_model.proofs.Appended.{appended_backed}

@@ -10,7 +10,7 @@ use Rattle.std.specs.declared.cmp.Ordering.TheVariants.{Less, Equal, Greater}
 use Rattle.std.proofs.lemmas.Cmp.{nat_list_cmp_total}
 use Rattle.std.proofs.lemmas.Slice.Eq.{bytes_eq-Decides}
 use Rattle.xa_codes.specs.declared.write.Write.{Write}
-use Rattle.xa_model.specs.State.{Operation, Got, Wrote}
+use Rattle.xa_model.specs.State.{Operation, Got, Walked, Wrote}
 use Rattle.xa_model.specs.Source.{write_of}
 use Rattle.xa_model.specs.Durable.{Pairwise, keys_before, value_in, put_write, writes_of}
 use Rattle.xa_model.specs.Laws.Durable.{WritesOf}
@@ -60,6 +60,7 @@ value_put key w (v ∷ vs) =
 found_at : (key : List ℕ) (ops : List Operation) → value_in key (writes_of ops) ≡ write_of key ops
 found_at key [] = refl
 found_at key (Got k answer source ∷ older) = found_at key older
+found_at key (Walked range found ∷ older) = found_at key older
 found_at key (Wrote k value ∷ older) = value_put key (record { key = k; value = value }) (writes_of older) ∙ ap (cond (bytes_eq k key) (Some value)) (found_at key older)
 
 -- keys ascend
@@ -90,6 +91,7 @@ put_ascends w (v ∷ vs) h = ascend_by w v vs (bytes_eq v.key w.key) (keys_befor
 ascends : (ops : List Operation) → Pairwise keys_before (writes_of ops)
 ascends [] = tt
 ascends (Got k answer source ∷ older) = ascends older
+ascends (Walked range found ∷ older) = ascends older
 ascends (Wrote k value ∷ older) = put_ascends (record { key = k; value = value }) (writes_of older) (ascends older)
 
 pub writes_of_law : WritesOf

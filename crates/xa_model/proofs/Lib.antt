@@ -103,6 +103,10 @@ pub mod CrashLists
 pub mod OpenedLists
 pub mod Scans
 pub mod Copies
+pub mod KeyOrder
+pub mod KeysIn
+pub mod WalkedKeys
+pub mod Walks
 pub mod Unasked
 pub mod Totals
 pub mod LowWaters

@@ -12,7 +12,7 @@ use Rattle.xa_model.specs.Laws.LowWater.{BelowKnown, IsReached, BelowNext, Never
 use Rattle.xa_model.proofs.Applied.{below_all}
 use Rattle.xa_model.proofs.Inserts.{all_imply}
 use Rattle.xa_model.proofs.Lists.{change_all}
-use Rattle.xa_model.proofs.Moves.{Core, core, GoesOn, Remain, Moves, remains, restarts, trims, begins, gets, puts}
+use Rattle.xa_model.proofs.Moves.{Core, core, GoesOn, Remain, Moves, remains, restarts, trims, begins, gets, walks, puts}
 use Rattle.xa_model.proofs.MovingRows.{Moved}
 use Rattle.xa_model.proofs.MovingTurns.{turn_moved}
 use Rattle.xa_model.proofs.Pins.{IsOrdered, remain_all}
@@ -206,6 +206,7 @@ moves_rise (restarts boot bs less r idle) o = restarts_rise _ boot bs less r o
 moves_rise (trims boot less) o = trims_rise _ boot less o
 moves_rise (begins xid start limit) o = begins_rise _ xid (new_work start limit) o
 moves_rise (gets key xid b found free) o = done_rises _ xid _ o
+moves_rise (walks range records stamps xid b found sees) o = done_rises _ xid _ o
 moves_rise (puts key value xid b found works on_time) o = done_rises _ xid _ o
 
 -- a state that is a move away

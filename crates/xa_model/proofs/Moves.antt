@@ -4,9 +4,10 @@ use Rattle.std.specs.Prelude.{filter}
 use Rattle.std.specs.List.{AllByRecursion}
 use Rattle.xa_codes.specs.declared.codes.TheConstants.{XA_OK}
 use Rattle.xa_xid.specs.Triple.{Triple}
-use Rattle.xa_model.specs.State.{State, Branch, Read, Got, Wrote, Phase, Working, Prepared, Committed, is_committed, is_known_as, is_with, name_of, known_of, mark_of, timestamp_of, change, without, new_work, new_branch, is_working}
+use Rattle.xa_model.specs.State.{State, Branch, Read, Got, Walked, Wrote, Key, Keys, Phase, Working, Prepared, Committed, is_committed, is_known_as, is_with, name_of, known_of, mark_of, timestamp_of, change, without, new_work, new_branch, is_working}
 use Rattle.xa_model.specs.Source.{source, is_busy, is_late}
-use Rattle.xa_model.specs.Data.{did}
+use Rattle.xa_model.specs.Ranges.{Range}
+use Rattle.xa_model.specs.Data.{did, Sees}
 use Rattle.xa_model.specs.Restarting.{lasts}
 
 -- what timestamp ordering knows of a state
@@ -52,7 +53,13 @@ pub data Moves : Core → Core → Type 0 where
       → is_busy b.timestamp (source key b.timestamp c.branches) ≡ false
       → Moves c (record c {
         branches = did xid (Got key (source key b.timestamp c.branches).value (source key b.timestamp c.branches).timestamp) c.branches;
-        reads = record { reader = b.timestamp; key = key; source = (source key b.timestamp c.branches).timestamp } ∷ c.reads;
+        reads = record { reader = b.timestamp; over = Key key (source key b.timestamp c.branches).timestamp } ∷ c.reads;
+      })
+  walks : {c : Core} (range : Range) (found : List (List ℕ × List ℕ)) (sources : List (List ℕ × ℕ)) (xid : Triple) (b : Branch)
+      → known_of c.branches xid ≡ Some b → Sees range found sources b.timestamp c.branches
+      → Moves c (record c {
+        branches = did xid (Walked range found) c.branches;
+        reads = record { reader = b.timestamp; over = Keys range sources } ∷ c.reads;
       })
   puts : {c : Core} (key : List ℕ) (value : Option (List ℕ)) (xid : Triple) (b : Branch) → known_of c.branches xid ≡ Some b
       → is_working b.phase ≡ true

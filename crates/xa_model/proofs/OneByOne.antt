@@ -2,12 +2,13 @@
 use Rattle.std.proofs.Common.{◌≡◌, ◌⊎◌, inl, inr, ℕ, ◌<◌, ◌≤◌, Bool, true, false, cond, List, [], ◌∷◌, Option, Some, None, refl, sym, ◌∙◌, ap, arith}
 use Rattle.std.specs.Prelude.{bytes_eq, is_some}
 use Rattle.std.specs.List.{AllByRecursion}
-use Rattle.xa_model.specs.State.{Branch, Operation, Got, Wrote, is_committed, committed_of}
+use Rattle.xa_model.specs.State.{Branch, Operation, Got, Walked, Wrote, is_committed, committed_of}
 use Rattle.xa_model.specs.Source.{write_of}
+use Rattle.xa_model.specs.Data.{value_among}
 use Rattle.xa_model.specs.Invariants.Sound.{Descends}
 use Rattle.xa_model.specs.OneCopy.{Map, after, FindsAnswers, map_after, IsOneCopy, HasNoGet}
 use Rattle.xa_model.proofs.Inserts.{all_both}
-use Rattle.xa_model.proofs.Pins.{Has, IsSource, IsOutside, IsRight, Settled, settled_weaker, below_limit}
+use Rattle.xa_model.proofs.Pins.{Has, IsSource, IsOutside, IsRight, Settled, SettledAt, settled_weaker, below_limit}
 use Rattle.xa_model.proofs.Sources.{has_each}
 
 -- a key that is written has the last value, whatever it had before; and one that isn't has what it had
@@ -20,6 +21,7 @@ written_by false value x o y e rest = rest e
 after_written : (ops : List Operation) (map : Map) (key : List ℕ) (x : Option (List ℕ)) → write_of key ops ≡ Some x → after ops map key ≡ x
 after_written [] map key x e = absurd (cc e)
 after_written (Got k answer source ∷ older) map key x e = after_written older map key x e
+after_written (Walked range found ∷ older) map key x e = after_written older map key x e
 after_written (Wrote k value ∷ older) map key x e =
     written_by (bytes_eq k key) value x (write_of key older) (after older map key) e (after_written older map key x)
 
@@ -31,6 +33,7 @@ unwritten_by false value o y z e rest = rest e
 after_unwritten : (ops : List Operation) (map : Map) (key : List ℕ) → write_of key ops ≡ None → after ops map key ≡ map key
 after_unwritten [] map key e = refl
 after_unwritten (Got k answer source ∷ older) map key e = after_unwritten older map key e
+after_unwritten (Walked range found ∷ older) map key e = after_unwritten older map key e
 after_unwritten (Wrote k value ∷ older) map key e =
     unwritten_by (bytes_eq k key) value (write_of key older) (after older map key) (map key) e (after_unwritten older map key)
 
@@ -85,23 +88,28 @@ left_at limit (b ∷ bs) key answer from d most src =
 
 -- so each branch finds its answers
 
+finds_at : (bs : List Branch) (t : ℕ) (k : List ℕ) (answer : Option (List ℕ)) (from : ℕ) (older : List Operation) → Descends t bs
+    → SettledAt (IsRight bs t) k answer from older
+    → after older (map_after (committed_of bs)) k ≡ answer
+finds_at bs t k answer from older d (inl own) = after_written older (map_after (committed_of bs)) k answer own
+finds_at bs t k answer from older d (inr other) =
+    after_unwritten older (map_after (committed_of bs)) k other.0 ∙ left_at t bs k answer from d at_most other.1.source
+  where
+    at_most : AllByRecursion (AtMost k from) bs
+    at_most =
+        all_both (λ b. b.timestamp < t) (IsOutside t k from) (AtMost k from)
+        (λ b less out w. elim (out w) [ inl below ↦ below | inr above ↦ absurd (omega (arith, less, above)) ]) bs
+        (below_limit t bs d) other.1.none_between
+
 finds : (bs : List Branch) (t : ℕ) (ops : List Operation) → Descends t bs → Settled (IsRight bs t) ops
     → FindsAnswers ops (map_after (committed_of bs))
 finds bs t [] d h = tt
 finds bs t (Wrote k value ∷ older) d h = finds bs t older d h
-finds bs t (Got k answer from ∷ older) d h = (
-  elim h.0 [
-    | inl own ↦ after_written older (map_after (committed_of bs)) k answer own
-    | inr other ↦ after_unwritten older (map_after (committed_of bs)) k other.0 ∙ left_at t bs k answer from d (at_most other.1) other.1.source
-  ],
+finds bs t (Got k answer from ∷ older) d h = (finds_at bs t k answer from older d h.0, finds bs t older d h.1)
+finds bs t (Walked range found ∷ older) d h = (
+  λ k within. let there = h.0 k within in finds_at bs t k (value_among k found) there.0 older d there.1,
   finds bs t older d h.1,
 )
-  where
-    at_most : IsRight bs t k answer from → AllByRecursion (AtMost k from) bs
-    at_most r =
-        all_both (λ b. b.timestamp < t) (IsOutside t k from) (AtMost k from)
-        (λ b less out w. elim (out w) [ inl below ↦ below | inr above ↦ absurd (omega (arith, less, above)) ]) bs
-        (below_limit t bs d) r.none_between
 
 -- what stands above a reader isn't its source
 right_below : (b : Branch) (bs : List Branch) (t : ℕ) (key : List ℕ) (answer : Option (List ℕ)) (from : ℕ) → t ≤ b.timestamp
@@ -151,4 +159,5 @@ committed_descends limit (b ∷ bs) d = by_phase (is_committed b.phase) (committ
 pub unread_settled : (pin : List ℕ → Option (List ℕ) → ℕ → Type 0) (ops : List Operation) → HasNoGet ops → Settled pin ops
 unread_settled pin [] h = tt
 unread_settled pin (Got k answer from ∷ older) h = absurd h
+unread_settled pin (Walked range found ∷ older) h = absurd h
 unread_settled pin (Wrote k value ∷ older) h = unread_settled pin older h

@@ -2,7 +2,9 @@
 use Rattle.std.proofs.Common.{◌≡◌, ◌⊎◌, inl, inr, ℕ, ◌+◌, ◌^◌, ◌<◌, ◌≤◌, Bool, true, false, cond, List, [], ◌∷◌, Option, Some, None, refl, sym, ◌∙◌, ap, subst, arith}
 use Rattle.std.specs.Prelude.{is_some, find}
 use Rattle.std.specs.List.{AllByRecursion}
-use Rattle.xa_model.specs.State.{Branch, Operation, Got, Wrote, is_committed, is_working, timestamp_of, change}
+use Rattle.xa_model.specs.Ranges.{holds}
+use Rattle.xa_model.specs.Data.{value_among}
+use Rattle.xa_model.specs.State.{Branch, Operation, Got, Walked, Wrote, is_committed, is_working, timestamp_of, change}
 use Rattle.xa_model.specs.Source.{write_of, is_late}
 use Rattle.xa_model.specs.Invariants.Sound.{Descends}
 use Rattle.xa_model.proofs.Inserts.{all_imply, all_both}
@@ -31,12 +33,17 @@ pub record IsPinned (floor : ℕ) (c : Core) (t : ℕ) (key : List ℕ) (answer 
   pub right : IsRight c.branches t key answer from
   pub guarded : (u : ℕ) → from < u → u < t → (u ≤ floor) ⊎ (is_late key u c.reads ≡ true)
 
--- each get saw its branch's own last write, or the branch had written nothing, and it is pinned
+-- a read of a key saw its branch's own last write, or the branch had written nothing, and it is pinned
+abbrev pub SettledAt : (List ℕ → Option (List ℕ) → ℕ → Type 0) → List ℕ → Option (List ℕ) → ℕ → List Operation → Type 0
+SettledAt pin key answer from older = (write_of key older ≡ Some answer) ⊎ ((write_of key older ≡ None) × pin key answer from)
+
+-- so did each get, and each walk of every key of its range
 abbrev pub Settled : (List ℕ → Option (List ℕ) → ℕ → Type 0) → List Operation → Type 0
 Settled pin [] = Unit {0}
 Settled pin (Wrote key value ∷ older) = Settled pin older
-Settled pin (Got key answer from ∷ older) =
-    ((write_of key older ≡ Some answer) ⊎ ((write_of key older ≡ None) × pin key answer from)) × Settled pin older
+Settled pin (Got key answer from ∷ older) = SettledAt pin key answer from older × Settled pin older
+Settled pin (Walked range found ∷ older) =
+    ((key : List ℕ) → holds range key ≡ true → (from : ℕ) × SettledAt pin key (value_among key found) from older) × Settled pin older
 
 -- it isn't at work, or above this timestamp
 abbrev pub WorksAbove : ℕ → Branch → Type 0
@@ -53,12 +60,21 @@ pub record AreSettled (c : Core) : Type 0 where
   pub work : AllByRecursion (WorksAbove floor) c.branches
   pub pins : ArePinned floor c c.branches
 
+weaker_at : (p q : List ℕ → Option (List ℕ) → ℕ → Type 0) (key : List ℕ) (answer : Option (List ℕ)) (from : ℕ) (older : List Operation)
+    → ((key : List ℕ) (answer : Option (List ℕ)) (from : ℕ) → p key answer from → q key answer from) → SettledAt p key answer from older
+    → SettledAt q key answer from older
+weaker_at p q key answer from older f (inl own) = inl own
+weaker_at p q key answer from older f (inr pinned) = inr (pinned.0, f key answer from pinned.1)
+
 pub settled_weaker : (p q : List ℕ → Option (List ℕ) → ℕ → Type 0) (ops : List Operation)
     → ((key : List ℕ) (answer : Option (List ℕ)) (from : ℕ) → p key answer from → q key answer from) → Settled p ops → Settled q ops
 settled_weaker p q [] f h = tt
 settled_weaker p q (Wrote key value ∷ older) f h = settled_weaker p q older f h
-settled_weaker p q (Got key answer from ∷ older) f h =
-    (elim h.0 [ inl own ↦ inl own | inr pinned ↦ inr (pinned.0, f key answer from pinned.1) ], settled_weaker p q older f h.1)
+settled_weaker p q (Got key answer from ∷ older) f h = (weaker_at p q key answer from older f h.0, settled_weaker p q older f h.1)
+settled_weaker p q (Walked range found ∷ older) f h = (
+  λ key within. let there = h.0 key within in (there.0, weaker_at p q key (value_among key found) there.0 older f there.1),
+  settled_weaker p q older f h.1,
+)
 
 -- lists
 

@@ -28,7 +28,7 @@ use Rattle.xa_model.proofs.Replies.{AllOf, taken_all}
 use Rattle.xa_model.proofs.Answering.{Settles, IsSettled, parts_of, one_phase_bad, unless_settles, marked_settles, cond_settles, call_settles}
 use Rattle.xa_model.proofs.Fated.{IsFated, now_has}
 use Rattle.xa_model.proofs.Listing.{prepared_held, listed_held}
-use Rattle.xa_model.proofs.Moves.{Core, Moves, remains, restarts, trims, begins, gets, puts}
+use Rattle.xa_model.proofs.Moves.{Core, Moves, remains, restarts, trims, begins, gets, walks, puts}
 use Rattle.xa_model.proofs.Pins.{remain_all}
 use Rattle.xa_model.proofs.MovingTurns.{always}
 use Rattle.xa_model.proofs.StillListed.{Holds, always_kept}
@@ -47,6 +47,7 @@ moves_refuse (restarts boot bs less r idle) h = remain_all IsRefusal IsRefusal (
 moves_refuse (trims boot less) h = h
 moves_refuse (begins xid start limit) h = ((λ e. cc e), h)
 moves_refuse (gets key xid b found free) h = change_all IsRefusal (is_known_as xid) (having_done _) (λ x k. k) _ h
+moves_refuse (walks range records stamps xid b found sees) h = change_all IsRefusal (is_known_as xid) (having_done _) (λ x k. k) _ h
 moves_refuse (puts key value xid b found works on_time) h = change_all IsRefusal (is_known_as xid) (having_done _) (λ x k. k) _ h
 
 marked_as : (p : Phase) → mark_in (known_by p) ≡ mark_of p

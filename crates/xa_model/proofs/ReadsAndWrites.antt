@@ -1,29 +1,32 @@
 -- Gets and puts leave answered reads right.
-use Rattle.std.proofs.Common.{◌≡◌, ◌⊎◌, inl, inr, ℕ, ◌+◌, ◌<◌, ◌≤◌, ◌==◌, Bool, true, false, not, ◌&&◌, cond, List, [], ◌∷◌, Option, Some, None, refl, sym, ◌∙◌, ap, subst, arith}
-use Rattle.std.specs.Prelude.{bytes_eq, is_some}
+use Rattle.std.proofs.Common.{◌≡◌, ◌⊎◌, inl, inr, ℕ, ◌+◌, ◌<◌, ◌≤◌, ◌==◌, Bool, true, false, not, ◌&&◌, ◌||◌, cond, List, [], ◌∷◌, Option, Some, None, refl, sym, ◌∙◌, ap, subst, arith}
+use Rattle.std.specs.Prelude.{bytes_eq, is_some, nat_lt}
 use Rattle.std.specs.List.{AllByRecursion}
 use Rattle.std.proofs.lemmas.Bool.{cases_lt}
 use Rattle.std.proofs.lemmas.Bool.Decides.{nat_tests}
 use Rattle.std.proofs.lemmas.Slice.Eq.{bytes_eq-Decides}
 use Rattle.xa_xid.specs.Triple.{Triple}
-use Rattle.xa_model.specs.State.{Branch, Read, Operation, Got, Wrote, is_known_as, is_working, known_of, timestamp_of}
-use Rattle.xa_model.specs.Source.{Version, write_of, absent, source, is_busy, is_late}
+use Rattle.xa_model.specs.State.{Branch, Read, Operation, Got, Walked, Wrote, Key, Keys, is_known_as, is_working, known_of, timestamp_of}
+use Rattle.xa_model.specs.Source.{Version, write_of, absent, source, source_read, is_busy, is_late}
 use Rattle.xa_model.specs.Invariants.Sound.{Descends}
 use Rattle.xa_model.specs.Data.{having_done, did}
 use Rattle.xa_model.proofs.Inserts.{all_imply}
 use Rattle.xa_model.proofs.Keys.{key_itself}
 use Rattle.xa_model.proofs.Lists.{found_all, change_all}
-use Rattle.xa_model.proofs.Moves.{Core, Moves, remains, restarts, trims, begins, gets, puts, known_uncommitted}
-use Rattle.xa_model.proofs.Pins.{Has, IsSource, IsOutside, IsRight, IsPinned, Settled, WorksAbove, ArePinned, AreSettled, IsOrdered, settled_weaker, changed_has, changed_all, remains_settled, restarts_settled, trims_settled, begins_settled}
+use Rattle.xa_model.proofs.Moves.{Core, Moves, remains, restarts, trims, begins, gets, walks, puts, known_uncommitted}
+use Rattle.xa_model.proofs.Pins.{Has, IsSource, IsOutside, IsRight, IsPinned, Settled, SettledAt, WorksAbove, ArePinned, AreSettled, IsOrdered, settled_weaker, changed_has, changed_all, remains_settled, restarts_settled, trims_settled, begins_settled}
 use Rattle.xa_model.proofs.Sources.{Left, IsAtMost, IsNewest, source_is, found_one}
 
 later_read : (key : List ℕ) (u : ℕ) (r : Read) (reads : List Read) → is_late key u reads ≡ true → is_late key u (r ∷ reads) ≡ true
 later_read key u r reads e = grind (arith, e)
 
 -- a read of this key passes over what stands between its source and its reader
-between : (key : List ℕ) (u from t : ℕ) (reads : List Read) → from < u → u < t → is_late key u
-    (record { reader = t; key = key; source = from } ∷ reads) ≡ true
-between key u from t reads above under = grind (arith, nat_tests, key_itself key)
+between : (key : List ℕ) (u from t : ℕ) (r : Read) (reads : List Read) → r.reader ≡ t → source_read key r.over ≡ Some from → from < u → u < t
+    → is_late key u (r ∷ reads) ≡ true
+between key u from t r reads by source above under = rw (source, by) (above_or (nat_lt from u && nat_lt u t) (grind (arith, nat_tests)))
+  where
+    above_or : (c : Bool) → c ≡ true → (c || is_late key u reads) ≡ true
+    above_or c e = rw e refl
 
 has_imply : {A : Type 0} (P Q : A → Type 0) → ((x : A) → P x → Q x) → (xs : List A) → Has P xs → Has Q xs
 has_imply P Q f [] h = absurd h
@@ -38,81 +41,50 @@ is_free : (committed : Bool) (u t : ℕ) → u < t → (not committed && not (u 
 is_free true u t less e = refl
 is_free false u t less e = grind (arith, nat_tests)
 
--- an answered get
+-- an answered get or walk: an operation that writes nothing, and its read
 
-module _ (floor : ℕ) (c : Core) (key : List ℕ) (xid : Triple) (b : Branch) (found : known_of c.branches xid ≡ Some b)
-    (free : is_busy b.timestamp (source key b.timestamp c.branches) ≡ false) (o : IsOrdered c) where
-  abbrev v : Version
-  v = source key b.timestamp c.branches
-
-  abbrev op : Operation
-  op = Got key v.value v.timestamp
-
-  abbrev after_get : Core
-  after_get = record c {
-    branches = did xid op c.branches;
-    reads = record { reader = b.timestamp; key = key; source = v.timestamp } ∷ c.reads;
-  }
-
-  newest : IsNewest key b.timestamp c.branches absent v
-  newest = source_is key b.timestamp c.branches
+module _ (floor : ℕ) (c : Core) (xid : Triple) (b : Branch) (found : known_of c.branches xid ≡ Some b) (o : IsOrdered c) (op : Operation)
+    (silent : (k : List ℕ) (ops : List Operation) → write_of k (op ∷ ops) ≡ write_of k ops) (r : Read) (by : r.reader ≡ b.timestamp) where
+  abbrev after_read : Core
+  after_read = record c { branches = did xid op c.branches; reads = r ∷ c.reads }
 
   -- the source of another read stays where it is, and so does what stands outside of it
   right_on : (t : ℕ) (k : List ℕ) (answer : Option (List ℕ)) (from : ℕ) → IsRight c.branches t k answer from
-      → IsRight after_get.branches t k answer from
+      → IsRight after_read.branches t k answer from
   right_on t k answer from h = record {
     earlier = h.earlier;
     source = elim h.source [
       | inl zero ↦ inl zero
-      | inr there ↦ inr (changed_has (IsSource k answer from) (is_known_as xid) (having_done op) (λ x known src. src) c.branches there)
+      | inr there ↦ inr
+          (changed_has (IsSource k answer from) (is_known_as xid) (having_done op)
+          (λ x known src. (src.0, src.1, silent k x.operations ∙ src.2)) c.branches there)
     ];
-    none_between = change_all (IsOutside t k from) (is_known_as xid) (having_done op) (λ x out. out) c.branches h.none_between;
+    none_between =
+        change_all (IsOutside t k from) (is_known_as xid) (having_done op)
+        (λ x out w. out (ap (λ y. is_some y) (sym (silent k x.operations)) ∙ w)) c.branches h.none_between;
   }
 
-  pins_on : (t : ℕ) (k : List ℕ) (answer : Option (List ℕ)) (from : ℕ) → IsPinned floor c t k answer from → IsPinned floor after_get t k answer from
+  pins_on : (t : ℕ) (k : List ℕ) (answer : Option (List ℕ)) (from : ℕ) → IsPinned floor c t k answer from → IsPinned floor after_read t k answer from
   pins_on t k answer from p = record {
     right = right_on t k answer from p.right;
     guarded = λ u above under. elim (p.guarded u above under) [ inl old ↦ inl old | inr late ↦ inr (later_read k u _ c.reads late) ];
   }
 
-  -- another branch's version
-  other_read : v.timestamp < b.timestamp → ((v.timestamp ≡ 0) × (v.value ≡ None)) ⊎ Has (IsSource key v.value v.timestamp) c.branches
-      → (write_of key b.operations ≡ None) × IsPinned floor after_get b.timestamp key v.value v.timestamp
-  other_read less src = (
-    unwritten (write_of key b.operations) refl,
-    record {
-      right = right_on b.timestamp key v.value v.timestamp right;
-      guarded = λ u above under. inr (between key u v.timestamp b.timestamp c.reads above under);
-    },
-  )
-    where
-      unwritten : (w : Option (Option (List ℕ))) → write_of key b.operations ≡ w → write_of key b.operations ≡ None
-      unwritten None e = e
-      unwritten (Some x) e =
-          let most : IsAtMost key b.timestamp v.timestamp b
-          = found_all (IsAtMost key b.timestamp v.timestamp) (is_known_as xid) b c.branches newest.greatest found in
-          absurd (omega (arith, less, most (ap (λ w. is_some w) e) (omega arith)))
+  done_pinned : (Settled (IsPinned floor after_read b.timestamp) b.operations → Settled (IsPinned floor after_read b.timestamp) (op ∷ b.operations))
+      → ArePinned floor c c.branches
+      → ArePinned floor after_read after_read.branches
+  done_pinned here h =
+      changed_all (λ x. Settled (IsPinned floor c x.timestamp) x.operations) (λ x. Settled (IsPinned floor after_read x.timestamp) x.operations)
+      (is_known_as xid) (having_done op)
+      (λ x k. settled_weaker (IsPinned floor c x.timestamp) (IsPinned floor after_read x.timestamp) x.operations (pins_on x.timestamp) k) b c.branches found h
+      (λ k. here (settled_weaker (IsPinned floor c b.timestamp) (IsPinned floor after_read b.timestamp) b.operations (pins_on b.timestamp) k))
 
-      right : IsRight c.branches b.timestamp key v.value v.timestamp
-      right = record {
-        earlier = less;
-        source = src;
-        none_between = all_imply (IsAtMost key b.timestamp v.timestamp) (IsOutside b.timestamp key v.timestamp)
-            (λ x most w. outside x.timestamp (most w)) c.branches newest.greatest;
-      }
-        where
-          outside : (u : ℕ) → (u ≤ b.timestamp → u ≤ v.timestamp) → (u ≤ v.timestamp) ⊎ (b.timestamp ≤ u)
-          outside u most = elim (cases_lt u b.timestamp) [ inl less ↦ inl (most (omega arith)) | inr more ↦ inr more ]
+  abbrev seen : List ℕ → Version
+  seen key = source key b.timestamp c.branches
 
-  own_read : v.timestamp ≡ b.timestamp → Has (Left key v) c.branches → write_of key b.operations ≡ Some v.value
-  own_read same there =
-      found_one (λ x. write_of key x.operations ≡ Some v.value) (timestamp_of c.boot c.given + 1) (is_known_as xid) b c.branches o.descends found
-      (has_imply (Left key v) (λ x. (x.timestamp ≡ b.timestamp) × (write_of key x.operations ≡ Some v.value))
-      (λ x l. (l.0 ∙ same, l.2)) c.branches there)
-
-  answered : (write_of key b.operations ≡ Some v.value) ⊎
-      ((write_of key b.operations ≡ None) × IsPinned floor after_get b.timestamp key v.value v.timestamp)
-  answered =
+  answered : (key : List ℕ) → is_busy b.timestamp (seen key) ≡ false → source_read key r.over ≡ Some (seen key).timestamp
+      → SettledAt (IsPinned floor after_read b.timestamp) key (seen key).value (seen key).timestamp b.operations
+  answered key free covered =
       elim newest.from [
         | inl none ↦ inr
             (other_read (omega (arith, ap (λ (x : Version). x.timestamp) none, positive))
@@ -125,6 +97,12 @@ module _ (floor : ℕ) (c : Core) (key : List ℕ) (xid : Triple) (b : Branch) (
         ]
       ]
     where
+      v : Version
+      v = seen key
+
+      newest : IsNewest key b.timestamp c.branches absent v
+      newest = source_is key b.timestamp c.branches
+
       positive : 0 < b.timestamp
       positive =
           found_all (λ (x : Branch). 0 < x.timestamp) (is_known_as xid) b c.branches
@@ -133,12 +111,37 @@ module _ (floor : ℕ) (c : Core) (key : List ℕ) (xid : Triple) (b : Branch) (
       settled : v.timestamp < b.timestamp → v.committed ≡ true
       settled less = is_free v.committed v.timestamp b.timestamp less free
 
-  gets_pinned : ArePinned floor c c.branches → ArePinned floor after_get after_get.branches
-  gets_pinned h =
-      changed_all (λ x. Settled (IsPinned floor c x.timestamp) x.operations) (λ x. Settled (IsPinned floor after_get x.timestamp) x.operations)
-      (is_known_as xid) (having_done op)
-      (λ x k. settled_weaker (IsPinned floor c x.timestamp) (IsPinned floor after_get x.timestamp) x.operations (pins_on x.timestamp) k) b c.branches found h
-      (λ k. (answered, settled_weaker (IsPinned floor c b.timestamp) (IsPinned floor after_get b.timestamp) b.operations (pins_on b.timestamp) k))
+      own_read : v.timestamp ≡ b.timestamp → Has (Left key v) c.branches → write_of key b.operations ≡ Some v.value
+      own_read same there =
+          found_one (λ x. write_of key x.operations ≡ Some v.value) (timestamp_of c.boot c.given + 1) (is_known_as xid) b c.branches o.descends found
+          (has_imply (Left key v) (λ x. (x.timestamp ≡ b.timestamp) × (write_of key x.operations ≡ Some v.value))
+          (λ x l. (l.0 ∙ same, l.2)) c.branches there)
+
+      unwritten : v.timestamp < b.timestamp → (w : Option (Option (List ℕ))) → write_of key b.operations ≡ w → write_of key b.operations ≡ None
+      unwritten less None e = e
+      unwritten less (Some x) e =
+          let most : IsAtMost key b.timestamp v.timestamp b
+          = found_all (IsAtMost key b.timestamp v.timestamp) (is_known_as xid) b c.branches newest.greatest found in
+          absurd (omega (arith, less, most (ap (λ w. is_some w) e) (omega arith)))
+
+      outside : (u : ℕ) → (u ≤ b.timestamp → u ≤ v.timestamp) → (u ≤ v.timestamp) ⊎ (b.timestamp ≤ u)
+      outside u most = elim (cases_lt u b.timestamp) [ inl less ↦ inl (most (omega arith)) | inr more ↦ inr more ]
+
+      -- another branch's version
+      other_read : v.timestamp < b.timestamp → ((v.timestamp ≡ 0) × (v.value ≡ None)) ⊎ Has (IsSource key v.value v.timestamp) c.branches
+          → (write_of key b.operations ≡ None) × IsPinned floor after_read b.timestamp key v.value v.timestamp
+      other_read less src = (
+        unwritten less (write_of key b.operations) refl,
+        record {
+          right = right_on b.timestamp key v.value v.timestamp (record {
+            earlier = less;
+            source = src;
+            none_between = all_imply (IsAtMost key b.timestamp v.timestamp) (IsOutside b.timestamp key v.timestamp)
+                (λ x most w. outside x.timestamp (most w)) c.branches newest.greatest;
+          });
+          guarded = λ u above under. inr (between key u v.timestamp b.timestamp r c.reads by covered above under);
+        },
+      )
 
 -- an accepted put
 
@@ -210,12 +213,40 @@ moves_settled (remains bs r) o h = remains_settled _ bs r o h
 moves_settled (restarts boot bs less r idle) o h = restarts_settled _ boot bs less r idle o h
 moves_settled (trims boot less) o h = trims_settled _ boot less h
 moves_settled (begins xid start limit) o h = begins_settled _ _ refl refl h
-moves_settled {c} (gets key xid b found free) o h = record {
-  floor = h.floor;
-  low = h.low;
-  work = done_work h.floor xid _ c.branches h.work;
-  pins = gets_pinned h.floor c key xid b found free o h.pins;
-}
+moves_settled {c} (gets key xid b found free) o h =
+    let v : Version = source key b.timestamp c.branches in
+    let op : Operation = Got key v.value v.timestamp in
+    let r : Read = record { reader = b.timestamp; over = Key key v.timestamp } in
+    record {
+      floor = h.floor;
+      low = h.low;
+      work = done_work h.floor xid op c.branches h.work;
+      pins =
+          done_pinned h.floor c xid b found o op (λ k ops. refl) r refl
+          (λ k. (answered h.floor c xid b found o op (λ k ops. refl) r refl key free (rw (key_itself key) refl), k)) h.pins;
+    }
+moves_settled {c} (walks range records stamps xid b found sees) o h =
+    let op : Operation = Walked range records in
+    let r : Read = record { reader = b.timestamp; over = Keys range stamps } in
+    record {
+      floor = h.floor;
+      low = h.low;
+      work = done_work h.floor xid op c.branches h.work;
+      pins =
+          done_pinned h.floor c xid b found o op (λ k ops. refl) r refl
+          (λ k. (
+            λ key within. (
+              (source key b.timestamp c.branches).timestamp,
+              subst
+                  (λ (x : Option (List ℕ)). SettledAt (IsPinned h.floor (after_read h.floor c xid b found o op (λ k ops. refl) r refl) b.timestamp) key x
+                  (source key b.timestamp c.branches).timestamp b.operations)
+                  (sees.values key within)
+                  (answered h.floor c xid b found o op (λ k ops. refl) r refl key (sees.free key within)
+                  (rw within (ap (λ (n : ℕ). Some n) (sym (sees.stamps key within))))),
+            ),
+            k,
+          )) h.pins;
+    }
 moves_settled {c} (puts key value xid b found works on_time) o h = record {
   floor = h.floor;
   low = h.low;

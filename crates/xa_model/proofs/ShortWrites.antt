@@ -7,7 +7,7 @@ use Rattle.std.specs.Ordering.{nat_cmp, is_lt}
 use Rattle.std.proofs.lemmas.Bool.Decides.{nat_tests}
 use Rattle.xa_codes.specs.declared.write.Write.{Write}
 use Rattle.xa_record.specs.Limits.{IsWrite, AscendsFrom, AreWrites}
-use Rattle.xa_model.specs.State.{Operation, Got, Wrote}
+use Rattle.xa_model.specs.State.{Operation, Got, Walked, Wrote}
 use Rattle.xa_model.specs.Source.{write_of, written_keys}
 use Rattle.xa_model.specs.Durable.{Pairwise, keys_before, value_in, put_write, writes_of}
 use Rattle.xa_model.specs.Fold.{is_empty}
@@ -45,6 +45,7 @@ put_length w (v ∷ vs) h = put_length_by w v vs (bytes_eq v.key w.key) (keys_be
 pub writes_count : (ops : List Operation) → length (writes_of ops) ≡ written_keys ops
 writes_count [] = refl
 writes_count (Got key answer source ∷ older) = writes_count older
+writes_count (Walked range found ∷ older) = writes_count older
 writes_count (Wrote key value ∷ older) =
     put_length (record { key = key; value = value }) (writes_of older) (writes_of_law older).0
     ∙ ap (λ (o : Option (Option (List ℕ))). cond (is_some o) (length (writes_of older)) (length (writes_of older) + 1)) ((writes_of_law older).1 key)

@@ -5,13 +5,14 @@ use Rattle.std.specs.List.{list_any}
 use Rattle.xa_codes.specs.declared.codes.TheConstants.{XA_RBTRANSIENT, XA_RBOTHER}
 use Rattle.xa_frame.specs.declared.request.Request.{Request}
 use Rattle.xa_xid.specs.Triple.{Triple}
-use Rattle.xa_model.specs.State.{State, Branch, Got, Wrote, Session, known_as, change, session_of}
+use Rattle.xa_model.specs.State.{State, Branch, Got, Walked, Wrote, Session, known_as, change, session_of}
 use Rattle.xa_model.specs.Source.{Version, source}
 use Rattle.xa_model.specs.Answer.{ok}
 use Rattle.xa_model.specs.Early.{early_refusal, call_of, passes_down, Context}
 use Rattle.xa_model.specs.Associations.{as_closed, close_refusal, close_by, with_mark, is_of_session}
 use Rattle.xa_model.specs.Phases.{doom_refusal, doomed, doom_by}
-use Rattle.xa_model.specs.Data.{having_done, got, get_by, put_by}
+use Rattle.xa_model.specs.Ranges.{Range}
+use Rattle.xa_model.specs.Data.{having_done, got, get_by, put_by, walked}
 use Rattle.xa_model.specs.Durable.{durable}
 use Rattle.xa_model.specs.Listed.{list_after}
 use Rattle.xa_model.specs.TimeLimits.{timed_out, with_limit, tick_by, timeout_by}
@@ -47,6 +48,11 @@ more_reads s reads h = sound_beside s reads s.logged_boot s.end s.standing s.ope
 
 got_sound : (s : State) (key : List ℕ) (xid : Triple) (b : Branch) (v : Version) → IsSound s → IsSound (got s key xid b v).after
 got_sound s key xid b v h = more_reads _ _ (changed_sound s (having_done (Got key v.value v.timestamp)) xid (done_keeps (Got key v.value v.timestamp)) h)
+
+pub walked_sound : (s : State) (range : Range) (found : List (List ℕ × List ℕ)) (sources : List (List ℕ × ℕ)) (xid : Triple) (b : Branch) → IsSound s
+    → IsSound (walked s range found sources xid b)
+walked_sound s range found sources xid b h =
+    more_reads _ _ (changed_sound s (having_done (Walked range found)) xid (done_keeps (Walked range found)) h)
 
 pub get_sound : (s : State) (key : List ℕ) (o : Option (Triple × Branch)) → IsSound s → IsSound (get_by s key o).after
 get_sound s key None h = h

@@ -10,7 +10,7 @@ use Rattle.xa_model.specs.Laws.LowWater.{WorksAbove, BeginsAbove, FloorNeverFall
 use Rattle.xa_model.proofs.Inserts.{all_imply}
 use Rattle.xa_model.proofs.Lists.{change_all}
 use Rattle.xa_model.proofs.LowWaters.{lesser_first}
-use Rattle.xa_model.proofs.Moves.{Core, core, Remain, Moves, remains, restarts, trims, begins, gets, puts}
+use Rattle.xa_model.proofs.Moves.{Core, core, Remain, Moves, remains, restarts, trims, begins, gets, walks, puts}
 use Rattle.xa_model.proofs.MovingRows.{Moved}
 use Rattle.xa_model.proofs.MovingTurns.{turn_moved}
 use Rattle.xa_model.proofs.Pins.{remain_all}
@@ -95,6 +95,7 @@ moves_lift {c} (begins xid start limit) =
     let new = new_branch (timestamp_of c.boot (c.given + 1)) xid (new_work start limit) in
     floor_stays c (record c { given = c.given + 1; branches = new ∷ c.branches }) (omega arith) (λ h. ((λ works. omega (arith, floor_boot c)), h))
 moves_lift {c} (gets key xid b found free) = done_lifts c xid _
+moves_lift {c} (walks range records stamps xid b found sees) = done_lifts c xid _
 moves_lift {c} (puts key value xid b found works on_time) = done_lifts c xid _
 
 pub lifts : (s t : State) → Moves (core s) (core t) → work_floor s ≤ work_floor t

@@ -9,7 +9,7 @@ use Rattle.std.specs.Ordering.{nat_cmp, is_lt}
 use Rattle.xa_codes.specs.declared.write.Write.{Write}
 use Rattle.xa_xid.specs.Triple.{Triple, xid_eq, xid_cmp}
 use Rattle.xa_limits.specs.declared.TheConstants.{BOOT_TIMESTAMPS}
-use Rattle.xa_model.specs.State.{State, Operation, Got, Wrote, Phase, Working, Prepared, Committed, Decided}
+use Rattle.xa_model.specs.State.{State, Operation, Got, Walked, Wrote, Phase, Working, Prepared, Committed, Decided}
 
 -- A committed branch, with those of its writes that are the last of their keys (a delete is a write without a value).
 pub record CommittedBranch : Type 0 where
@@ -108,6 +108,7 @@ put_write w (v ∷ vs) =
 abbrev pub writes_of : List Operation → List Write
 writes_of [] = []
 writes_of (Got key answer source ∷ older) = writes_of older
+writes_of (Walked range found ∷ older) = writes_of older
 writes_of (Wrote key value ∷ older) = put_write (record { key = key; value = value }) (writes_of older)
 
 abbrev pub committed_part : ℕ → List Write → Phase → Option CommittedBranch

@@ -1,4 +1,5 @@
 -- what must be believed: the step, histories, and what is promised of them
+pub mod Ranges
 pub mod State
 pub mod Answer
 pub mod Turn
@@ -20,6 +21,7 @@ pub mod Trimming
 pub mod Step
 pub mod History
 pub mod Events
+pub mod Walking
 pub mod OneCopy
 pub mod ListedLaw
 pub mod UnlistedLaw

@@ -5,11 +5,14 @@ use Rattle.xa_codes.specs.declared.direction.Direction.{Direction}
 use Rattle.xa_xid.specs.Triple.{Triple, xid_eq}
 use Rattle.xa_record.specs.declared.record.Record.{Record}
 use Rattle.xa_limits.specs.declared.TheConstants.{BOOT_TIMESTAMPS}
+use Rattle.xa_model.specs.Ranges.{Range}
 
 -- What a branch did: a get, with its answer and the timestamp of the answer's source (0 if the key was absent
--- before all branches), or a put or delete that was accepted. A deleted key has no value.
+-- before all branches); a walk over a range, with the records that were found, keys and values; or a put or delete that
+-- was accepted. A deleted key has no value.
 pub data Operation : Type 0 where
   Got : (key : List ℕ) (answer : Option (List ℕ)) (source : ℕ) → Operation
+  Walked : (range : Range) (found : List (List ℕ × List ℕ)) → Operation
   Wrote : (key : List ℕ) (value : Option (List ℕ)) → Operation
 
 -- What a branch has only while it is at work: the mark that it may have, the moment at which it began, and its time
@@ -55,11 +58,16 @@ pub record Session : Type 0 where
   pub scan : Option (Option Triple)
   pub limit : ℕ
 
--- An answered read: who read, what, and the timestamp of the answer's source.
+-- What was read: a key, with the timestamp of the answer's source; or each key of a range, the absent ones included,
+-- with the timestamps of the sources of some of them: of the others it is 0.
+pub data Extent : Type 0 where
+  Key : (key : List ℕ) (source : ℕ) → Extent
+  Keys : (range : Range) (sources : List (List ℕ × ℕ)) → Extent
+
+-- An answered read: who read, and what.
 pub record Read : Type 0 where
   pub reader : ℕ
-  pub key : List ℕ
-  pub source : ℕ
+  pub over : Extent
 
 -- Whether anybody answers: a manager that is up, one that is down until it is restarted, or one whose process ended, so
 -- that only an opening can follow.

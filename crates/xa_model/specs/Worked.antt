@@ -27,6 +27,7 @@ pub mod Groups
 pub mod Recovery
 pub mod Lasting
 pub mod OneCopy
+pub mod Walks
 pub mod LowWater
 
 -- the name xarm, and what a script writes as hexadecimal

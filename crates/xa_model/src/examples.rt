@@ -3,6 +3,9 @@ ghost use Rattle.xa_model.specs.Worked.Log.{HeldAndCommitted, DecidedAndForgotte
 ghost use Rattle.xa_model.specs.Worked.Log.{BegunEarlier, BootsInOrder, TimestampsInOrder, NamesInOrder, SnapshotsInOrder};
 ghost use Rattle.xa_model.specs.Worked.Lasting.{StatesLeave, CommittedLeaves};
 ghost use Rattle.xa_model.specs.Worked.OneCopy.{ReadsBelow, MissesDelete, MissesOwnDelete, ReadsAbove, RecordsRead};
+ghost use Rattle.xa_model.specs.Worked.Walks.{Bounds, Phantom, BelowSource, Outside, PhantomPut};
+ghost use Rattle.xa_model.specs.Worked.Walks.{FindsRecords, MissesRecord, FindsDeleted};
+ghost use Rattle.xa_model.specs.Worked.Walks.{WalksToEnd, WalksBelow, TwoPortions, StopsAtBusy};
 ghost use Rattle.xa_model.specs.Worked.Turns.{PreparedAndCommitted, RolledBackAgain, MarkedIsGone, ReadOnly, Room};
 ghost use Rattle.xa_model.specs.Worked.Turns.{LostAppends, LostBoots, DecidedByOperator, OpenedAgain};
 ghost use Rattle.xa_model.specs.Worked.Device.{EachRefused, EachLost, RestartRefused, OpeningRefused};
@@ -200,6 +203,22 @@ pub fn worked_copies()
     ensures misses_own { MissesOwnDelete }
     ensures above { ReadsAbove }
     ensures records { RecordsRead }
+{}
+
+/// Worked rows of walks over ranges: which writes come late then, and which records are found.
+pub fn worked_walks()
+    ensures bounds { Bounds }
+    ensures phantom { Phantom }
+    ensures below_source { BelowSource }
+    ensures outside { Outside }
+    ensures put { PhantomPut }
+    ensures finds { FindsRecords }
+    ensures misses { MissesRecord }
+    ensures deleted { FindsDeleted }
+    ensures to_end { WalksToEnd }
+    ensures below { WalksBelow }
+    ensures portions { TwoPortions }
+    ensures busy { StopsAtBusy }
 {}
 
 /// Worked rows of the low water: a branch that is prepared holds it, and one that is completed doesn't.

@@ -10,7 +10,8 @@ ghost use Rattle.xa_model.specs.Laws.Backing.{KeepsRecoverable, AlwaysRecoverabl
 ghost use Rattle.xa_model.specs.Laws.Backing.{BacksFound, SettlesGroup};
 ghost use Rattle.xa_model.specs.Laws.Backing.{RestartsRestored, ReopensRestored, OpensRestored, OpensFresh};
 ghost use Rattle.xa_model.specs.Invariants.Room.{KeepsRoom, RestartKeepsRoom, TrimHasRoom};
-ghost use Rattle.xa_model.specs.OneCopy.{AlwaysOneCopy, FreshOneCopy, OpenedOneCopy};
+ghost use Rattle.xa_model.specs.OneCopy.{AlwaysOneCopy, FreshOneCopy, OpenedOneCopy, WalksOneCopy};
+ghost use Rattle.xa_model.specs.Walking.{WalkSees};
 ghost use Rattle.xa_model.specs.ListedLaw.{ListedUntilAsked, ListedSinceBoot, FreshLists, OpenedLists, ReopenedLists};
 ghost use Rattle.xa_model.specs.UnlistedLaw.{AlwaysUnlisted, UnlistedSinceBoot};
 ghost use Rattle.xa_model.specs.Laws.Crash.{LostFits, LostFates, LeavesBefore, LeavesBehind, LeavesAppended};
@@ -119,7 +120,7 @@ pub fn restored()
 
 /// A log keeps the room to complete and forget what is prepared, and to forget what the operator completed, also
 /// however many of the records whose fates are unknown are found there: every event but a restart keeps it, with every
-/// outcome of its device calls, and so does all that happens where records back the state; and there no trim is
+/// outcome of its device calls, and so does all that happens if records back the state; and there no trim is
 /// refused for lack of room.
 pub fn roomy()
     ensures asked { KeepsRoom }
@@ -141,6 +142,8 @@ pub fn one_copy()
     ensures always { AlwaysOneCopy }
     ensures fresh { FreshOneCopy }
     ensures opened { OpenedOneCopy }
+    ensures walks { WalksOneCopy }
+    ensures sees { WalkSees }
 {}
 
 /// A vote to commit is kept: after a prepare that was answered XA_OK, recovery lists its XID at every place

@@ -41,7 +41,7 @@ pub use event::Event;
 pub use examples::{
     worked_associations, worked_copies, worked_groups, worked_known_branches, worked_limits,
     worked_logs, worked_low_water, worked_marks, worked_recovery, worked_refusals, worked_rows,
-    worked_time_limits, worked_trims, worked_turns, worked_versions,
+    worked_time_limits, worked_trims, worked_turns, worked_versions, worked_walks,
 };
 pub use laws::{
     asked_together, backed, crash_at_any_moment, crash_in_history, crash_keeps_promises, lasting,

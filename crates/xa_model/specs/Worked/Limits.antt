@@ -6,7 +6,7 @@ use Rattle.xa_codes.specs.declared.detail.Detail.TheVariants as detail
 use Rattle.xa_xid.specs.Triple.{Triple}
 use Rattle.xa_frame.specs.declared.reply.Reply.{Reply}
 use Rattle.xa_frame.specs.declared.request.Request.TheVariants.{Put, Delete}
-use Rattle.xa_model.specs.State.{State, Session, Branch, Association, Operation, Wrote, Loose}
+use Rattle.xa_model.specs.State.{State, Session, Branch, Association, Operation, Wrote, Key, Loose}
 use Rattle.xa_model.specs.State.{new_work, new_branch, new_session}
 use Rattle.xa_model.specs.Associations.{as_opened}
 use Rattle.xa_model.specs.Answer.{plain, detailed}
@@ -110,7 +110,7 @@ abbrev pub many_writes : State
 many_writes = record new_manager {
   given = 2;
   branches = having (writes_to 255);
-  reads = record { reader = 4294967298; key = late_key; source = 0 } ∷ [];
+  reads = record { reader = 4294967298; over = Key late_key 0 } ∷ [];
 }
 
 -- a branch writes at most 256 keys; a further one is refused, also if it would be late, and leaves no mark

@@ -4,7 +4,7 @@ use Rattle.xa_frame.specs.declared.body.Body.TheVariants as body
 use Rattle.xa_frame.specs.declared.request.Request.TheVariants.{Get}
 use Rattle.xa_model.specs.declared.event.Event.TheVariants.{Call}
 use Rattle.xa_model.specs.declared.outcome.Outcome.TheVariants.{Quiet}
-use Rattle.xa_model.specs.State.{State, Branch, Operation, Got, Wrote, Committed, Active, Read}
+use Rattle.xa_model.specs.State.{State, Branch, Operation, Got, Wrote, Committed, Active, Key, Read}
 use Rattle.xa_model.specs.State.{new_work, new_branch, new_session}
 use Rattle.xa_model.specs.Associations.{as_opened}
 use Rattle.xa_model.specs.Answer.{carrying}
@@ -13,7 +13,7 @@ use Rattle.xa_model.specs.Step.{step}
 use Rattle.xa_model.specs.OneCopy.{IsOneCopy}
 use Rattle.xa_model.specs.Worked.Scripts.{new_manager, xid_a}
 
-abbrev branch_at : ℕ → List Operation → Branch
+abbrev pub branch_at : ℕ → List Operation → Branch
 branch_at t operations = record { timestamp = t; operations = operations; phase = Committed }
 
 abbrev key : List ℕ
@@ -51,7 +51,7 @@ abbrev pub ReadsAbove : Type 0
 ReadsAbove = IsOneCopy (branch_at 2 (Wrote key written ∷ []) ∷ branch_at 1 (Got key written 2 ∷ []) ∷ []) → ⊥
 
 -- session 1 works for a branch at 2, which did this, above a write by 1; these reads were answered
-abbrev at_work : List Operation → List Read → State
+abbrev pub at_work : List Operation → List Read → State
 at_work operations reads = record new_manager {
   sessions = as_opened (new_session 1) ∷ [];
   associations = record { xid = xid_a; holder = Active 1 } ∷ [];
@@ -67,5 +67,5 @@ RecordsRead =
     step (at_work [] []) (Asked (Call 1 (Get key))) Quiet
     ≡ Some (record {
       reply = carrying (body.Value (1 ∷ []));
-      after = at_work (Got key written 1 ∷ []) (record { reader = 2; key = key; source = 1 } ∷ []);
+      after = at_work (Got key written 1 ∷ []) (record { reader = 2; over = Key key 1 } ∷ []);
     })

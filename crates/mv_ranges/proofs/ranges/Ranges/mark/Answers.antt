@@ -2,7 +2,7 @@ use Rattle.std.proofs.Common.{◌≡◌, true, false, ap, ◌∙◌, sym, refl, 
 use Rattle.std.specs.Prelude.{option_map}
 use Rattle.std.specs.Ordering.{is_le, is_some_and}
 use Rattle.mv_ranges.specs.Ranges.{is_before, holds}
-use Rattle.mv_ranges.proofs.Order.{cmp, le_not_before}
+use Rattle.xa_model.proofs.KeyOrder.{cmp, le_not_before}
 use Rattle.mv_ranges.proofs.Written.{agree, backwards, not_gt}
 use Rattle.mv_ranges.proofs.ranges.Ranges.mark.Goals as goal
 

@@ -6,9 +6,9 @@ use Rattle.std.specs.Ordering.{nat_cmp, is_lt, is_le, ordering_reverse}
 use Rattle.std.specs.declared.cmp.Ordering.{Ordering}
 use Rattle.std.specs.declared.cmp.Ordering.TheVariants.{Less, Equal, Greater}
 use Rattle.std.proofs.lemmas.Cmp.{nat_list_cmp_total, alike_right, tied_itself}
-use Rattle.mv_ranges.specs.Ranges.{is_before}
+use Rattle.xa_model.specs.Ranges.{is_before}
 
--- is before or equal, by the other way of asking
+-- how two keys compare
 abbrev pub cmp : List ℕ → List ℕ → Ordering
 cmp = slice_cmp nat_cmp
 
