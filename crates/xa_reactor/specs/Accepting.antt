@@ -9,12 +9,12 @@ use Rattle.xa_reactor.specs.declared.admission.Admitted.TheVariants.{Yes, Full, 
 use Rattle.xa_reactor.specs.declared.listener.Listener.{Listener}
 use Rattle.xa_reactor.specs.declared.peers.Peers.{Peers}
 
--- as many as were asked for, or any number where that is 0
+-- as many as were asked for, or any number if that is 0
 abbrev pub most_of : ℕ → ℕ
 most_of zero = 2 ^ 64 - 1
 most_of (suc n) = suc n
 
--- whether there may be a connection to accept, where the loop is to
+-- whether there may be a connection to accept, if the loop is to
 abbrev pub waits_in : Option Acceptor → Bool
 waits_in None = false
 waits_in (Some acceptor) = acceptor.waits
@@ -64,7 +64,7 @@ new_acceptor listener connections =
       tells_failed = 0;
     }
 
--- why an accept failed is told where that wasn't within a minute
+-- why an accept failed is told if that wasn't within a minute
 abbrev pub after_failure : ℕ → Acceptor → Acceptor
 after_failure now a = if nat_le a.tells_failed now then record a { tells_failed = min (now + 60000) (2 ^ 64 - 1) } else a
 

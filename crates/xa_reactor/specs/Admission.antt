@@ -36,7 +36,7 @@ has_path (listener.Tcp tcp) = false
 has_path (listener.Unix unix) = true
 has_path (listener.Both tcp unix) = true
 
--- Whether the last places are for who comes from there: by the Unix socket, or where there is none, from a loopback address.
+-- Whether the last places are for who comes from there: by the Unix socket, or if there is none, from a loopback address.
 abbrev pub is_operators : Bool → Origin → Bool
 is_operators has_path Path = true
 is_operators has_path Loopback = not has_path
@@ -63,6 +63,6 @@ pub record AdmissionRows : Type 0 where
   pub by_path : (may_admit true Path 1019 ≡ true) × (may_admit true Path 1022 ≡ true) × (may_admit true Path 1023 ≡ false)
   pub near : (may_admit false Loopback 1022 ≡ true) × (may_admit false Loopback 1023 ≡ false)
   pub far : (may_admit false Elsewhere 1018 ≡ true) × (may_admit false Elsewhere 1019 ≡ false)
-  -- the 65th that hasn't logged in isn't taken up, where it has to
+  -- the 65th that hasn't logged in isn't taken up, if it has to
   pub strange : (admission_of true true Elsewhere 63 63 ≡ Yes) × (admission_of true true Path 64 64 ≡ Strange)
       × (admission_of true true Path 1023 64 ≡ Full) × (admission_of true false Loopback 900 900 ≡ Yes)

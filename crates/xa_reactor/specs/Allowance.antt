@@ -18,7 +18,7 @@ with_line a now = (Some a.left_out, record { until = min (max a.until now + 1000
 abbrev pub without_line : Allowance → Option ℕ × Allowance
 without_line a = (None, record a { left_out = min (a.left_out + 1) (2 ^ 64 - 1) })
 
--- a line is taken, in milliseconds, where there is one
+-- a line is taken, in milliseconds, if there is one
 abbrev pub taken : Allowance → ℕ → Option ℕ × Allowance
 taken a now = if has_line a now then with_line a now else without_line a
 

@@ -32,7 +32,7 @@ abbrev pub IsOutcome : Outcome → Type 0
 IsOutcome (Answered answer) = IsAnswer answer
 IsOutcome _ = Unit {0}
 
--- sessions are answered where they were asked for, and are those that the door told of the branch
+-- sessions are answered if they were asked for, and are those that the door told of the branch
 abbrev pub TellsSessions : (Triple → List ℕ → Type 0) → Control → Outcome → Type 0
 TellsSessions attached (control.Sessions xid) (Answered (answer.Sessions sessions)) = attached xid sessions
 TellsSessions attached _ (Answered (answer.Sessions sessions)) = ⊥

@@ -35,7 +35,7 @@ pub record IsLast (old : Peers) (key : ℕ) (new : Peers) : Type 0 where
   pub turns : turns_of new ≡ turns_of old ++ key ∷ []
   pub orders : new.orders ≡ old.orders
 
--- it has one; or, as where there is no memory for that, it has ended
+-- it has one; or, if there is no memory for that, it has ended
 abbrev pub HasTurn : Peers → ℕ → Peers → Type 0
 HasTurn old key new = IsLast old key new ⊎ HasEnded old key new
 

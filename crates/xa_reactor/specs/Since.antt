@@ -38,8 +38,8 @@ OwesFrame c = IsInsideFrame c.input × (c.output ≡ [])
 abbrev pub Owes : Peer → Type 0
 Owes p = OwesFrame p.connection ⊎ ((p.standing ≡ None) × (p.pause ≡ None))
 
--- The connection was looked at at this time: it has ended where it was to end, by how long it has been quiet, and is left
--- where it wasn't.
+-- The connection was looked at at this time: it has ended if it was to end, by how long it has been quiet, and is left
+-- if it wasn't.
 abbrev pub WasLooked : (ℕ → Ties) → Settings → ℕ → Peer → Bool → Type 0
 WasLooked ties settings now p ends =
     (is_inside : Bool) × (IsTrue is_inside ↔ Owes p)

@@ -12,7 +12,7 @@ IsRead clock = clock.is_past ≡ false
 abbrev pub after_wait : LoopClock → LoopClock
 after_wait clock = record clock { is_past = true }
 
--- where a look is due, the next one is a second later
+-- if a look is due, the next one is a second later
 abbrev pub looked : LoopClock → LoopClock
 looked clock = if nat_le clock.looks clock.now then record clock { looks = min (clock.now + 1000) (2 ^ 64 - 1) } else clock
 
@@ -30,8 +30,8 @@ pub record Ties : Type 1 where
   pub associated : Bool → Type 0
   pub unmarked : Bool → Type 0
 
--- Whether a connection was quiet for too long, by whether it was for an idle session, and for one at work: where only the
--- second limit has passed it ends if it has an association; where only the first has, unless it has one with an unmarked
+-- Whether a connection was quiet for too long, by whether it was for an idle session, and for one at work: if only the
+-- second limit has passed it ends if it has an association; if only the first has, unless it has one with an unmarked
 -- branch.
 abbrev pub HasVanished : Ties → Bool → Bool → Bool → Type 0
 HasVanished ties true true ends = ends ≡ true
@@ -39,7 +39,7 @@ HasVanished ties false false ends = ends ≡ false
 HasVanished ties false true ends = ties.associated ends
 HasVanished ties true false ends = (unmarked : Bool) × ties.unmarked unmarked × (ends ≡ not unmarked)
 
--- By what is answered of its session: a connection is to end where it is overdue inside a frame, or was quiet for too
+-- By what is answered of its session: a connection is to end if it is overdue inside a frame, or was quiet for too
 -- long.
 pub record IsToEnd (ties : Ties) (is_inside : Bool) (quiet : ℕ) (settings : Settings) (ends : Bool) : Type 0 where
   pub overdue : is_overdue is_inside quiet settings.frame_seconds ≡ true → ends ≡ true

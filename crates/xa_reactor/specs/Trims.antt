@@ -4,7 +4,7 @@ use Rattle.xa_reactor.specs.declared.common.Settings.{Settings}
 use Rattle.xa_reactor.specs.declared.trims.Refused.{Refused}
 use Rattle.xa_reactor.specs.declared.trims.Trims.{Trims}
 
--- what was asked for, or a quarter of the greatest size where that is above half of it
+-- what was asked for, or a quarter of the greatest size if that is above half of it
 abbrev pub bound_of : ℕ → ℕ → ℕ
 bound_of asked log_bytes = if nat_lt (log_bytes / 2) asked then log_bytes / 4 else asked
 

@@ -45,14 +45,14 @@ CarriesOn standing called c d c' e =
 abbrev pub HoldsMore : Connection → Type 0
 HoldsMore c = (room_of c < MOST_INPUT) × (IsInsideFrame c.input → ⊥)
 
--- Nothing is left to do of which no event tells: what is to be sent waits until the socket takes more; where nothing is, all
+-- Nothing is left to do of which no event tells: what is to be sent waits until the socket takes more; if nothing is, all
 -- that came in was read, and no whole frame is left.
 pub record Rests (p : Peer) : Type 0 where
   pub sends : p.writes ≡ not (length p.connection.output == 0)
   pub reads : p.writes ≡ false → p.reads ≡ false
   pub asked : p.writes ≡ false → HoldsMore p.connection → ⊥
 
--- a connection waits for events only where it rests, and isn't in the queue then; where there is more to do, it is
+-- a connection waits for events only if it rests, and isn't in the queue then; if there is more to do, it is
 abbrev pub StepsTo : Step → Peer → Type 0
 StepsTo Waits p = Rests p × (p.is_queued ≡ false)
 StepsTo Goes p = p.is_queued ≡ true

@@ -134,7 +134,7 @@ impl Acceptor {
         }
     }
 
-    // Hands a connection from there to a loop, where it is admitted; else it is closed.
+    // Hands a connection from there to a loop, if it is admitted; else it is closed.
     fn admit<R: Wait>(&mut self, rt: &R, common: &Common<'_>, socket: Socket, origin: Origin)
         ensures taken { (count : ℕ) × (strangers : ℕ) × (turn : ℕ)
             × (self.new ≡ after_one (admission_of common.now.has_path (is_some common.now.users) origin count strangers)

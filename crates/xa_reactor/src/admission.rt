@@ -46,7 +46,7 @@ pub(crate) fn origin_of(address: IpAddr) -> Origin
     }
 }
 
-/// How many connections are open at most, those from there and all others, where one from there is admitted. The last
+/// How many connections are open at most, those from there and all others, if one from there is admitted. The last
 /// places are for the Unix socket's, or if there is none, for those from a loopback address.
 pub(crate) fn most_open(has_path: bool, origin: Origin) -> u64
     ensures { result ≡ most_open has_path origin }

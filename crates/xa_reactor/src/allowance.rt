@@ -27,7 +27,7 @@ impl Allowance {
         }
     }
 
-    /// Takes a line for an order, and says how many weren't told of before it; where there is none, the order is counted.
+    /// Takes a line for an order, and says how many weren't told of before it; if there is none, the order is counted.
     pub(crate) fn take(&mut self, now: u64) -> Option<u64>
         ensures line { result ≡ (taken self.old now).0 }
         ensures left { self.new ≡ (taken self.old now).1 }

@@ -1,9 +1,10 @@
 //! What a loop does between its rounds of what connections asked of the server itself.
-ghost use Rattle.xa_reactor.specs.{ForAll.TendsForAll, Users.IsPassed, Users.LogsAt, Users.users_of};
-ghost use Rattle.xa_reactor.specs.Believed.Tending.{Tends, sessions_of};
+ghost use Rattle.xa_reactor.specs.{Users.IsPassed, Users.LogsAt, Users.users_of};
+ghost use Rattle.xa_reactor.specs.Believed.Tending.{sessions_of};
 ghost use Rattle.std.specs.Prelude.{◌≡◌, Err, IfErr, IfOk};
 ghost use Rattle.xa_codes.specs.declared.detail.Detail.TheVariants as detail;
 ghost use Rattle.xa_reactor.specs.Orders.{IsOutcome, TellsSessions};
+ghost use Rattle.xa_reactor.specs.ForAll.{PeersTend, PeersTendAs};
 
 use crate::clock::LoopClock;
 use crate::common::Common;
@@ -32,8 +33,7 @@ pub(crate) fn attend<D: Reception, R: Clock + Eprint + RandomSource + Wait>(
     peers: &mut Peers,
     door: &mut D,
 )
-    ensures { Tends (users_of common.now) D.connected D.called D.left
-        (sessions_of peers.old.all) door.old (sessions_of peers.new.all) door.new }
+    ensures { PeersTendAs D.connected D.called D.left (users_of common.now) peers.old.all door.old peers.new.all door.new }
 {
     attend_all(rt, common, round, clock, peers, door);
     cut_all(rt, common, index, peers, door);
@@ -50,8 +50,7 @@ fn attend_all<D: Reception, R: Clock + Eprint + RandomSource + Wait>(
     peers: &mut Peers,
     door: &mut D,
 )
-    ensures { Tends (users_of common.now) D.connected D.called D.left
-        (sessions_of peers.old.all) door.old (sessions_of peers.new.all) door.new }
+    ensures { PeersTendAs D.connected D.called D.left (users_of common.now) peers.old.all door.old peers.new.all door.new }
 {
     for _ in 0..peers.orders.len() {
         let Some(wish) = peers.orders.next() else {
@@ -82,8 +81,7 @@ fn attend_one<D: Reception, R: Clock + Eprint + RandomSource + Wait>(
     door: &mut D,
     wish: Wish,
 )
-    ensures { Tends (users_of common.now) D.connected D.called D.left
-        (sessions_of peers.old.all) door.old (sessions_of peers.new.all) door.new }
+    ensures { PeersTendAs D.connected D.called D.left (users_of common.now) peers.old.all door.old peers.new.all door.new }
 {
     let outcome = look_at(rt, common, round, clock, peers, door, wish);
     settle(rt, common, round, clock, peers, door, wish, outcome);
@@ -146,7 +144,7 @@ fn settle<D: Reception, R: Clock + Eprint + Wait>(
     outcome: Outcome,
 )
     requires { IsOutcome outcome }
-    ensures { TendsForAll D.connected D.called D.left (sessions_of peers.old.all) door.old (sessions_of peers.new.all) door.new }
+    ensures { PeersTend D.connected D.called D.left peers.old.all door.old peers.new.all door.new }
 {
     match outcome {
         Outcome::Gone => {}
@@ -260,7 +258,7 @@ fn cut_all<D: Reception, R: Wait>(
     peers: &mut Peers,
     door: &mut D,
 )
-    ensures { TendsForAll D.connected D.called D.left (sessions_of peers.old.all) door.old (sessions_of peers.new.all) door.new }
+    ensures { PeersTend D.connected D.called D.left peers.old.all door.old peers.new.all door.new }
 {
     let given = common.cuts.given();
     let mut looked = common.looked(index);

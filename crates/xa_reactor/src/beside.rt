@@ -2,9 +2,9 @@
 ghost use Rattle.std.specs.Prelude.{◌≡◌, IfOk, IfSome, IsTrue, None, false, true};
 ghost use Rattle.slab.specs.Slab.{slab_len};
 ghost use Rattle.xa_reactor.specs.Accepting.{IsWait, KeepsFew, most_of};
-ghost use Rattle.xa_reactor.specs.{Aside.IsAside, Believed.Tending.Tends, ForAll.TendsForAll, Since.LooksAll, Users.users_of};
-ghost use Rattle.xa_reactor.specs.Believed.Tending.{sessions_of};
+ghost use Rattle.xa_reactor.specs.{Aside.IsAside, Since.LooksAll, Users.users_of};
 ghost use Rattle.xa_reactor.specs.declared.trimming.TheConstants.{TRIM};
+ghost use Rattle.xa_reactor.specs.ForAll.{PeersTend, PeersTendAs};
 
 use crate::acceptor::Acceptor;
 use crate::clock::LoopClock;
@@ -20,7 +20,7 @@ use std::io;
 use std::rt::Clock;
 use std::sync::Wait;
 
-/// The listener, where the loop is to accept.
+/// The listener, if the loop is to accept.
 pub(crate) fn begin<R: Wait>(
     rt: &R,
     common: &Common<'_>,
@@ -56,7 +56,7 @@ pub(crate) fn wait_for(
     )
 }
 
-/// Ends those that are overdue at that time, where a look is due. By then what had come in must be read.
+/// Ends those that are overdue at that time, if a look is due. By then what had come in must be read.
 pub(crate) fn look<D: Reception>(
     common: &Common<'_>,
     now: u64,
@@ -64,7 +64,7 @@ pub(crate) fn look<D: Reception>(
     door: &mut D,
     is_look: bool,
 )
-    ensures tends { TendsForAll D.connected D.called D.left (sessions_of peers.old.all) door.old (sessions_of peers.new.all) door.new }
+    ensures tends { PeersTend D.connected D.called D.left peers.old.all door.old peers.new.all door.new }
     ensures looks { is_look ≡ true → LooksAll D.ties common.now.settings now peers.old.all peers.new.all }
     ensures none { is_look ≡ false → peers.new ≡ peers.old }
 {
@@ -73,7 +73,7 @@ pub(crate) fn look<D: Reception>(
     }
 }
 
-/// Accepts connections, where the loop is to; `accepts` where an event told of some.
+/// Accepts connections, if the loop is to; `accepts` if an event told of some.
 pub(crate) fn accept<R: Eprint + Wait>(
     rt: &R,
     common: &Common<'_>,
@@ -102,8 +102,7 @@ pub(crate) fn take_in<D: Reception, R: Clock + Wait>(
     peers: &mut Peers,
     door: &mut D,
 )
-    ensures { Tends (users_of common.now) D.connected D.called D.left
-        (sessions_of peers.old.all) door.old (sessions_of peers.new.all) door.new }
+    ensures { PeersTendAs D.connected D.called D.left (users_of common.now) peers.old.all door.old peers.new.all door.new }
 {
     for _ in 0..u32::MAX {
         let Some(guest) = common.take(rt, index) else {
@@ -115,7 +114,7 @@ pub(crate) fn take_in<D: Reception, R: Clock + Wait>(
     }
 }
 
-/// Tells that the manager went down, and why, where that is news, and ends all loops, where that is asked, unless a Restart
+/// Tells that the manager went down, and why, if that is news, and ends all loops, if that is asked, unless a Restart
 /// helped since.
 pub(crate) fn tell<R: Eprint>(rt: &R, common: &Common<'_>) {
     let Some(cause) = common.watch.news() else {
@@ -128,8 +127,8 @@ pub(crate) fn tell<R: Eprint>(rt: &R, common: &Common<'_>) {
     }
 }
 
-/// Stops all loops, where a connection asked the server to end: no more is taken in of any, and what was asked is answered
-/// by then. The log is trimmed, where that is quick.
+/// Stops all loops, if a connection asked the server to end: no more is taken in of any, and what was asked is answered
+/// by then. The log is trimmed, if that is quick.
 pub(crate) fn stop<D: Reception, R: AllocGlobal + Clock + Eprint + Wait>(
     rt: &R,
     common: &Common<'_>,

@@ -53,7 +53,7 @@ impl Cause {
     }
 }
 
-/// Why the manager is down from this reply on, to a Restart or to another call; None where it isn't, or was before.
+/// Why the manager is down from this reply on, to a Restart or to another call; None if it isn't, or was before.
 pub(crate) fn cause_of(is_restart: bool, reply: &Reply) -> Option<Cause>
     ensures { result ≡ cause_of is_restart reply.now }
 {

@@ -46,7 +46,7 @@ impl LoopClock {
         Ok(())
     }
 
-    /// The time since the last wait: it is read again where the loop may have waited since, unless it can't be read.
+    /// The time since the last wait: it is read again if the loop may have waited since, unless it can't be read.
     pub(crate) fn now<R: Clock>(&mut self, rt: &R) -> u64
         ensures now { result ≡ self.new.now }
         ensures read { IsRead self.new }

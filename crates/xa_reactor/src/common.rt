@@ -123,7 +123,7 @@ impl<'a> Common<'a> {
         }
     }
 
-    /// A loop begins. It is to accept, where it is given the listener.
+    /// A loop begins. It is to accept, if it is given the listener.
     pub(crate) fn begin<R: Wait>(&self, rt: &R, index: usize) -> Option<Listener> {
         if let Some(mailbox) = self.boxes.get(index) {
             mailbox.begin();
@@ -172,7 +172,7 @@ impl<'a> Common<'a> {
         Ok(())
     }
 
-    /// How many are open where one from there isn't taken up, at least.
+    /// How many are open if one from there isn't taken up, at least.
     pub(crate) fn most_open(&self, origin: Origin) -> u64
         ensures { result ≡ most_open self.now.has_path origin }
     {

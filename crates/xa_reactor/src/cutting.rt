@@ -1,8 +1,8 @@
 //! What an order to end a connection does to those of a loop.
 ghost use Rattle.std.specs.Prelude.{◌≡◌, ◌≢◌, ◌↔◌, ℕ, IsTrue, length};
 ghost use Rattle.slab.specs.Slab.{get};
-ghost use Rattle.xa_reactor.specs.{Believed.Tending.sessions_of, ForAll.TendsForAll};
 ghost use Rattle.xa_reactor.specs.Cuts.{HasCut, Means, left_by};
+ghost use Rattle.xa_reactor.specs.ForAll.{PeersTend};
 
 use crate::cuts::Cut;
 use crate::peer::Peer;
@@ -12,7 +12,7 @@ use slab::Slab;
 
 /// Ends the connections that an order means, and hangs their sessions up. Whether it means one.
 pub(crate) fn cut_peers<D: Reception>(peers: &mut Peers, door: &mut D, cut: Cut) -> bool
-    ensures tends { TendsForAll D.connected D.called D.left (sessions_of peers.old.all) door.old (sessions_of peers.new.all) door.new }
+    ensures tends { PeersTend D.connected D.called D.left peers.old.all door.old peers.new.all door.new }
     ensures cut { HasCut cut peers.old.all peers.new.all }
     ensures turns { (peers.new.queue ≡ peers.old.queue) × (peers.new.orders ≡ peers.old.orders) }
 {
@@ -25,7 +25,7 @@ pub(crate) fn cut_peers<D: Reception>(peers: &mut Peers, door: &mut D, cut: Cut)
 
 // Ends the connection under this key, if the order means it. Whether it does.
 fn cut_one<D: Reception>(all: &mut Slab<Peer>, door: &mut D, key: usize, cut: &Cut) -> bool
-    ensures tends { TendsForAll D.connected D.called D.left (sessions_of all.old) door.old (sessions_of all.new) door.new }
+    ensures tends { PeersTend D.connected D.called D.left all.old door.old all.new door.new }
     ensures left { get all.new key ≡ left_by cut.now (get all.old key) }
     ensures others { (other : ℕ) → other ≢ key → get all.new other ≡ get all.old other }
     ensures slots { length all.new.slots ≡ length all.old.slots }

@@ -8,7 +8,7 @@ use mio::{Interest, Registry, Token};
 use std::io;
 use std::io::ErrorKind;
 
-/// What connections come from. Its accepts answer `WouldBlock` where none waits.
+/// What connections come from. Its accepts answer `WouldBlock` if none waits.
 #[derive(Debug, Drop)]
 pub enum Listener {
     Tcp(TcpListener),

@@ -76,8 +76,8 @@ pub struct Ended<D> {
     pub stopper: Option<Socket>,
 }
 
-/// Serves the connections of a listener by a loop for each door, each in a thread of its own, or not at all where no
-/// thread can be made. Once each has what it waits by, `ready` is printed, twice where the listener is a port's and a Unix
+/// Serves the connections of a listener by a loop for each door, each in a thread of its own, or not at all if no
+/// thread can be made. Once each has what it waits by, `ready` is printed, twice if the listener is a port's and a Unix
 /// socket's. Then the first one that begins accepts, and hands connections to those that have begun, in turn. They
 /// end after this many connections, when the manager is down, or when one of them can't wait for events; if none of these
 /// is asked or comes, never.
@@ -120,7 +120,7 @@ pub fn run_loops<
     Ok(run_all(rt, &common, seeds)?)
 }
 
-// Each loop runs in a thread of its own, or after another where no thread can be made.
+// Each loop runs in a thread of its own, or after another if no thread can be made.
 fn run_all<
     D: Reception + Send + Drop,
     R: AllocGlobal + Clock + Eprint + RandomSource + Threads + Wait + Sync,

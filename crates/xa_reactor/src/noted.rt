@@ -56,7 +56,7 @@ impl Noted {
     }
 }
 
-/// Tells of an order, if there is one, that was answered so, where there is a line for it.
+/// Tells of an order, if there is one, that was answered so, if there is a line for it.
 pub(crate) fn tell<R: Eprint>(
     rt: &R,
     allowance: &mut Allowance,

@@ -122,7 +122,7 @@ impl Peer {
         }
     }
 
-    /// An event told of the socket. Whether the peer is to be put into the queue of turns, where it isn't yet.
+    /// An event told of the socket. Whether the peer is to be put into the queue of turns, if it isn't yet.
     pub(crate) fn notice(&mut self, event: &Event) -> bool
         ensures queued { result ≡ not self.old.is_queued }
         ensures noticed { self.new ≡ noticed event.now self.old }
@@ -139,7 +139,7 @@ impl Peer {
         !was_queued
     }
 
-    /// A turn: what is to be sent is sent; one read, where no whole frame came in; one frame is answered; and its reply
+    /// A turn: what is to be sent is sent; one read, if no whole frame came in; one frame is answered; and its reply
     /// is sent. While a reply isn't sent nothing is read, and nothing answered.
     pub(crate) fn turn<D: Door, R: Clock>(
         &mut self,
@@ -167,7 +167,7 @@ impl Peer {
     }
 
     /// A turn up to a request, which is answered together with those of other connections, by the connection that is lent
-    /// for it; a whole turn, where there is none.
+    /// for it; a whole turn, if there is none.
     pub(crate) fn open_turn<D: Door, R: Clock>(
         &mut self,
         rt: &R,
@@ -261,7 +261,7 @@ impl Peer {
         clock.pass();
     }
 
-    // The beginning of a turn: what is to be sent is sent, and one read, where no whole frame came in. Whether the connection
+    // The beginning of a turn: what is to be sent is sent, and one read, if no whole frame came in. Whether the connection
     // goes on.
     fn take_turn<R: Clock>(&mut self, rt: &R, clock: &mut LoopClock, scratch: &mut [u8]) -> bool
         ensures session { seat_of self.new ≡ seat_of self.old }
@@ -333,7 +333,7 @@ impl Peer {
     }
 
     // Reads once, as far as the connection takes bytes and there may be some. Whether more may come. A read that gives
-    // less than it was asked for is the last, as an event tells of what comes then; but not where the peer sends no
+    // less than it was asked for is the last, as an event tells of what comes then; but not if the peer sends no
     // more, of which there was an event already.
     fn receive(&mut self, scratch: &mut [u8], now: u64) -> bool
         ensures session { seat_of self.new ≡ seat_of self.old }
@@ -394,7 +394,7 @@ impl Peer {
         now.saturating_sub(self.since)
     }
 
-    // Whether a whole frame came in that isn't answered, or a length that is too great, where nothing is to be sent.
+    // Whether a whole frame came in that isn't answered, or a length that is too great, if nothing is to be sent.
     fn is_asked(&self) -> bool
         ensures { IsTrue result ↔ HoldsMore self.now.connection }
     {

@@ -5,9 +5,10 @@ ghost use Rattle.xa_control.specs.Answers.{IsAnswer};
 ghost use Rattle.xa_reactor.specs.{Asking.IsAnswered, Opening.IsOpened, Opening.OpensAt};
 ghost use Rattle.xa_reactor.specs.Peers.{GoesOn, HadTurn, HasParted, HasRoom, IsClosed, IsLast, IsNews, IsNoticed, IsTurned, turns_of};
 ghost use Rattle.xa_reactor.specs.{ForAll.TendsForAll, Users.IsPassed, Users.LogsAt, Users.users_of};
-ghost use Rattle.xa_reactor.specs.Believed.Tending.{Tends, nobody, sessions_of};
+ghost use Rattle.xa_reactor.specs.Believed.Tending.{nobody, sessions_of};
 ghost use Rattle.xa_reactor.specs.{Since.Looks, Since.LooksAll, Timing.after_wait};
 ghost use Rattle.xa_reactor.specs.declared.peer.Step.{Step};
+ghost use Rattle.xa_reactor.specs.ForAll.{PeersTend, PeersTendAs};
 
 use crate::allowance::Allowance;
 use crate::ask::Ask;
@@ -74,8 +75,8 @@ impl Peers {
         self.queue.len()
     }
 
-    /// Serves a session on a connection, which has the role that each has at first. Where there is no memory, or no session is connected, the connection is closed,
-    /// and the answer is false.
+    /// Serves a session on a connection, which has the role that each has at first. If there is no memory, or no session is
+    /// connected, the connection is closed, and the answer is false.
     pub(crate) fn add<D: Reception, R: Clock>(
         &mut self,
         rt: &R,
@@ -85,7 +86,7 @@ impl Peers {
         door: &mut D,
         guest: Guest,
     ) -> bool
-        ensures tends { Tends (users_of common.now) D.connected D.called D.left (sessions_of self.old.all) door.old (sessions_of self.new.all) door.new }
+        ensures tends { PeersTendAs D.connected D.called D.left (users_of common.now) self.old.all door.old self.new.all door.new }
         ensures count { slab_len self.new.all ≡ (if result then slab_len self.old.all + 1 else slab_len self.old.all) }
         ensures turns { (turns_of self.new ≡ turns_of self.old) × (self.new.orders ≡ self.old.orders) }
     {
@@ -120,7 +121,7 @@ impl Peers {
     /// An event told of a connection, which has a turn.
     pub(crate) fn notice<D: Reception>(&mut self, door: &mut D, event: &Event)
         ensures turn { IsNoticed self.old event.now self.new }
-        ensures tends { TendsForAll D.connected D.called D.left (sessions_of self.old.all) door.old (sessions_of self.new.all) door.new }
+        ensures tends { PeersTend D.connected D.called D.left self.old.all door.old self.new.all door.new }
     {
         if notice_in(&mut self.all, event) {
             self.go_on(door, event.token().0, Step::Goes);
@@ -206,7 +207,7 @@ impl Peers {
         scratch: &mut [u8],
         door: &mut D,
     )
-        ensures tends { TendsForAll D.connected D.called D.left (sessions_of self.old.all) door.old (sessions_of self.new.all) door.new }
+        ensures tends { PeersTend D.connected D.called D.left self.old.all door.old self.new.all door.new }
         ensures none { turns_of self.old ≡ [] → (self.new.all ≡ self.old.all) × (turns_of self.new ≡ []) × (door.new ≡ door.old) }
         ensures turn { (key : ℕ) (rest : List ℕ) → turns_of self.old ≡ key ∷ rest → IsTurned self.old key rest self.new }
     {
@@ -217,10 +218,10 @@ impl Peers {
         self.go_on(door, key, step);
     }
 
-    /// Has a turn next, or ends, also where there is no memory for that.
+    /// Has a turn next, or ends, also if there is no memory for that.
     pub(crate) fn go_on<D: Reception>(&mut self, door: &mut D, key: usize, step: Step)
         ensures goes { GoesOn self.old key step self.new }
-        ensures tends { TendsForAll D.connected D.called D.left (sessions_of self.old.all) door.old (sessions_of self.new.all) door.new }
+        ensures tends { PeersTend D.connected D.called D.left self.old.all door.old self.new.all door.new }
     {
         match step {
             Step::Waits => {}
@@ -291,7 +292,7 @@ impl Peers {
         })
     }
 
-    /// Answers what a connection asked of the server itself. What comes after that; None where it asks nothing any more.
+    /// Answers what a connection asked of the server itself. What comes after that; None if it asks nothing any more.
     pub(crate) fn answer_control<R: Clock + Eprint>(
         &mut self,
         rt: &R,
@@ -312,7 +313,7 @@ impl Peers {
         }
     }
 
-    /// Has a turn next, where there is room for that. Whether there was.
+    /// Has a turn next, if there is room for that. Whether there was.
     pub(crate) fn go_on_now(&mut self, key: usize) -> bool
         ensures turn { MatchBool result (IsLast self.old key self.new) (self.new ≡ self.old) }
         ensures count { deque_len self.new.queue ≡ (if result then deque_len self.old.queue + 1 else deque_len self.old.queue) }
@@ -326,7 +327,7 @@ impl Peers {
 
     /// Ends those that are overdue inside a frame, and those that were quiet for too long, by whether they have an association.
     pub(crate) fn end_overdue<D: Reception>(&mut self, door: &mut D, now: u64, settings: &Settings)
-        ensures tends { TendsForAll D.connected D.called D.left (sessions_of self.old.all) door.old (sessions_of self.new.all) door.new }
+        ensures tends { PeersTend D.connected D.called D.left self.old.all door.old self.new.all door.new }
         ensures looks { LooksAll D.ties settings.now now self.old.all self.new.all }
         ensures turns { (self.new.queue ≡ self.old.queue) × (self.new.orders ≡ self.old.orders) }
     {
@@ -350,7 +351,7 @@ impl Peers {
 
     /// Hangs the session of one that asked the server to end up; its socket stays open until it is dropped.
     pub(crate) fn part_stopper<D: Reception>(&mut self, door: &mut D) -> Option<Socket>
-        ensures tends { TendsForAll D.connected D.called D.left (sessions_of self.old.all) door.old (sessions_of self.new.all) door.new }
+        ensures tends { PeersTend D.connected D.called D.left self.old.all door.old self.new.all door.new }
         ensures parted { HasParted self.old result self.new }
     {
         part_in(&mut self.all, door, self.orders.stopper()?)
@@ -405,7 +406,7 @@ fn turn_in<D: Reception, R: Clock>(
     door: &mut D,
     key: usize,
 ) -> Step
-    ensures tends { TendsForAll D.connected D.called D.left (sessions_of all.old) door.old (sessions_of all.new) door.new }
+    ensures tends { PeersTend D.connected D.called D.left all.old door.old all.new door.new }
     ensures turned { HadTurn all.old key result all.new }
 {
     match all.get_mut(key) {
@@ -421,7 +422,7 @@ fn end_if_overdue<D: Reception>(
     now: u64,
     settings: &Settings,
 )
-    ensures tends { TendsForAll D.connected D.called D.left (sessions_of all.old) door.old (sessions_of all.new) door.new }
+    ensures tends { PeersTend D.connected D.called D.left all.old door.old all.new door.new }
     ensures looks { Looks (D.ties door.old) settings.now now key all.old all.new }
 {
     let ends = match all.get(key) {
@@ -435,7 +436,7 @@ fn end_if_overdue<D: Reception>(
 
 // Hangs the session of the connection under this key up, if there is one, and gives its socket.
 fn part_in<D: Reception>(all: &mut Slab<Peer>, door: &mut D, key: usize) -> Option<Socket>
-    ensures tends { TendsForAll D.connected D.called D.left (sessions_of all.old) door.old (sessions_of all.new) door.new }
+    ensures tends { PeersTend D.connected D.called D.left all.old door.old all.new door.new }
     ensures updates { Updates all.old all.new key None }
     ensures socket { result ≡ option_map (λ p. p.socket) (get all.old key) }
 {
@@ -446,7 +447,7 @@ fn part_in<D: Reception>(all: &mut Slab<Peer>, door: &mut D, key: usize) -> Opti
 
 // Ends the connection under this key, if there is one, and hangs its session up.
 pub(crate) fn end_in<D: Reception>(all: &mut Slab<Peer>, door: &mut D, key: usize)
-    ensures tends { TendsForAll D.connected D.called D.left (sessions_of all.old) door.old (sessions_of all.new) door.new }
+    ensures tends { PeersTend D.connected D.called D.left all.old door.old all.new door.new }
     ensures updates { Updates all.old all.new key None }
     ensures others { (other : ℕ) → get all.old other ≡ None → get all.new other ≡ None }
     ensures slots { length all.new.slots ≡ length all.old.slots }

@@ -7,7 +7,7 @@ use std::io::{ErrorKind, Read, Write};
 use std::net::SocketAddr;
 use std::{fmt, io};
 
-/// A connection's socket, whose reads and writes answer `WouldBlock` where they would wait.
+/// A connection's socket, whose reads and writes answer `WouldBlock` if they would wait.
 #[derive(Debug, Drop)]
 pub enum Socket {
     Tcp(TcpStream),
@@ -74,7 +74,7 @@ impl Socket {
         told.is_ok()
     }
 
-    /// Has events tell when there is something to read, and also, where that is asked, when the socket takes more.
+    /// Has events tell when there is something to read, and also, if that is asked, when the socket takes more.
     /// Whether that went well.
     pub(crate) fn watch(&mut self, registry: &Registry, token: Token, writes: bool) -> bool {
         let interests = if writes {

@@ -171,8 +171,8 @@ impl Loop {
         self.events.iter().len() < MOST_EVENTS && self.clock.is_look()
     }
 
-    // The turns of those that have one: together, where there is memory for that, else one by one. After them the log is
-    // trimmed, where that is due. Whether a connection waits to be accepted.
+    // The turns of those that have one: together, if there is memory for that, else one by one. After them the log is
+    // trimmed, if that is due. Whether a connection waits to be accepted.
     fn give_turns<D: Reception, R: AllocGlobal + Clock + Eprint + Wait>(
         &mut self,
         rt: &R,
@@ -380,7 +380,7 @@ impl Loop {
         (accepts, came)
     }
 
-    // Looks for events once, for so long, where there is room for the turns that they make, and opens all that there are; and
+    // Looks for events once, for so long, if there is room for the turns that they make, and opens all that there are; and
     // answers the requests that wait for no device. Where there is a turn to open it waits for no event.
     fn linger_once<D: Reception, R: AllocGlobal + Clock + Eprint>(
         &mut self,

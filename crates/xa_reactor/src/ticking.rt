@@ -15,7 +15,7 @@ use xa_frame::{Reply, Request, encode_request};
 /// For how many milliseconds a tick that is due waits at most until no other loop is at the device.
 const LATE: u64 = 10_000;
 
-/// Tells the manager the time where that is due, and what came of it. When it is due next, by the loop's clock. The first time
+/// Tells the manager the time if that is due, and what came of it. When it is due next, by the loop's clock. The first time
 /// comes before the loop accepts a connection, so no branch begins before it.
 pub(crate) fn keep_time<D: Reception, R: AllocGlobal + Clock + Eprint + Wait>(
     rt: &R,

@@ -8,7 +8,7 @@ use crate::reception::Reception;
 use std::time::Duration;
 use xa_waits::{LOOKS, QUICK_GATHERS};
 
-/// For how long accepting pauses where an accept failed.
+/// For how long accepting pauses after an accept failed.
 pub(crate) const PAUSE: u64 = 100;
 
 /// How long it is from one look for connections that are overdue to the next.

@@ -3,11 +3,12 @@ ghost use Rattle.std.specs.Prelude.{ℕ, ◌≡◌, ◌⊎◌, ◌+◌, ◌++◌
 ghost use Rattle.std.specs.{Vec.vec_capacity, Vec.vec_len, VecDeque.deque_len};
 ghost use Rattle.xa_reactor.specs.Asking.{IsAnswered, IsLeft, IsLent, IsBrought, MayBeTold, PutsAll, PutsIf, TurnedAll, TurnedSome};
 ghost use Rattle.xa_reactor.specs.Believed.Tending.{Table, sessions_of};
-ghost use Rattle.xa_reactor.specs.ForAll.{PostsForAll, TendsForAll};
+ghost use Rattle.xa_reactor.specs.ForAll.{PostsForAll};
 ghost use Rattle.xa_reactor.specs.{Timing.after_wait, Together.HasLent, Together.HasRoomFor, Together.IsOver, Together.may_gather, Together.may_grow};
 ghost use Rattle.xa_reactor.specs.declared.peer.Step.{Step};
 ghost use Rattle.xa_reactor.specs.Together.{GoesOnAll, HasKept, HaveGone, KeepsTurns, turns_in};
 ghost use Rattle.xa_reactor.specs.{Peers.IsLast, declared.peer.Step.TheVariants.Goes};
+ghost use Rattle.xa_reactor.specs.ForAll.{PeersTend};
 
 use crate::ask::Ask;
 use crate::clock::LoopClock;
@@ -95,7 +96,7 @@ impl Together {
             && self.over.len() < MANY_TURNS
     }
 
-    /// Opens the turns of those that have one, where there is memory for that.
+    /// Opens the turns of those that have one, if there is memory for that.
     pub(crate) fn open_turns<D: Reception, R: Clock>(
         &mut self,
         rt: &R,
@@ -120,7 +121,7 @@ impl Together {
         }
     }
 
-    // Opens the next turn, where there is room.
+    // Opens the next turn, if there is room.
     fn open_turn<D: Reception, R: Clock>(
         &mut self,
         rt: &R,
@@ -160,7 +161,7 @@ impl Together {
     }
 
     /// Answers the requests that wait for no device, and sends the replies. Those that have to wait for another loop's are
-    /// left, and all of them where there is no memory.
+    /// left, and all of them if there is no memory.
     pub(crate) fn answer_quick<D: Reception, R: Clock + Eprint>(
         &mut self,
         rt: &R,
@@ -170,7 +171,7 @@ impl Together {
         door: &mut D,
     )
         requires { HasLent (sessions_of peers.old.all) self.old }
-        ensures tends { TendsForAll D.connected D.called D.left (sessions_of peers.old.all) door.old (sessions_of peers.new.all) door.new }
+        ensures tends { PeersTend D.connected D.called D.left peers.old.all door.old peers.new.all door.new }
         ensures same { sessions_of peers.new.all ≡ sessions_of peers.old.all }
         ensures lent { HasLent (sessions_of peers.new.all) self.new }
         ensures waiting { self.new.waiting ≡ self.old.waiting }
@@ -204,7 +205,7 @@ impl Together {
         door: &mut D,
     )
         requires { HasLent (sessions_of peers.old.all) self.old }
-        ensures tends { TendsForAll D.connected D.called D.left (sessions_of peers.old.all) door.old (sessions_of peers.new.all) door.new }
+        ensures tends { PeersTend D.connected D.called D.left peers.old.all door.old peers.new.all door.new }
         ensures over { IsOver self.new }
         ensures goes { HaveGone self.old peers.old peers.new }
         ensures settled { D.is_settled door.new }
@@ -242,7 +243,7 @@ fn give_quick<D: Reception, R: Clock + Eprint>(
     requires lent { All (IsLent (sessions_of peers.old.all)) asks.old.items }
     requires left { (left.old.items ≡ []) × (vec_len asks.old ≤ vec_capacity left.old) }
     requires room { HasRoomFor over.old asks.old }
-    ensures tends { TendsForAll D.connected D.called D.left (sessions_of peers.old.all) door.old (sessions_of peers.new.all) door.new }
+    ensures tends { PeersTend D.connected D.called D.left peers.old.all door.old peers.new.all door.new }
     ensures same { sessions_of peers.new.all ≡ sessions_of peers.old.all }
     ensures lent { All (IsLent (sessions_of peers.new.all)) asks.new.items }
     ensures left { left.new.items ≡ [] }
@@ -269,7 +270,7 @@ fn give_waiting<D: Reception, R: Clock + Eprint>(
 )
     requires lent { All (IsLent (sessions_of peers.old.all)) asks.old.items }
     requires room { HasRoomFor over.old asks.old }
-    ensures tends { TendsForAll D.connected D.called D.left (sessions_of peers.old.all) door.old (sessions_of peers.new.all) door.new }
+    ensures tends { PeersTend D.connected D.called D.left peers.old.all door.old peers.new.all door.new }
     ensures same { sessions_of peers.new.all ≡ sessions_of peers.old.all }
     ensures none { asks.new.items ≡ [] }
     ensures turns { (vec_len over.new ≡ vec_len over.old + vec_len asks.old) × (peers.new.queue ≡ peers.old.queue) }
@@ -363,7 +364,7 @@ fn send_or_leave<R: Clock + Eprint>(
     }
 }
 
-// What comes after a turn is kept until all are over; but a turn more is had at once, where there is room for it.
+// What comes after a turn is kept until all are over; but a turn more is had at once, if there is room for it.
 fn go_on_or_keep(over: &mut Vec<(usize, Step)>, peers: &mut Peers, key: usize, step: Step)
     requires { vec_len over.old < vec_capacity over.old }
     ensures same { peers.new.all ≡ peers.old.all }
@@ -381,7 +382,7 @@ fn go_on_or_keep(over: &mut Vec<(usize, Step)>, peers: &mut Peers, key: usize, s
 // What comes after turns.
 fn go_on_all<D: Reception>(over: &mut Vec<(usize, Step)>, peers: &mut Peers, door: &mut D)
     ensures goes { GoesOnAll peers.old over.old.items peers.new }
-    ensures tends { TendsForAll D.connected D.called D.left (sessions_of peers.old.all) door.old (sessions_of peers.new.all) door.new }
+    ensures tends { PeersTend D.connected D.called D.left peers.old.all door.old peers.new.all door.new }
     ensures none { over.new.items ≡ [] }
 {
     for (key, step) in over.drain(..) {

@@ -1,8 +1,8 @@
 //! What a loop's turns use.
 ghost use Rattle.std.specs.Prelude.{◌≡◌, IfOk, vec_len};
 ghost use Rattle.xa_connection.specs.declared.connection.TheConstants.{MOST_INPUT};
-ghost use Rattle.xa_reactor.specs.{Believed.Tending.sessions_of, ForAll.TendsForAll};
 ghost use Rattle.xa_waits.specs.Patience.{new_patience};
+ghost use Rattle.xa_reactor.specs.ForAll.{PeersTend};
 
 use crate::clock::LoopClock;
 use crate::common::Common;
@@ -52,7 +52,7 @@ pub(crate) fn give_each<D: Reception, R: AllocGlobal + Clock + Eprint + Wait>(
     door: &mut D,
     turns: usize,
 )
-    ensures { TendsForAll D.connected D.called D.left (sessions_of peers.old.all) door.old (sessions_of peers.new.all) door.new }
+    ensures { PeersTend D.connected D.called D.left peers.old.all door.old peers.new.all door.new }
 {
     for _ in 0..turns {
         peers.give_turn(rt, round, clock, &mut tools.scratch, door);

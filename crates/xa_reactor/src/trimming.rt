@@ -19,7 +19,7 @@ const TRIM: [u8; 2] = [1, 65];
 /// After how many calls at its door that may have moved the log's end a loop asks for that.
 const PACE: u64 = 4;
 
-/// The same where it would have to wait for other loops.
+/// The same if it would have to wait for other loops.
 const SLOW_PACE: u64 = 16;
 
 /// A loop begins: it looks where the log ends, before anybody is answered.
@@ -30,7 +30,7 @@ pub(crate) fn begin_trims<D: Reception, R: Wait>(rt: &R, common: &Common<'_>, do
     }
 }
 
-/// Trims the log where that is due, and tells of it, for which it may wait. The calls at the door are `seen` when the log's
+/// Trims the log if that is due, and tells of it, for which it may wait. The calls at the door are `seen` when the log's
 /// end is asked for.
 pub(crate) fn keep_short<D: Reception, R: AllocGlobal + Clock + Eprint + Wait>(
     rt: &R,
@@ -66,7 +66,7 @@ pub(crate) fn keep_short<D: Reception, R: AllocGlobal + Clock + Eprint + Wait>(
     }
 }
 
-/// Trims the log as the server ends, where that is quick and makes it shorter: so the next start reads less.
+/// Trims the log as the server ends, if that is quick and makes it shorter: so the next start reads less.
 pub(crate) fn trim_last<D: Reception, R: AllocGlobal + Clock + Eprint + Wait>(
     rt: &R,
     common: &Common<'_>,
@@ -124,7 +124,7 @@ fn trim<D: Reception, R: AllocGlobal + Clock + Eprint>(
     }
 }
 
-// How many milliseconds have passed, 0 where the clock doesn't tell.
+// How many milliseconds have passed, 0 if the clock doesn't tell.
 fn millis_since<R: Clock>(rt: &R, began: Option<Instant>) -> u64 {
     let Some(began) = began else {
         return 0;

@@ -27,7 +27,7 @@ pub(crate) fn bound_of(asked: u64, log_bytes: u64) -> u64
 }
 
 /// Whether a trim is due of a log that ends there, by the end that the last snapshot left: above the bound, and at least
-/// four times as far, or where half of what that snapshot left free is used up.
+/// four times as far, or if half of what that snapshot left free is used up.
 pub(crate) fn is_due(end: u64, base: u64, bound: u64, log_bytes: u64) -> bool
     ensures { result ≡ is_due end base bound log_bytes }
 {
@@ -77,7 +77,7 @@ fn is_news(told: Option<u64>, now: u64) -> bool
 pub(crate) struct Trims {
     /// The end that the last snapshot left, as far as is known.
     base: u64,
-    /// The last trim, where it was refused.
+    /// The last trim, if it was refused.
     refused: Option<Refused>,
     /// When a refusal was told last.
     told: Option<u64>,
@@ -120,7 +120,7 @@ impl Trims {
     }
 
     // Whether the log, which ends there, has grown by so much since the last snapshot that a start is shorter after another
-    // one; not where a trim was refused since.
+    // one; not if a trim was refused since.
     fn has_grown(&self, end: u64) -> bool
         ensures { result ≡ has_grown self.now end }
     {

@@ -69,12 +69,12 @@ impl Watch {
         self.has_ended.store(true, Ordering::SeqCst);
     }
 
-    /// Whether the loops ended since it was down, also where a Restart that was asked for by then has helped.
+    /// Whether the loops ended since it was down, also if a Restart that was asked for by then has helped.
     pub fn has_ended(&self) -> bool {
         self.has_ended.load(Ordering::SeqCst)
     }
 
-    /// Why it went down, where nobody was told, also where it is up again.
+    /// Why it went down, if nobody was told, also if it is up again.
     pub(crate) fn news(&self) -> Option<Cause> {
         // read first: each loop asks after each round
         if self.is_untold.load(Ordering::SeqCst) && self.is_untold.swap(false, Ordering::SeqCst) {

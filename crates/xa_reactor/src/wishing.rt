@@ -39,8 +39,8 @@ impl Peer {
         self.pause = Some(until);
     }
 
-    /// Answers what it asks of the server itself, where it waits for this order, or for none, and sends the answer. What comes
-    /// after that; None where it asks nothing, or waits for another one.
+    /// Answers what it asks of the server itself, if it waits for this order, or for none, and sends the answer. What comes
+    /// after that; None if it asks nothing, or waits for another one.
     pub(crate) fn answer_control<R: Clock + Eprint>(
         &mut self,
         rt: &R,

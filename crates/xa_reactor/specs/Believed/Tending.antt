@@ -164,7 +164,7 @@ module _ {D : Type 0} (users : Option Users) (connected : D → Result ℕ Conne
   Does old new d e =
       Connects old new d e ⊎ (Refuses old new d e ⊎ (Converses old new d e ⊎ (Leaves old new d e ⊎ (Keeps old new d e ⊎ (LogsIn users old new × (d ≡ e))))))
 
-  -- Whatever the loop did where it posts nothing, it was one of these things after the other.
+  -- Whatever the loop did if it posts nothing, it was one of these things after the other.
   abbrev pub Tends : Table → D → Table → D → Type 0
   Tends old d new e = DoesSome Does old d new e
 
