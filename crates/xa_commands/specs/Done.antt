@@ -92,7 +92,7 @@ HasShown name task end =
     IsErrOf end (Talk talk.Memory)
     ⊎ ((output : Option (List ℕ)) × (output' : Option (List ℕ)) × Prints end (script_of name task) output output')
 
--- the status of a check: 0 where a server opens the two files, 1 where it doesn't, 2 where that couldn't be told
+-- the status of a check: 0 if a server opens the two files, 1 if it doesn't, 2 if that couldn't be told
 abbrev pub checked_status : {E : Type 0} → Result Bool E → ℕ
 checked_status (Ok true) = 0
 checked_status (Ok false) = 1

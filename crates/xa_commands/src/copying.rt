@@ -59,7 +59,7 @@ struct Made<S, D> {
     second_copy: D,
 }
 
-// Copies the log to files that are new, and prints what was copied; where that fails, they are removed.
+// Copies the log to files that are new, and prints what was copied; if that fails, they are removed.
 fn copy_new<'a, R: AllocGlobal + Print + Files + Opens + Sources>(
     rt: &R,
     path: &'a str,

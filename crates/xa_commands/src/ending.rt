@@ -11,7 +11,7 @@ use std::process::ExitCode;
 use xa_operate::{OperateFault, operate_status};
 use xa_play::PlayFault;
 
-/// The status of an end, and its line on standard error where it is a fault: 0 where all is done, else 1.
+/// The status of an end, and its line on standard error if it is a fault: 0 if all is done, else 1.
 pub fn ended<R: Eprint, F: Display>(rt: &R, end: &Result<(), F>) -> ExitCode
     ensures done { OnOk end.now (exit_status result ≡ 0) }
     ensures fault { OnErr end.now (exit_status result ≡ 1) }
@@ -25,7 +25,7 @@ pub fn ended<R: Eprint, F: Display>(rt: &R, end: &Result<(), F>) -> ExitCode
     }
 }
 
-/// The same of what was asked of a server: where it couldn't be reached, that is told, with the system's text, and if a user
+/// The same of what was asked of a server: if it couldn't be reached, that is told, with the system's text, and if a user
 /// who was to log in couldn't, why.
 pub fn ended_at<R: Eprint, F: Display>(
     rt: &R,
@@ -72,8 +72,8 @@ pub fn served<R: Eprint, F: Display>(rt: &R, end: &Result<bool, F>) -> ExitCode
     }
 }
 
-/// The status of a check of two files, and its line on standard error where it is a fault: 0 where a server opens what they
-/// have, 1 where it doesn't, 2 where that couldn't be told.
+/// The status of a check of two files, and its line on standard error if it is a fault: 0 if a server opens what they
+/// have, 1 if it doesn't, 2 if that couldn't be told.
 pub fn checked<R: Eprint, F: Display>(rt: &R, end: &Result<bool, F>) -> ExitCode
     ensures { exit_status result ≡ checked_status end.now }
 {
@@ -86,8 +86,8 @@ pub fn checked<R: Eprint, F: Display>(rt: &R, end: &Result<bool, F>) -> ExitCode
     }
 }
 
-/// The status of a task that a server was asked, and its line on standard error where it isn't done: 0 where it is, 1 where
-/// the server refused it or wasn't asked, 3 where that isn't known.
+/// The status of a task that a server was asked, and its line on standard error if it isn't done: 0 if it is, 1 if
+/// the server refused it or wasn't asked, 3 if that isn't known.
 pub fn operated<R: Eprint>(
     rt: &R,
     end: &Result<(), OperateFault>,
@@ -106,7 +106,7 @@ pub fn operated<R: Eprint>(
     ExitCode::from(operate_status(end))
 }
 
-/// The status where the words of the command line can't be had. A word that is no text is refused as a word that is
+/// The status if the words of the command line can't be had. A word that is no text is refused as a word that is
 /// no command is elsewhere, with status 2.
 pub fn words_fault<R: Eprint>(rt: &R, error: &io::Error) -> ExitCode
     ensures memory { error_kind error.now ≡ ErrorKind.OutOfMemory → exit_status result ≡ 1 }

@@ -43,7 +43,7 @@ pub struct Server<'a, 'w, R> {
 }
 
 impl<'a, 'w, R> Server<'a, 'w, R> {
-    /// A server of which each answer is waited for this many seconds at most, or without end where they are 0: an answer of
+    /// A server of which each answer is waited for this many seconds at most, or without end if they are 0: an answer of
     /// which no byte comes meanwhile is given up, as a connection that broke.
     ///
     /// With a user, each connection is logged in as that one before it is used. The secret is the first line of the file

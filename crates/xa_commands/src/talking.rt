@@ -12,7 +12,7 @@ use std::rt::Env;
 use xa_talk::{Manner, TalkFault, talk_run};
 
 /// Sends the calls of standard input to a server. Its replies are printed one by one, so that nothing
-/// waits in a buffer. Of a line that asks nothing it is told on standard error what is wrong; where the script is typed,
+/// waits in a buffer. Of a line that asks nothing it is told on standard error what is wrong; if the script is typed,
 /// each line is asked for there.
 pub fn talk<
     R: AllocGlobal + Input + Print + Eprint + Env + Files + Net<Stream = TcpStream> + RandomSource,

@@ -40,7 +40,7 @@ Steps run happening outcome reply Then =
     (after : State) × (step run.now happening outcome ≡ Some (record { reply = reply; after = after }))
     × Then (behind run (record { happening = happening; outcome = outcome; reply = reply }) after)
 
--- An event is answered, and its reply shown: it is a step, or memory was wanted, where it may be, and then it is no
+-- An event is answered, and its reply shown: it is a step, or memory was wanted, if it may be, and then it is no
 -- entry.
 abbrev pub Shows : Run → Event → List ℕ → (Run → Type 0) → Type 0
 Shows run asked text Then =
@@ -77,7 +77,7 @@ module _ (name : List ℕ) (log_bytes : ℕ) where
 
   -- What a line prints, and that this holds of the run with it. Of a crash that is said of every run to whose state the
   -- two files come that it left: it goes on with that run, opened again. Where they come to the state before the crash,
-  -- as they do where nothing is left to chance, that is the run so far.
+  -- as they do if nothing is left to chance, that is the run so far.
   abbrev pub PlaysLine : Run → Line → List ℕ → (Run → Type 0) → Type 0
   PlaysLine run Silent text Then = (text ≡ []) × Then run
   PlaysLine run Unknown text Then = (text ≡ replies.line_of bad_frame) × Then run
@@ -151,7 +151,7 @@ WasRead (Err _) = ⊥
 abbrev pub IsTooLong : List ℕ → Type 0
 IsTooLong bytes = MOST_SCRIPT < length bytes
 
--- A play, on a manager that was opened on two empty disks: its script, which is what the reader had where that is
+-- A play, on a manager that was opened on two empty disks: its script, which is what the reader had if that is
 -- known, and the text that was written, which is what the end says. Of the run after each line this holds.
 pub record Plays {X : Type 0} (Holds : Run → Type 0) (name : List ℕ) (log_bytes : ℕ) (end : Result X PlayFault)
     (input output output' : Option (List ℕ)) : Type 0 where

@@ -9,7 +9,7 @@ use std::io::{self, Error, ErrorKind, Read};
 /// The most bytes that a script has.
 pub const MOST_SCRIPT: u64 = 16_777_216;
 
-/// All that the reader gives, where it isn't too long.
+/// All that the reader gives, if it isn't too long.
 pub fn read_script<R: Read + Drop>(alloc: Global, reader: &mut R) -> Result<Vec<u8>, PlayFault>
     ensures all { IfOk result (λ script. IfSome (R.remaining reader.old) (λ bytes. script.items ≡ bytes)) }
     ensures faults { IfErr result (λ fault. (fault ≡ PlayFault.Memory) ⊎ (fault ≡ PlayFault.Read)

@@ -13,7 +13,7 @@ use xa_sequencer::Manages;
 /// A manager with a receipt of each event that it answered. To a contract it is the manager as it is now, the receipts, and
 /// how many found no memory.
 ///
-/// It answers just what the manager does, also where a receipt finds no memory: that is counted, and nothing else changes.
+/// It answers just what the manager does, also if a receipt finds no memory: that is counted, and nothing else changes.
 /// While none was lost, the receipts are those of a legal history, from a state that `S` picks to the one that the manager
 /// stands for.
 #[derive(Drop)]

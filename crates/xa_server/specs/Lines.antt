@@ -7,7 +7,7 @@ abbrev pub found_word : Bool → List ℕ
 found_word true = codes "ok"
 found_word false = codes "failed"
 
--- the line of receipts that were dropped, where there are any, and then the others
+-- the line of receipts that were dropped, if there are any, and then the others
 abbrev pub with_dropped : ℕ → List ℕ → List ℕ
 with_dropped n lines = (if n == 0 then lines else codes "receipts dropped " ++ (decimal n ++ 10 ∷ lines))
 

@@ -1,4 +1,4 @@
--- What a loop's door keeps: where it owes nothing that was posted, it owes nothing after what it does.
+-- What a loop's door keeps: if it owes nothing that was posted, it owes nothing after what it does.
 use Rattle.std.specs.Prelude.{ℕ, not}
 use Rattle.std.proofs.Common.{sym, subst}
 use Rattle.xa_assoc.specs.Refusals.{is_memory}

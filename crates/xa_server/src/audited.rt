@@ -14,7 +14,7 @@ pub struct Audited {
     pub is_whole: bool,
 }
 
-/// The lines that show it, each with its line feed: two, and one more between them where receipts were dropped.
+/// The lines that show it, each with its line feed: two, and one more between them if receipts were dropped.
 pub fn audited_lines(alloc: Global, told: Audited) -> Result<String, AllocError>
     ensures { IfOk result (λ text. string_bytes text ≡ lines_of told) }
 {

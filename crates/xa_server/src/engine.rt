@@ -36,7 +36,7 @@ pub struct Looped {
     pub is_whole: bool,
     /// Whether the manager was down when they ended, by the replies.
     pub is_down: bool,
-    /// Whether they ended since it was down, also where a Restart that was asked for by then has helped.
+    /// Whether they ended since it was down, also if a Restart that was asked for by then has helped.
     pub ended_down: bool,
     /// What was asked of them.
     pub settings: Settings,

@@ -100,7 +100,7 @@ impl<'a, M: Manages, S: Start, B: Book, R: Clock + Wait, K: Keeps> Post<'a, M, S
         unreachable!()
     }
 
-    // Takes the letters that came back, and where some are to come back yet, it is settled, and nobody else waits for the
+    // Takes the letters that came back, and if some are to come back yet, it is settled, and nobody else waits for the
     // lock, has the posted calls answered. While others wait for the lock they come first, some times.
     fn take_turn(&mut self, held: Held<'a, M, S, B>, asks: &mut [Ask], lets: u32)
         ensures back { TakesBack M.manages S.start S.base self.old.handle.asker asks.old asks.new

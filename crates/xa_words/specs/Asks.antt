@@ -33,7 +33,7 @@ IsOther command =
 abbrev pub IsCommand : Text → Type 0
 IsCommand command = IsOther command ⊎ IsSome (verb_of command)
 
--- how a server is to be reached: at the path, where one is given, else on the port; None where neither is
+-- how a server is to be reached: at the path, if one is given, else on the port; None if neither is
 abbrev pub IsReachIn : List Row → Option Reach → Type 0
 IsReachIn rows (Some (reach.Socket path)) = first_of (codes "socket") rows ≡ Some path.now
 IsReachIn rows (Some (reach.Port host port)) =

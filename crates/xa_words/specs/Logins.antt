@@ -16,7 +16,7 @@ IsUserIn rows user = option_map (λ name. name.now) user ≡ first_of (codes "us
 abbrev pub is_addition : List Row → Bool
 is_addition rows = bytes_eq (text_in rows (codes "action") []) (codes "add")
 
--- with this role; None where the word is none
+-- with this role; None if the word is none
 abbrev pub role_in : List Row → Option Role
 role_in rows = named (text_in rows (codes "role") [])
 

@@ -9,7 +9,7 @@ use Rattle.clap.specs.Walk.{Row, Text, first_of, one_of}
 abbrev pub text_in : List Row → Text → Text → Text
 text_in rows id absent = unwrap_or (first_of id rows) absent
 
--- the number that a text spells, where it is at most `most`, or the one that stands for none
+-- the number that a text spells, if it is at most `most`, or the one that stands for none
 abbrev pub number_or : ℕ → ℕ → Text → ℕ
 number_or most absent text =
     if is_unsigned_in 0 most text then digits_value 10 (without_leading_plus text) else absent
@@ -31,6 +31,6 @@ pub record IsSet (text : Option Text) (flag : Bool) : Type 0 where
   pub set : text ≡ Some (codes "true") → flag ≡ true
   pub unset : text ≡ Some (codes "false") → flag ≡ false
 
--- no path is given, and this port is, which is 0 where none is
+-- no path is given, and this port is, which is 0 if none is
 abbrev pub IsPort : List Row → ℕ → Type 0
 IsPort rows port = (first_of (codes "socket") rows ≡ None) × (port ≡ number_in rows (codes "port") most_16 0)

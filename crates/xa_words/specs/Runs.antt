@@ -37,13 +37,13 @@ use Rattle.xa_words.specs.declared.ran.Ran.{Ran}
 use Rattle.xa_words.specs.declared.ran.Ran.TheVariants.{Ended, Serves}
 use Rattle.xa_words.specs.declared.terminals.Terminals.{Terminals}
 
--- the status of an end: 0 where all is done, else 1
+-- the status of an end: 0 if all is done, else 1
 abbrev pub status_of : {X E : Type 0} → Result X E → ℕ
 status_of (Ok x) = 0
 status_of (Err e) = 1
 
--- The status where words are refused for a reason of this kind: 1 where memory ran out; of help and of the version, which
--- were asked for, 0, or 1 where they couldn't be printed; else 2.
+-- The status if words are refused for a reason of this kind: 1 if memory ran out; of help and of the version, which
+-- were asked for, 0, or 1 if they couldn't be printed; else 2.
 abbrev pub IsRefusal : ErrorKind → ℕ → Type 0
 IsRefusal OutOfMemory status = status ≡ 1
 IsRefusal DisplayHelp status = (status ≡ 0) ⊎ (status ≡ 1)
@@ -58,7 +58,7 @@ EndsAs {E} holds status = (end : Result (Unit {0}) E) × holds end × (status �
 abbrev pub EndsAsTask : (Result (Unit {0}) OperateFault → Type 0) → ℕ → Type 0
 EndsAsTask holds status = (end : Result (Unit {0}) OperateFault) × holds end × (status ≡ operate.status_of end)
 
--- in which manner a server is talked to: where somebody types, and sees what is asked, each line is asked for
+-- in which manner a server is talked to: if somebody types, and sees what is asked, each line is asked for
 abbrev pub manner_of : Style → Bool → Terminals → Manner
 manner_of style strict terminals = record { style = style; is_strict = strict; is_typed = are_both terminals }
 
@@ -79,7 +79,7 @@ pub record IsPlayed {I X : Type 0} (remaining : I → Option Text) (name : Text)
 module _ {I D F C : Type 0} (terminals : Terminals) (T : Type 0) (remaining : I → Option Text) (honest : Type 0) (seen : D → Text)
     (opened : D → Text → Type 0) (refused : Text → FileFault → Type 0) (contents : F → Option Text)
     (sent left : C → Option Text) where
-  -- What can't be taken back wasn't confirmed by the words: where nobody types, it is told what would be done; where
+  -- What can't be taken back wasn't confirmed by the words: if nobody types, it is told what would be done; if
   -- somebody does, it is done once he has said yes, if it is known where.
   abbrev pub HasAsked : Option Reach → Format → Text → Task → ℕ → Type 0
   HasAsked reach format name task status =

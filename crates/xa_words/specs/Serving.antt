@@ -11,7 +11,7 @@ use Rattle.xa_words.specs.Given.{is_given}
 use Rattle.xa_words.specs.Modes.{mode_of}
 use Rattle.xa_words.specs.Rows.{IsPort, IsSet, most_16, most_64, number_in, text_in}
 
--- the number of workers, 0 where none is given
+-- the number of workers, 0 if none is given
 abbrev pub workers_in : List Row → ℕ
 workers_in rows = number_in rows (codes "workers") most_64 0
 
@@ -45,7 +45,7 @@ IsAudited rows audits =
     (flag : Bool) × IsSet (one_of (codes "audit") rows) flag
     × (audits ≡ (flag || (gives_workers rows || writes_history rows)))
 
--- where it is to listen: at the path and on the port, where both are given; at one of them, where it alone is
+-- where it is to listen: at the path and on the port, if both are given; at one of them, if it alone is
 abbrev pub IsAtIn : List Row → Option At → Type 0
 IsAtIn rows (Some (at.Socket path)) =
     (first_of (codes "socket") rows ≡ Some path.now) × (number_in rows (codes "port") most_16 0 ≡ 0)
@@ -56,7 +56,7 @@ IsAtIn rows (Some (at.Both address port path)) =
     × (address.now ≡ text_in rows (codes "listen") (codes "127.0.0.1"))
 IsAtIn rows None = IsPort rows 0
 
--- the permissions of its Unix socket; None where the word spells none
+-- the permissions of its Unix socket; None if the word spells none
 abbrev pub mode_in : List Row → Option ℕ
 mode_in rows = mode_of (text_in rows (codes "socket-mode") (codes "0600"))
 

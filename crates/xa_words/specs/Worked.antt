@@ -38,7 +38,7 @@ WithHistory = ServesBy (codes "--audit-out" ∷ codes "h" ∷ []) (0 ∷ 0 ∷ 6
 abbrev pub WithWorkers : Type 0
 WithWorkers = ServesBy (codes "--workers" ∷ codes "2" ∷ []) (2 ∷ 1000000 ∷ 0 ∷ 0 ∷ []) true
 
--- what the words say of the others counts with workers, too, also where it is the default
+-- what the words say of the others counts with workers, too, also if it is the default
 abbrev pub WorkersAndMore : Type 0
 WorkersAndMore =
     ServesBy (codes "--tick=1" ∷ codes "--workers=64" ∷ codes "--trim=64" ∷ codes "--connections=3" ∷ [])

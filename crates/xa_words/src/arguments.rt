@@ -17,10 +17,10 @@ use xa_talk::MOST_EVERY;
 /// The greatest number that a word may spell: `clap` reads numbers of 63 bits.
 const MOST_NUMBER: u64 = 9_223_372_036_854_775_807;
 
-/// The most seconds that a connection may be quiet inside a frame, where that has an end.
+/// The most seconds that a connection may be quiet inside a frame, if that has an end.
 const MOST_FRAME_SECONDS: u64 = 3_600;
 
-/// The most seconds that a connection may be quiet between frames, where that has an end: a day.
+/// The most seconds that a connection may be quiet between frames, if that has an end: a day.
 const MOST_IDLE_SECONDS: u64 = 86_400;
 
 pub fn play_name<'a>(alloc: Global) -> Arg<'a>

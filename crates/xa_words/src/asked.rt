@@ -74,7 +74,7 @@ pub enum Asked<'a> {
         /// How many seconds an answer may be waited for.
         seconds: u64,
         format: Format,
-        /// Under which the resource manager is opened, where that is needed.
+        /// Under which the resource manager is opened, if that is needed.
         name: &'a str,
         task: Task,
     },
@@ -85,14 +85,14 @@ pub enum Asked<'a> {
     },
     /// A server is to be asked a task that can't be taken back, and that wasn't confirmed.
     Unconfirmed {
-        /// None where neither a port nor a path was given.
+        /// None if neither a port nor a path was given.
         reach: Option<Reach<'a>>,
         user: Option<&'a str>,
         seconds: u64,
         format: Format,
         name: &'a str,
         task: Task,
-        /// What it is about, as it was given: an XID, or a session's number, where the task names one.
+        /// What it is about, as it was given: an XID, or a session's number, if the task names one.
         about: &'a str,
     },
     /// A word isn't as it has to be.

@@ -38,7 +38,7 @@ use xa_roles::Role;
 /// Does what the command line says, but that it serves. Status 0: done. 1: a fault, its line on standard error. 2: the
 /// command line was refused. Of a check 1: a server doesn't open the files; 2: a fault, too. Of a task that a server is
 /// asked 1: the server refused it; 3: it isn't known to be done. Where standard input is a terminal, it is asked whether to
-/// do what can't be taken back; where standard error is one, too, the lines of a talk are asked for.
+/// do what can't be taken back; if standard error is one, too, the lines of a talk are asked for.
 pub fn run<
     'a,
     R: AllocGlobal
@@ -178,7 +178,7 @@ fn added<'a, R: AllocGlobal + Input + Eprint + Files + RandomSource>(
     ended(rt, &add_user(rt, path, name, role, secret))
 }
 
-// The status of a server whose log is to be opened though it is damaged, and wasn't. None where it is to serve.
+// The status of a server whose log is to be opened though it is damaged, and wasn't. None if it is to serve.
 fn accepted<R: AllocGlobal + Eprint + Opens + Files>(
     rt: &R,
     accepts_damage: bool,
@@ -235,7 +235,7 @@ fn told<R: Eprint>(rt: &R, malformed: &Malformed) -> ExitCode
     ExitCode::from(2)
 }
 
-// The status of a script that was to be printed, and its line on standard error where it wasn't.
+// The status of a script that was to be printed, and its line on standard error if it wasn't.
 fn shown<R: Eprint>(rt: &R, end: &Result<(), OperateFault>) -> ExitCode
     ensures { exit_status result ≡ status_of end.now }
 {

@@ -122,7 +122,7 @@ fn serve_of<'a>(matches: &ArgMatches<'a>) -> Asked<'a>
     }
 }
 
-// What is to be served at this place, by the number of workers, 0 where none is given: with workers as many loops, and an
+// What is to be served at this place, by the number of workers, 0 if none is given: with workers as many loops, and an
 // audit; and by a Unix socket with these permissions.
 fn service_of<'a>(matches: &ArgMatches<'a>, at: At<'a>, workers: u64, mode: u32) -> Service<'a>
     requires at { IsAtIn (rows_of (found_of matches.now)) (Some at) }
@@ -256,7 +256,7 @@ fn at_of<'a>(matches: &ArgMatches<'a>) -> Option<At<'a>>
     }
 }
 
-// How a server is to be reached: at the path, where one is given, else on the port.
+// How a server is to be reached: at the path, if one is given, else on the port.
 pub(crate) fn reach_of<'a>(matches: &ArgMatches<'a>) -> Option<Reach<'a>>
     ensures { IsReachIn (rows_of (found_of matches.now)) result }
 {

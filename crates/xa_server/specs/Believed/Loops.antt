@@ -50,7 +50,7 @@ abbrev pub Posted : ℕ → Request → Account → Account → Type 0
 Posted session request old new = Posts old (Call session request) new
 
 -- A loop by its account: each session that it connected it hung up, once, and answered only in between, each call by one
--- entry that it was told, or none where memory was wanted; it was told of nothing else. In the end it owes nothing. If there are
+-- entry that it was told, or none if memory was wanted; it was told of nothing else. In the end it owes nothing. If there are
 -- users, a session is answered only what the role may ask that its connection has shown by logging in as one of them.
 abbrev pub HasLooped : {M : Type 0} → Behaviour M → (State → Type 0) → ℕ × ℕ → Option Users → Account → Account → Type 0
 HasLooped m start base users old new =

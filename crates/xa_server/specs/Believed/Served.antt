@@ -40,7 +40,7 @@ use Rattle.xa_service.specs.declared.service.TheConstants.{MOST_LOOPS}
 use Rattle.xa_users.specs.Believed.Users.{SaysUsers, all_of}
 use Rattle.xa_users.specs.declared.users.Users.{Users}
 
--- The manager is what these two disks were opened to: one that begins with what their records come to; a new one, where
+-- The manager is what these two disks were opened to: one that begins with what their records come to; a new one, if
 -- both were empty; and one that stands for the opening of each state that they stood for. The first holds of any disks,
 -- but for what their bytes are.
 pub record HasOpened {D : Type 0} (disks : disk.Ghosts D) (first second : D) (name : List ℕ) (log_bytes : ℕ)
@@ -71,7 +71,7 @@ IsListening net (Unix listener) (AtPath path) = net.listens_at listener path
 IsListening net (Both tcp unix) (AtBoth address port path) = net.listens tcp address port × net.listens_at unix path
 IsListening net _ _ = ⊥
 
--- it was refused: where it is to be both, the port, or the path once the port was had
+-- it was refused: if it is to be both, the port, or the path once the port was had
 abbrev pub IsRefusedAt : {R : Type 0} → listens.Ghosts R → Where → Type 0
 IsRefusedAt net (OnPort address port) = net.refuses address port
 IsRefusedAt net (AtPath path) = net.refuses_at path
@@ -114,7 +114,7 @@ pub record IsReady {D R : Type 0} (disks : disk.Ghosts D) (opened : D → List �
   pub listening : IsListening net listener place.at
   pub has_opened : HasOpened disks first second place.name log_bytes manager
 
--- how many loops are to run: as many as were asked for, or 1 to 4 where none were
+-- how many loops are to run: as many as were asked for, or 1 to 4 if none were
 abbrev pub AreLoops : ℕ → ℕ → Type 0
 AreLoops zero loops = (0 < loops) × (loops ≤ 4)
 AreLoops (suc n) loops = loops ≡ suc n
@@ -200,7 +200,7 @@ IsDamage disks path first second (fault.Damaged file number at) =
     ≡ Some (record { on_first = not file.is_second; number = number; at = at }))
 IsDamage disks path first second why = why ≡ fault.Manager (opening.Log log.Damaged)
 
--- What is known of two disks where a server failed on them: no manager was opened on them, for a reason that it tells;
+-- What is known of two disks if a server failed on them: no manager was opened on them, for a reason that it tells;
 -- or the one that it names is missing, or has something in it that is no log, or is damaged.
 abbrev pub Refuses : {D : Type 0} → disk.Ghosts D → List ℕ → List ℕ → ℕ → D → D → ServeFault → Type 0
 Refuses disks path name log_bytes first second fault.Memory = Unit {0}
