@@ -91,6 +91,17 @@ def compare_kept(run, history, words):
         raise Mistake(f"the play of {KEPT} prints other replies than {KEPT}.out has: {played.stderr.decode()}")
 
 
+def kept_near(run, wrong):
+    """What the history that an audited server wrote has at the place that is told of, and around it."""
+    place, path = re.search(r"place (\d+)", wrong), os.path.join(run.room, KEPT)
+    if not place or not os.path.exists(path):
+        return ""
+    with open(path, encoding="utf-8") as script, open(f"{path}.out", encoding="utf-8") as replies:
+        rows = list(enumerate(zip(script.read().splitlines(), replies.read().splitlines()), 1))
+    at = int(place[1])
+    return "".join(f"\n    {KEPT} has {number}: {line}: {reply[:100]}" for number, (line, reply) in rows[max(0, at - 4) : at + 3])
+
+
 def load_and_compare(run, words, clients, again=0, audit=None, environment=None, play=(), waits=True, **how):
     """A run where nothing is killed. Unless it is said, its server has an audit, and writes its history, or none."""
     if audit is None and run.rng.random() < 0.5:
@@ -99,7 +110,10 @@ def load_and_compare(run, words, clients, again=0, audit=None, environment=None,
     run.serve(*words, *kept, "--connections", str(clients + again), waits=waits, **(environment or {}))
     run.keep_busy(clients, again=again, **how)
     printed = run.finish()
-    history = run.compare(words=play)
+    try:
+        history = run.compare(words=play)
+    except Mistake as mistake:
+        raise Mistake(f"{mistake}{kept_near(run, str(mistake))}") from None
     count_events(run, history, printed, *(audit or ()))
     if audit:
         compare_kept(run, history, play)
