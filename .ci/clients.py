@@ -8,8 +8,8 @@ import time
 
 import plays
 from frames import LIMIT, ROOM, Peer, free_port, placeless, request, shown, timeless
+from programs import PROGRAM
 
-PROGRAM = os.path.join(plays.TOP, "crates/xarm/out/xarm")
 # The longest that who behaves well waits for a reply, in seconds, on a machine that is busy with other things.
 PATIENCE = 10
 OK = "0 Nothing"

@@ -247,6 +247,14 @@ def commands():
         with Server("--loops", "2") as server:
             status, printed, told = Logged(server, secret).run("ada", "talk", "connect\n")
             yield "commands: a server that takes no logins", (status, printed, told.count("\n")), (1, "", 1)
+        # it takes the secret for proved, but its own proof is made by another key
+        text = verifier(SECRET).rpartition(":")[0] + f":{OWN}"
+        with Server("--loops", "2", "--users", put_file(path, user("duty", "operator", text))) as server:
+            logged, line = Logged(server, secret), "the server doesn't know the secret's verifier: it isn't who it says\n"
+            for words, given in (("talk", "connect\n1 open TMNOFLAGS n\n"), ("status", ""), ("restart --yes", ""), ("shutdown", "")):
+                status, printed, told = logged.run("duty", words, given)
+                found = status in (1, 3), printed, told.count("\n"), told.endswith(line), server.is_up()
+                yield f"commands: {words}: a server that doesn't know the verifier", found, (True, "", 1, True, True)
 
 
 def talks(logged):
