@@ -1,3 +1,4 @@
 pub mod Boundaries
 pub mod Raised
 pub mod Written
+pub mod LeftOut

@@ -13,7 +13,7 @@ use Rattle.std.proofs.lemmas.Bool.Decides.{nat_tests}
 use Rattle.std.proofs.lemmas.Map.Keys.{sorted_head, sorted_tail}
 use Rattle.std.proofs.lemmas.Map.Text.{is_eq-slice_cmp}
 use Rattle.std.proofs.lemmas.Slice.Eq.{bytes_eq-Decides}
-use Rattle.mv_ranges.specs.Ranges.{Range, Boundaries, is_before, holds}
+use Rattle.mv_ranges.specs.Ranges.{Boundaries, is_before, holds}
 use Rattle.mv_ranges.specs.Marks.{lower_keys, raised, raised_at, raised_each}
 use Rattle.xa_model.proofs.KeyOrder.{cmp, flipped, upto_before, le_not_before}
 use Rattle.mv_ranges.proofs.Boundaries.{keys_cmp, query, Ascending}
@@ -85,24 +85,24 @@ each_named : (n : ℕ) (ks : List (Vec ℕ Global)) (bs : Boundaries) → raised
 each_named n [] bs = named_nil n bs
 each_named n (k ∷ ks) bs = each_named n ks (map (raised_at n k.items) bs) ∙ named_cons n k.items (map (λ k. k.items) ks) bs
 
--- a key among those below in the range is in the range
-sound : (r : Range) (n : ℕ) (key : List ℕ) (bs : Boundaries) → list_any (λ k. bytes_eq k key) (lower_keys r n bs) ≡ true → holds r key ≡ true
+-- a key among those that pass the test does
+sound : (r : List ℕ → Bool) (n : ℕ) (key : List ℕ) (bs : Boundaries) → list_any (λ k. bytes_eq k key) (lower_keys r n bs) ≡ true → r key ≡ true
 sound r n key [] h = absurd (cc)
-sound r n key (b ∷ bs) h = at (holds r b.0.items) refl (nat_lt b.1 n) refl (sound r n key bs)
+sound r n key (b ∷ bs) h = at (r b.0.items) refl (nat_lt b.1 n) refl (sound r n key bs)
   where
-    here : holds r b.0.items ≡ true → (x : Bool) → bytes_eq b.0.items key ≡ x → (x || list_any (λ k. bytes_eq k key) (lower_keys r n bs)) ≡ true → (list_any (λ k. bytes_eq k key) (lower_keys r n bs) ≡ true → holds r key ≡ true) → holds r key ≡ true
-    here e true f g rest = ap (holds r) (sym (same_key b.0.items key f)) ∙ e
+    here : r b.0.items ≡ true → (x : Bool) → bytes_eq b.0.items key ≡ x → (x || list_any (λ k. bytes_eq k key) (lower_keys r n bs)) ≡ true → (list_any (λ k. bytes_eq k key) (lower_keys r n bs) ≡ true → r key ≡ true) → r key ≡ true
+    here e true f g rest = ap r (sym (same_key b.0.items key f)) ∙ e
     here e false f g rest = rest g
 
-    at : (x : Bool) → holds r b.0.items ≡ x → (y : Bool) → nat_lt b.1 n ≡ y → (list_any (λ k. bytes_eq k key) (lower_keys r n bs) ≡ true → holds r key ≡ true) → holds r key ≡ true
+    at : (x : Bool) → r b.0.items ≡ x → (y : Bool) → nat_lt b.1 n ≡ y → (list_any (λ k. bytes_eq k key) (lower_keys r n bs) ≡ true → r key ≡ true) → r key ≡ true
     at true e true f rest = here e (bytes_eq b.0.items key) refl (rw (e, f) at h) rest
     at true e false f rest = rest (rw (e, f) at h)
     at false e y f rest = rest (rw e at h)
 
-abbrev Listed : Range → ℕ → List (List ℕ) → Boundaries → Type 0
-Listed r n keys bs = Each (λ b. holds r b.0.items ≡ true → nat_lt b.1 n ≡ true → list_any (λ k. bytes_eq k b.0.items) keys ≡ true) bs
+abbrev Listed : (List ℕ → Bool) → ℕ → List (List ℕ) → Boundaries → Type 0
+Listed r n keys bs = Each (λ b. r b.0.items ≡ true → nat_lt b.1 n ≡ true → list_any (λ k. bytes_eq k b.0.items) keys ≡ true) bs
 
-more_listed : (r : Range) (n : ℕ) (k : List ℕ) (keys : List (List ℕ)) (bs : Boundaries) → Listed r n keys bs → Listed r n (k ∷ keys) bs
+more_listed : (r : List ℕ → Bool) (n : ℕ) (k : List ℕ) (keys : List (List ℕ)) (bs : Boundaries) → Listed r n keys bs → Listed r n (k ∷ keys) bs
 more_listed r n k keys [] l = tt
 more_listed r n k keys (b ∷ bs) l = ((λ h g. either (bytes_eq k b.0.items) (l.0 h g)), more_listed r n k keys bs l.1)
   where
@@ -110,14 +110,14 @@ more_listed r n k keys (b ∷ bs) l = ((λ h g. either (bytes_eq k b.0.items) (l
     either true h = refl
     either false h = h
 
-complete : (r : Range) (n : ℕ) (bs : Boundaries) → Listed r n (lower_keys r n bs) bs
+complete : (r : List ℕ → Bool) (n : ℕ) (bs : Boundaries) → Listed r n (lower_keys r n bs) bs
 complete r n [] = tt
-complete r n (b ∷ bs) = at (holds r b.0.items) refl (nat_lt b.1 n) refl (complete r n bs)
+complete r n (b ∷ bs) = at (r b.0.items) refl (nat_lt b.1 n) refl (complete r n bs)
   where
     itself : (list_any (λ k. bytes_eq k b.0.items) (b.0.items ∷ lower_keys r n bs)) ≡ true
     itself = let t : bytes_eq b.0.items b.0.items ≡ true = (bytes_eq-Decides b.0.items b.0.items).1 refl in rw t refl
 
-    at : (x : Bool) → holds r b.0.items ≡ x → (y : Bool) → nat_lt b.1 n ≡ y → Listed r n (lower_keys r n bs) bs → Listed r n (lower_keys r n (b ∷ bs)) (b ∷ bs)
+    at : (x : Bool) → r b.0.items ≡ x → (y : Bool) → nat_lt b.1 n ≡ y → Listed r n (lower_keys r n bs) bs → Listed r n (lower_keys r n (b ∷ bs)) (b ∷ bs)
     at true e true f rest =
         let is : lower_keys r n (b ∷ bs) ≡ b.0.items ∷ lower_keys r n bs = rw (e, f) refl in
         subst (λ (ks : List (List ℕ)). Listed r n ks (b ∷ bs)) (sym is) ((λ h g. itself), more_listed r n b.0.items (lower_keys r n bs) bs rest)
@@ -128,13 +128,13 @@ complete r n (b ∷ bs) = at (holds r b.0.items) refl (nat_lt b.1 n) refl (compl
         let is : lower_keys r n (b ∷ bs) ≡ lower_keys r n bs = rw e refl in
         subst (λ (ks : List (List ℕ)). Listed r n ks (b ∷ bs)) (sym is) ((λ h g. let t : false ≡ true = sym e ∙ h in absurd (cc)), rest)
 
-named_raised : (r : Range) (n : ℕ) (keys : List (List ℕ)) (bs : Boundaries) → ((key : List ℕ) → list_any (λ k. bytes_eq k key) keys ≡ true → holds r key ≡ true) → Listed r n keys bs → map (named n keys) bs ≡ map (raised r n) bs
+named_raised : (r : List ℕ → Bool) (n : ℕ) (keys : List (List ℕ)) (bs : Boundaries) → ((key : List ℕ) → list_any (λ k. bytes_eq k key) keys ≡ true → r key ≡ true) → Listed r n keys bs → map (named n keys) bs ≡ map (raised r n) bs
 named_raised r n keys [] s l = refl
 named_raised r n keys (b ∷ bs) s l =
     ap (λ x. named n keys b ∷ x) (named_raised r n keys bs s l.1)
-    ∙ ap (λ v. (b.0, v) ∷ map (raised r n) bs) (one (list_any (λ k. bytes_eq k b.0.items) keys) refl (holds r b.0.items) refl)
+    ∙ ap (λ v. (b.0, v) ∷ map (raised r n) bs) (one (list_any (λ k. bytes_eq k b.0.items) keys) refl (r b.0.items) refl)
   where
-    one : (x : Bool) → list_any (λ k. bytes_eq k b.0.items) keys ≡ x → (y : Bool) → holds r b.0.items ≡ y → (if x then max b.1 n else b.1) ≡ (if y then max b.1 n else b.1)
+    one : (x : Bool) → list_any (λ k. bytes_eq k b.0.items) keys ≡ x → (y : Bool) → r b.0.items ≡ y → (if x then max b.1 n else b.1) ≡ (if y then max b.1 n else b.1)
     one true e true f = refl
     one false e false f = refl
     one true e false f = let t : true ≡ false = sym (s b.0.items e) ∙ f in absurd (cc)
@@ -144,7 +144,7 @@ named_raised r n keys (b ∷ bs) s l =
         low true g = let t : false ≡ true = sym e ∙ l.0 f g in absurd (cc)
         low false g = let le : n ≤ b.1 = grind (arith, nat_tests, g) in omega arith
 
-pub each_raised : (r : Range) (n : ℕ) (ks : List (Vec ℕ Global)) (bs : Boundaries) → map (λ k. k.items) ks ≡ lower_keys r n bs → raised_each n ks bs ≡ map (raised r n) bs
+pub each_raised : (r : List ℕ → Bool) (n : ℕ) (ks : List (Vec ℕ Global)) (bs : Boundaries) → map (λ k. k.items) ks ≡ lower_keys r n bs → raised_each n ks bs ≡ map (raised r n) bs
 each_raised r n ks bs is = each_named n ks bs ∙ (ap (λ keys. map (named n keys) bs) is ∙ named_raised r n (lower_keys r n bs) bs (λ key h. sound r n key bs h) (complete r n bs))
 
 -- ---- which boundaries a range holds, as `range` asks
@@ -165,6 +165,17 @@ held_from from key = rw (le_not_before from key (is_le (cmp from key)) refl) (tw
 
 pub alike_filter : {X : Type 0} (p q : X → Bool) (xs : List X) → ((x : X) → p x ≡ q x) → filter p xs ≡ filter q xs
 alike_filter {X = X} p q xs h = ap (λ (f : X → Bool). filter f xs) (λ i x. h x i)
+
+-- what passes both tests passes the second of those that pass the first
+and_so : {X : Type 0} (p q : X → Bool) (x : X) (xs : List X) (a b : Bool) → p x ≡ a → q x ≡ b → filter q (filter p xs) ≡ filter (λ y. p y && q y) xs
+    → filter q (if a then x ∷ filter p xs else filter p xs) ≡ (if a && b then x ∷ filter (λ y. p y && q y) xs else filter (λ y. p y && q y) xs)
+and_so p q x xs true true e f rest = rw f (ap (λ ys. x ∷ ys) rest)
+and_so p q x xs true false e f rest = rw f rest
+and_so p q x xs false b e f rest = rest
+
+pub filter_both : {X : Type 0} (p q : X → Bool) (xs : List X) → filter q (filter p xs) ≡ filter (λ x. p x && q x) xs
+filter_both p q [] = refl
+filter_both p q (x ∷ xs) = and_so p q x xs (p x) (q x) refl refl (filter_both p q xs)
 
 -- a range that runs backwards holds nothing
 pub backwards : (from to key : List ℕ) → is_before from to ≡ false → holds (record { from = from; to = Some to }) key ≡ false

@@ -1,12 +1,12 @@
 -- What becomes of the boundaries: how one is put, dropped and raised.
-use Rattle.std.specs.Prelude.{◌≡◌, ◌⊎◌, ⊤, ℕ, ◌≤◌, max, nat_lt, false, if◌then◌else◌, bytes_eq}
-use Rattle.std.specs.Prelude.{List, [], ◌∷◌, map, Option, Some, None, IsSome, Vec}
+use Rattle.std.specs.Prelude.{◌≡◌, ◌⊎◌, ⊤, ℕ, ◌≤◌, Bool, max, nat_lt, false, if◌then◌else◌, bytes_eq}
+use Rattle.std.specs.Prelude.{List, [], ◌∷◌, ◌++◌, map, Option, Some, None, IsSome, Vec}
 use Rattle.std.specs.List.{filter, fold}
 use Rattle.std.specs.BTreeMap.{BTreeMap, IsOrdered, get_by}
 use Rattle.std.specs.Cmp.Lexicographic.{slice_cmp}
 use Rattle.std.specs.Ordering.{nat_cmp, is_le, is_gt}
 use Rattle.std.specs.declared.alloc.Global.{Global}
-use Rattle.mv_ranges.specs.Ranges.{Range, Boundaries, holds, last_mark, walked}
+use Rattle.mv_ranges.specs.Ranges.{Boundaries, last_mark}
 
 abbrev pub Marks : Type 0
 Marks = BTreeMap (Vec ℕ Global) ℕ
@@ -60,9 +60,9 @@ IsForward from (Some to) = is_gt (slice_cmp nat_cmp from to) ≡ false
 abbrev pub keys_below : ℕ → Boundaries → List (List ℕ)
 keys_below reader boundaries = map (λ b. b.0.items) (filter (λ b. nat_lt b.1 reader) boundaries)
 
--- those of the range
-abbrev pub lower_keys : Range → ℕ → Boundaries → List (List ℕ)
-lower_keys range reader boundaries = keys_below reader (filter (λ b. holds range b.0.items) boundaries)
+-- those that pass the test
+abbrev pub lower_keys : (List ℕ → Bool) → ℕ → Boundaries → List (List ℕ)
+lower_keys passes reader boundaries = keys_below reader (filter (λ b. passes b.0.items) boundaries)
 
 -- a boundary once that at the key is raised
 abbrev pub raised_at : ℕ → List ℕ → Vec ℕ Global × ℕ → Vec ℕ Global × ℕ
@@ -72,6 +72,14 @@ raised_at reader key b = (b.0, if bytes_eq key b.0.items then max b.1 reader els
 abbrev pub raised_each : ℕ → List (Vec ℕ Global) → Boundaries → Boundaries
 raised_each reader keys boundaries = fold (λ bs k. map (raised_at reader k.items) bs) boundaries keys
 
--- a boundary once the reader has walked the range
-abbrev pub raised : Range → ℕ → Vec ℕ Global × ℕ → Vec ℕ Global × ℕ
-raised range reader b = (b.0, walked range reader b.0.items b.1)
+-- a boundary once the reader has walked the keys that pass the test
+abbrev pub raised : (List ℕ → Bool) → ℕ → Vec ℕ Global × ℕ → Vec ℕ Global × ℕ
+raised passes reader b = (b.0, if passes b.0.items then max b.1 reader else b.1)
+
+-- the key that comes right after this one
+abbrev pub after : List ℕ → List ℕ
+after key = key ++ 0 ∷ []
+
+-- the range of the key alone has both of its boundaries
+abbrev pub IsApart : Marks → List ℕ → Type 0
+IsApart marks key = IsBoundary key marks × IsBoundary (after key) marks

@@ -6,6 +6,9 @@ use Rattle.mv_ranges.specs.Ranges.{Range, Boundaries, last_mark, walked}
 abbrev pub b : List ℕ
 b = 0x62 ∷ []
 
+abbrev pub c : List ℕ
+c = 0x63 ∷ []
+
 abbrev pub d : List ℕ
 d = 0x64 ∷ []
 
@@ -19,17 +22,23 @@ from_b = record { from = b; to = None }
 
 -- the mark over a key of which nothing was walked before, once a reader at 7 has walked from `b` to `d`
 abbrev pub once : List ℕ → ℕ
-once key = walked from_b_to_d 7 key 0
+once key = walked from_b_to_d [] 7 key 0
 
 -- the same, once a reader at 5 has walked from `b` on too
 abbrev pub twice : List ℕ → ℕ
-twice key = walked from_b 5 key (once key)
+twice key = walked from_b [] 5 key (once key)
 
 -- a key that comes into the range later has its mark, as its first key has; its end hasn't
 abbrev pub Phantom : Type 0
 Phantom =
     (once b ≡ 7) × (once (0x63 ∷ 0x31 ∷ []) ≡ 7) × (once (0x63 ∷ 0xff ∷ []) ≡ 7)
     × (once d ≡ 0) × (once (0x61 ∷ 0xff ∷ []) ≡ 0)
+
+-- a key that a walk leaves out keeps its mark, and the next one doesn't
+abbrev pub LeftOut : Type 0
+LeftOut =
+    (walked from_b_to_d (c ∷ []) 7 c 5 ≡ 5) × (walked from_b_to_d (c ∷ []) 7 (0x63 ∷ 0 ∷ []) 5 ≡ 7)
+    × (walked from_b_to_d (c ∷ []) 7 b 5 ≡ 7)
 
 -- where two scans have walked, the greater timestamp stands
 abbrev pub Greatest : Type 0

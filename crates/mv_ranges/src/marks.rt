@@ -1,7 +1,8 @@
-ghost use Rattle.std.specs.Prelude.{◌≡◌, map, option_map, IfOk, OnOk};
+ghost use Rattle.std.specs.Prelude.{◌≡◌, map, not, option_map, IfOk, OnOk};
+ghost use Rattle.mv_ranges.specs.Ranges.{holds_but, is_one};
 ghost use Rattle.mv_ranges.specs.Marks.{mark_in, mark_below, SameMarks, SameAbove};
 ghost use Rattle.mv_ranges.specs.Marks.{IsAscending, IsBoundary, IsForward, KeepsBoundaries};
-ghost use Rattle.mv_ranges.specs.Marks.{keys_below, lower_keys, raised_at, raised_each};
+ghost use Rattle.mv_ranges.specs.Marks.{after, lower_keys, raised_at, raised_each};
 
 use std::alloc::{AllocError, Global};
 use std::collections::BTreeMap;
@@ -38,6 +39,16 @@ pub(crate) fn copied(alloc: Global, key: &[u8]) -> Result<Vec<u8>, AllocError>
     Ok(bytes)
 }
 
+/// The key that comes right after this one.
+pub(crate) fn after(alloc: Global, key: &Vec<u8>) -> Result<Vec<u8>, AllocError>
+    ensures { IfOk result (λ v. v.items ≡ after key.now.items) }
+{
+    let mut bytes = Vec::with_capacity(alloc, key.len().saturating_add(1))?;
+    bytes.extend_from_slice(key)?;
+    bytes.push(0)?;
+    Ok(bytes)
+}
+
 /// Makes the key a boundary, with the mark that stands over it already.
 pub(crate) fn split(
     alloc: Global,
@@ -58,38 +69,55 @@ pub(crate) fn split(
     Ok(())
 }
 
-/// Copies of the boundaries whose mark is below the reader.
+/// Whether the key is one of these.
+fn is_one(key: &Vec<u8>, keys: &[Vec<u8>]) -> bool
+    ensures { result ≡ is_one key.now.items (map (λ k. k.items) keys.now) }
+{
+    for one in keys {
+        if one == key {
+            return true;
+        }
+    }
+    false
+}
+
+/// Copies of the boundaries whose mark is below the reader, but for these keys.
 fn copies(
     alloc: Global,
     boundaries: Range<'_, Vec<u8>, u64>,
+    but: &[Vec<u8>],
     reader: u64,
 ) -> Result<Vec<Vec<u8>>, AllocError>
-    ensures { IfOk result (λ v. map (λ k. k.items) v.items ≡ keys_below reader boundaries.entry) }
+    ensures { IfOk result (λ v. map (λ k. k.items) v.items
+        ≡ lower_keys (λ k. not (is_one k (map (λ x. x.items) but.now))) reader boundaries.entry) }
 {
     let mut keys = Vec::new(alloc);
     for (key, mark) in boundaries {
-        if *mark < reader {
+        if !is_one(key, but) && *mark < reader {
             keys.push(copied(alloc, key)?)?;
         }
     }
     Ok(keys)
 }
 
-/// Copies of the boundaries of the range whose mark is below the reader: a map can't be written while it is walked.
+/// Copies of the boundaries of the range, but for these keys, whose mark is below the reader: a map can't be written while
+/// it is walked.
 pub(crate) fn lower(
     alloc: Global,
     marks: &BTreeMap<Vec<u8>, u64>,
     from: &Vec<u8>,
     to: Option<&Vec<u8>>,
+    but: &[Vec<u8>],
     reader: u64,
 ) -> Result<Vec<Vec<u8>>, AllocError>
     requires { IsForward from.now.items (option_map (λ t. t.now.items) to) }
     ensures { IfOk result (λ v. map (λ k. k.items) v.items ≡ lower_keys
-        (record { from = from.now.items; to = option_map (λ t. t.now.items) to.entry }) reader marks.now.entries) }
+        (holds_but (record { from = from.now.items; to = option_map (λ t. t.now.items) to.entry })
+        (map (λ k. k.items) but.now)) reader marks.now.entries) }
 {
     match to {
-        Some(to) => copies(alloc, marks.range(from..to), reader),
-        None => copies(alloc, marks.range(from..), reader),
+        Some(to) => copies(alloc, marks.range(from..to), but, reader),
+        None => copies(alloc, marks.range(from..), but, reader),
     }
 }
 

@@ -1,11 +1,12 @@
-ghost use Rattle.std.specs.Prelude.{◌≡◌, ℕ, List, max, option_map, OnOk, OnErr};
+ghost use Rattle.std.specs.Prelude.{◌≡◌, ℕ, List, map, max, option_map, OnOk, OnErr};
+ghost use Rattle.std.specs.List.{AllByRecursion as Each};
 ghost use Rattle.std.specs.BTreeMap.{btree_map_len};
-ghost use Rattle.mv_ranges.specs.Ranges.{Range, mark_over, walked};
+ghost use Rattle.mv_ranges.specs.Ranges.{mark_over, walked};
 ghost use Rattle.mv_ranges.specs.Marks.{SameMarks, SameAbove, KeepsBoundaries, IsAscending, IsBoundary, IsForward};
-ghost use Rattle.mv_ranges.specs.Marks.{MayBegin, MayEnd};
+ghost use Rattle.mv_ranges.specs.Marks.{IsApart, MayBegin, MayEnd};
 ghost use Rattle.mv_ranges.specs.Notes.{IsDrained};
 
-use crate::marks::{below, copied, join, lower, over, raise, split};
+use crate::marks::{after, below, copied, join, lower, over, raise, split};
 use crate::notes::{next_due, note};
 use std::alloc::{AllocError, Global};
 use std::collections::BTreeMap;
@@ -62,6 +63,7 @@ impl Ranges {
     /// that raising the range changes nothing there.
     fn begin(&mut self, from: &Vec<u8>, reader: u64) -> Result<(), AllocError>
         ensures same { SameMarks self.old.marks self.new.marks }
+        ensures kept { KeepsBoundaries self.old.marks self.new.marks }
         ensures ascending { OnOk result (IsAscending self.new.marks) }
         ensures begins { OnOk result (MayBegin reader from.now.items self.new.marks) }
     {
@@ -87,45 +89,80 @@ impl Ranges {
         self.bound(to, reader)
     }
 
+    /// Makes a key a range of its own.
+    fn part(&mut self, key: &Vec<u8>, reader: u64) -> Result<(), AllocError>
+        ensures same { SameMarks self.old.marks self.new.marks }
+        ensures kept { KeepsBoundaries self.old.marks self.new.marks }
+        ensures ascending { IsAscending self.old.marks → IsAscending self.new.marks }
+        ensures apart { OnOk result (IsApart self.new.marks key.now.items) }
+    {
+        self.bound(key, reader)?;
+        let next = after(self.alloc, key)?;
+        self.bound(&next, reader)
+    }
+
+    /// Makes each of these keys a range of its own.
+    fn part_all(&mut self, keys: &[Vec<u8>], reader: u64) -> Result<(), AllocError>
+        ensures same { SameMarks self.old.marks self.new.marks }
+        ensures kept { KeepsBoundaries self.old.marks self.new.marks }
+        ensures ascending { IsAscending self.old.marks → IsAscending self.new.marks }
+        ensures apart { OnOk result (Each (λ k. IsApart self.new.marks k.items) keys.now) }
+    {
+        for key in keys {
+            self.part(key, reader)?;
+        }
+        Ok(())
+    }
+
     /// Like `mark`, of a range that doesn't run backwards.
     fn mark_between(
         &mut self,
         from: &Vec<u8>,
         to: Option<&Vec<u8>>,
+        but: &[Vec<u8>],
         reader: u64,
     ) -> Result<(), AllocError>
         requires { IsForward from.now.items (option_map (λ t. t.now.items) to) }
         ensures marked { OnOk result ((key : List ℕ) → mark_over key self.new ≡ walked
-            (record { from = from.now.items; to = option_map (λ t. t.now.items) to.entry }) reader key
-            (mark_over key self.old)) }
+            (record { from = from.now.items; to = option_map (λ t. t.now.items) to.entry }) (map (λ k. k.items) but.now)
+            reader key (mark_over key self.old)) }
         ensures same { OnErr result ((key : List ℕ) → mark_over key self.new ≡ mark_over key self.old) }
     {
+        self.part_all(but, reader)?;
         self.begin(from, reader)?;
         self.end(to, reader)?;
-        let keys = lower(self.alloc, &self.marks, from, to, reader)?;
+        let keys = lower(self.alloc, &self.marks, from, to, but, reader)?;
         raise(&mut self.marks, &keys, reader);
         Ok(())
     }
 
-    /// A scan by the reader has walked the keys from `from` on, up to `to`, which isn't among them, or without end. It
-    /// costs a look-up for each end, and for each boundary of the range whose mark it raises.
+    /// A scan by the reader has walked the keys from `from` on, up to `to`, which isn't among them, or without end, but for
+    /// these: its own branch's, of which nobody else has a version. It costs a look-up for each end and each of those keys,
+    /// and for each boundary of the range whose mark it raises.
     ///
     /// # Errors
     /// Out of memory: no mark has changed.
-    pub fn mark(&mut self, from: &[u8], to: Option<&[u8]>, reader: u64) -> Result<(), AllocError>
+    pub fn mark(
+        &mut self,
+        from: &[u8],
+        to: Option<&[u8]>,
+        but: &[Vec<u8>],
+        reader: u64,
+    ) -> Result<(), AllocError>
         ensures marked { OnOk result ((key : List ℕ) → mark_over key self.new ≡ walked
-            (record { from = from.now; to = option_map (λ t. t.now) to.entry }) reader key (mark_over key self.old)) }
+            (record { from = from.now; to = option_map (λ t. t.now) to.entry }) (map (λ k. k.items) but.now) reader key
+            (mark_over key self.old)) }
         ensures same { OnErr result ((key : List ℕ) → mark_over key self.new ≡ mark_over key self.old) }
     {
         let from = copied(self.alloc, from)?;
         let Some(to) = to else {
-            return self.mark_between(&from, None, reader);
+            return self.mark_between(&from, None, but, reader);
         };
         let to = copied(self.alloc, to)?;
         if to <= from {
             return Ok(());
         }
-        self.mark_between(&from, Some(&to), reader)
+        self.mark_between(&from, Some(&to), but, reader)
     }
 
     /// Drops of these boundaries those that part nothing above the low water.
