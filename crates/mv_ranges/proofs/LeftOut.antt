@@ -16,10 +16,10 @@ use Rattle.std.proofs.lemmas.Map.Keys.{sorted_head, sorted_tail}
 use Rattle.std.proofs.lemmas.Map.Text.{is_eq-slice_cmp}
 use Rattle.std.proofs.lemmas.Slice.Eq.{bytes_eq-Decides}
 use Rattle.mv_ranges.specs.Ranges.{Range, Boundaries, is_before, is_one, holds, holds_but, last_mark, walked}
-use Rattle.mv_ranges.specs.Marks.{Marks, IsApart, IsBoundary, MayBegin, MayEnd, after, mark_in, raised}
+use Rattle.mv_ranges.specs.Marks.{Marks, IsApart, IsBoundary, KeepsBoundaries, MayBegin, MayEnd, after, mark_in, raised}
 use Rattle.xa_model.proofs.KeyOrder.{cmp, upto_before, before_asym, not_before_itself, flipped}
 use Rattle.mv_ranges.proofs.Boundaries.{keys_cmp, query, Ascending}
-use Rattle.mv_ranges.proofs.Raised.{absent, range_raised, reached}
+use Rattle.mv_ranges.proofs.Raised.{absent, not_some, range_raised, reached}
 
 -- the key right after another
 
@@ -111,10 +111,6 @@ last_each P q b (c ∷ cs) h e = at (is_before q c.0.items) (last_in q cs) refl 
     at false None g f rest = let is : c ≡ b = cc f in subst (λ (y : Vec ℕ Global × ℕ). P y.0) is h.0
     at false (Some y) g f rest = let is : y ≡ b = cc f in rest (g ∙ ap (λ (z : Vec ℕ Global × ℕ). Some z) is)
 
-not_some : {X : Type 0} (o : Option X) → o ≡ None → IsSome o → ⊥
-not_some None e h = cc
-not_some (Some x) e h = cc
-
 -- where a boundary isn't after the key, there is a last one
 some_last : (q k : List ℕ) (ds : Boundaries) → Ascending ds → IsSome (lookup (is_at (query k)) ds) → is_before q k ≡ false → last_in q ds ≡ None → ⊥
 some_last q k [] s found upto e = cc
@@ -165,6 +161,16 @@ own_last : (q : List ℕ) (b : Vec ℕ Global × ℕ) (bs : Boundaries) → Asce
 own_last q b bs s found e = neither b.0.items q (last_is_last q q b bs s found (not_before_itself q) e) (last_upto q b bs e)
 
 -- each of some keys
+
+-- they stay ranges of their own
+pub still_apart : (old new : Marks) → KeepsBoundaries old new → (ks : List (Vec ℕ Global)) → Each (λ k. IsApart old k.items) ks
+    → Each (λ k. IsApart new k.items) ks
+still_apart old new kept [] h = tt
+still_apart old new kept (k ∷ ks) h = ((kept _ h.0.0, kept _ h.0.1), still_apart old new kept ks h.1)
+
+pub as_keys : (marks : Marks) (ks : List (Vec ℕ Global)) → Each (λ k. IsApart marks k.items) ks → Each (IsApart marks) (map (λ k. k.items) ks)
+as_keys marks [] h = tt
+as_keys marks (k ∷ ks) h = (h.0, as_keys marks ks h.1)
 
 one_apart : (marks : Marks) (k : List ℕ) (but : List (List ℕ)) → Each (IsApart marks) but → is_one k but ≡ true → IsApart marks k
 one_apart marks k [] h e = absurd (cc e)

@@ -81,7 +81,7 @@ absent_after k b (c ∷ cs) h all =
 pub absent : (k : List ℕ) (b : Vec ℕ Global × ℕ) (bs : Boundaries) → is_before k b.0.items ≡ true → Ascending (b ∷ bs) → lookup (is_at (query k)) (b ∷ bs) ≡ None
 absent k b bs h s = let t : cmp k b.0.items ≡ Less = before_Less k b.0.items h in rw t (absent_after k b.0 bs (before_asym k b.0.items h) (sorted_head keys_cmp b.0 (keys_of bs) s))
 
-not_some : {X : Type 0} (o : Option X) → o ≡ None → IsSome o → ⊥
+pub not_some : {X : Type 0} (o : Option X) → o ≡ None → IsSome o → ⊥
 not_some None e h = cc
 not_some (Some x) e h = cc
 

@@ -1,23 +1,15 @@
-use Rattle.std.proofs.Common.{◌≤◌, ℕ, List, [], ◌∷◌, ap, ◌∙◌, map, sym, subst, inl, inr}
-use Rattle.std.specs.Prelude.{option_map, Vec}
-use Rattle.std.specs.List.{AllByRecursion as Each}
-use Rattle.std.specs.declared.alloc.Global.{Global}
+use Rattle.std.proofs.Common.{◌≤◌, ℕ, List, ap, ◌∙◌, map, sym, subst, inl, inr}
+use Rattle.std.specs.Prelude.{option_map}
 use Rattle.mv_ranges.specs.Ranges.{Range, Boundaries, holds_but, last_mark, walked}
-use Rattle.mv_ranges.specs.Marks.{Marks, IsApart, KeepsBoundaries, MayBegin, SameMarks, raised_each}
+use Rattle.mv_ranges.specs.Marks.{Marks, KeepsBoundaries, MayBegin, SameMarks, raised_each}
 use Rattle.mv_ranges.proofs.Written.{each_raised}
-use Rattle.mv_ranges.proofs.LeftOut.{but_raised}
+use Rattle.mv_ranges.proofs.LeftOut.{as_keys, but_raised, still_apart}
 use Rattle.mv_ranges.proofs.ranges.Ranges.mark_between.Goals as goal
 
 -- the range may still begin where it could
 begins : (n : ℕ) (key : List ℕ) (old new : Marks) → KeepsBoundaries old new → SameMarks old new → MayBegin n key old → MayBegin n key new
 begins n key old new kept same (inl there) = inl (kept key there)
 begins n key old new kept same (inr high) = inr (subst (λ (v : ℕ). n ≤ v) (sym (same key)) high)
-
--- ranges of single keys stay
-each_apart : (old new : Marks) (keys : List (Vec ℕ Global)) → KeepsBoundaries old new → Each (λ k. IsApart old k.items) keys
-    → Each (IsApart new) (map (λ k. k.items) keys)
-each_apart old new [] kept h = tt
-each_apart old new (k ∷ ks) kept h = ((kept _ h.0.0, kept _ h.0.1), each_apart old new ks kept h.1)
 
 pub returns-clause-marked : goal.returns-clause-marked
 returns-clause-marked c =
@@ -29,7 +21,7 @@ returns-clause-marked c =
     let bs : Boundaries = marks.entries in
     ap (λ x. last_mark 0 q x) (c.raise.ensures ∙ (ap (λ ks. raised_each n ks bs) c.deref.ensures.value ∙ each_raised (holds_but r but) n c.in_ok-keys.keys.items bs c.in_ok-keys.ensures))
     ∙ (but_raised r but n q marks (c.end.ensures.ascending c.in_ok-begin.ensures.ascending)
-    (each_apart c.part_all.new.self.marks marks c.args.but.now (λ k there. c.end.ensures.kept k (c.begin.ensures.kept k there)) c.in_ok-part_all.ensures.apart)
+    (as_keys marks c.args.but.now (still_apart c.part_all.new.self.marks marks (λ k there. c.end.ensures.kept k (c.begin.ensures.kept k there)) c.args.but.now c.in_ok-part_all.ensures.apart))
     (begins n r.from c.begin.new.self.marks marks c.end.ensures.kept c.end.ensures.same c.in_ok-begin.ensures.begins)
     c.in_ok-end.ensures.ends
     ∙ ap (walked r but n q) (c.end.ensures.same q ∙ (c.begin.ensures.same q ∙ c.part_all.ensures.same q)))

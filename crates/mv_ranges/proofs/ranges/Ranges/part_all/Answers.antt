@@ -1,7 +1,8 @@
-use Rattle.std.proofs.Common.{◌≡◌, ℕ, ◌+◌, ◌<◌, List, [], ◌∷◌, ◌++◌, length, get_or, take, sym, ap, ◌∙◌, subst, add-one, Vec, Global}
+use Rattle.std.proofs.Common.{◌≡◌, ℕ, ◌+◌, ◌<◌, List, [], ◌∷◌, ◌++◌, length, get_or, take, sym, ap, ◌∙◌, subst, add-one}
 use Rattle.std.specs.List.{AllByRecursion as Each}
 use Rattle.std.proofs.Math.Seq.{take-suc}
-use Rattle.mv_ranges.specs.Marks.{IsApart, KeepsBoundaries, Marks}
+use Rattle.mv_ranges.specs.Marks.{IsApart, Marks}
+use Rattle.mv_ranges.proofs.LeftOut.{still_apart}
 use Rattle.mv_ranges.proofs.ranges.Ranges.part_all.Goals as goal
 
 -- one more
@@ -15,12 +16,6 @@ each_more {A} P xs i x lt is h p =
     let more : take (i + 1) xs ≡ take i xs ++ x ∷ [] = rw add-one (take-suc xs i x lt ∙ ap (λ (y : A). take i xs ++ y ∷ []) (sym is)) in
     subst (Each P) (sym more) (each_and P (take i xs) x h p)
 
--- ranges of single keys stay
-still : (old new : Marks) → KeepsBoundaries old new → (ks : List (Vec ℕ Global)) → Each (λ k. IsApart old k.items) ks
-    → Each (λ k. IsApart new k.items) ks
-still old new kept [] h = tt
-still old new kept (k ∷ ks) h = ((kept _ h.0.0, kept _ h.0.1), still old new kept ks h.1)
-
 pub loop-key-preserved : goal.loop-key-preserved
 loop-key-preserved c =
     let new : Marks = c.part.new.self.marks in
@@ -30,5 +25,5 @@ loop-key-preserved c =
       ascending = λ h. c.part.ensures.ascending (c.loop-key.invariant.ascending h);
       apart =
           each_more (λ k. IsApart new k.items) c.args.keys.now c.loop-key.key-index c.key-item.result c.loop-key-test.true c.key-item.is
-          (still c.loop-key.self.marks new c.part.ensures.kept (take c.loop-key.key-index c.args.keys.now) c.loop-key.invariant.apart) c.in_ok-part.ensures.apart;
+          (still_apart c.loop-key.self.marks new c.part.ensures.kept (take c.loop-key.key-index c.args.keys.now) c.loop-key.invariant.apart) c.in_ok-part.ensures.apart;
     }
