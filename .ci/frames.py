@@ -1,14 +1,17 @@
 """Frames over a connection to a server, beside the Rattle code: a request as a script's line spells it, and the line that shows a reply
 (docs/PROTOCOL.md, docs/SCRIPT.md)."""
+import fcntl
 import itertools
 import os
 import re
 import socket
+import tempfile
 
 # How long a reply may take, in seconds; and where servers have their files: in memory, where there are such folders.
 LIMIT = 60
 ROOM = "/dev/shm" if os.access("/dev/shm", os.W_OK) else None
-PORTS = itertools.cycle(range(10000 + os.getpid() % 10000, 32000))
+# The ports of these scripts, below those that a connection is given by itself, and how many of them a process has for itself.
+LEAST_PORT, MOST_PORT, BLOCK = 10_000, 32_000, 100
 FLAGS = {
     "TMNOFLAGS": 0,
     "TMONEPHASE": 0x40000000,
@@ -86,8 +89,29 @@ SESSION = """1 open TMNOFLAGS n
 1 close TMNOFLAGS""".splitlines()
 
 
+def own_ports():
+    """A block of ports that no other process has that asks for one, as long as it lives: a server that has ended leaves its clients' port to
+    no other script's server. Without end, in turn."""
+    count = (MOST_PORT - LEAST_PORT) // BLOCK
+    for number in range(count):
+        first = LEAST_PORT + (os.getpid() + number) % count * BLOCK
+        try:
+            file = open(os.path.join(tempfile.gettempdir(), f"xarm-ports-{os.getuid()}-{first}"), "ab")
+            fcntl.flock(file, fcntl.LOCK_EX | fcntl.LOCK_NB)
+        except OSError:
+            continue
+        HELD.append(file)
+        return itertools.cycle(range(first, first + BLOCK))
+    raise OSError("no block of ports is free")
+
+
+# The files whose locks tell which blocks this process has.
+HELD = []
+PORTS = own_ports()
+
+
 def free_port():
-    """A port where nobody listens, another one each time, below those that a connection is given by itself."""
+    """A port where nobody listens, another one each time."""
     for port in PORTS:
         with socket.socket() as probe:
             probe.setsockopt(socket.SOL_SOCKET, socket.SO_REUSEADDR, 1)

@@ -1,7 +1,6 @@
 """A server that is started for .ci/history, and clients that keep it busy: many connections of one process, each with one call under way.
 When each call was asked and answered is noted by the monotonic clock."""
 import functools
-import itertools
 import os
 import select
 import socket
@@ -262,6 +261,11 @@ class Load:
         return [asked for connection in self.all for asked in connection.all]
 
 
-def use_own_ports(number):
-    """This process looks for free ports apart from the others."""
-    frames.PORTS = itertools.cycle(range(10_000 + number * 1009 % 20_000, 32_000))
+def use_own_ports():
+    """This process, which another one began, takes ports for itself, once."""
+    if OWNER[0] != os.getpid():
+        OWNER[0], frames.PORTS = os.getpid(), frames.own_ports()
+
+
+# Who has the ports.
+OWNER = [os.getpid()]
